@@ -26,7 +26,7 @@ use county_problem::Problem;
 use pl94_counties::Block;
 use std::alloc::Global;
 
-/// Returns the end of an audit with these findings.
+/// Returns the ending of an audit with these `findings`.
 fn audited_end(findings: Findings, problem: Problem, grouping: Grouping) -> Ending {
     if findings.list.is_empty() {
         Ending::Done
@@ -43,7 +43,7 @@ struct AuditedPlan {
     grouping: Grouping,
 }
 
-/// Returns all findings, and the table of the districts if it is asked for.
+/// Returns all findings. The table of the districts is beside them if `asked` is true.
 fn audit_plan(
     alloc: Global,
     problem: Problem,
@@ -86,9 +86,9 @@ fn audit_files<H: Shelf>(
     audit_plan(alloc, problem, grouping, &blocks, &lines, asked)
 }
 
-/// Returns all that is wrong with the assignments of a plan. The problem is built before the census blocks are read,
-/// then the grouping, then the assignments. The table of the districts is stored if the words name its file, whether or
-/// not anything is found. The first fault met is the answer.
+/// Returns all that is wrong with the assignments of a plan. The problem is built first. Then the census blocks, the
+/// grouping and the assignments are read, in this order. The table of the districts is stored if the words name its
+/// file, whether or not anything is found. The first fault met is the answer.
 pub(crate) fn audit<H: Shelf>(
     alloc: Global,
     words: AuditWords<'_>,

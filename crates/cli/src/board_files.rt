@@ -17,7 +17,7 @@ use county_problem::Problem;
 use share_board::Event;
 use std::alloc::Global;
 
-/// The events that a text gives.
+/// Reads the events in the `text` of a file.
 fn events_from(
     alloc: Global,
     text: Vec<u8>,
@@ -39,7 +39,8 @@ fn events_from(
     }
 }
 
-/// The events of a file, whose trees are of the language of the rounds and for the counties of the problem.
+/// Loads and reads the events of the file `name`. Their trees are in the language of the rounds, and for the counties
+/// of `problem`.
 pub(crate) fn load_events<H: Shelf>(
     alloc: Global,
     name: &str,
@@ -56,7 +57,7 @@ pub(crate) fn load_events<H: Shelf>(
     events_from(alloc, text, words, problem, end)
 }
 
-/// The events of a file that is named, else none.
+/// Loads and reads the events of the file `name`. Returns none if no file is named.
 pub(crate) fn load_named_events<H: Shelf>(
     alloc: Global,
     name: Option<&str>,

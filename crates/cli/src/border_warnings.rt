@@ -21,7 +21,7 @@ fn code_set(alloc: Global, codes: &[CountyCode]) -> Result<BTreeSet<CountyCode>,
     Ok(set)
 }
 
-/// Returns the county and the neighbour of a line of an adjacency file, if it has them.
+/// Returns the county and the neighbour on a line of an adjacency file, if the line has them.
 fn row_on(line: &[u8]) -> Option<(CountyCode, CountyCode)> {
     let line = line.strip_suffix(b"\r").unwrap_or(line);
     let county = code_in(field_at(line, DELIMITER, 1)?)?;
@@ -29,7 +29,8 @@ fn row_on(line: &[u8]) -> Option<(CountyCode, CountyCode)> {
     Some((county, neighbour))
 }
 
-/// Returns the rows of two listed counties in the text of an adjacency file, each county before its neighbour.
+/// Returns the rows of two listed counties in the `text` of an adjacency file. Each row has the county before its
+/// neighbour.
 fn rows_in(alloc: Global, listed: &[CountyCode], text: &[u8]) -> Result<Pairs, AllocError> {
     let listed = code_set(alloc, listed)?;
     let mut rows = BTreeSet::new(alloc);
@@ -43,8 +44,8 @@ fn rows_in(alloc: Global, listed: &[CountyCode], text: &[u8]) -> Result<Pairs, A
     Ok(rows)
 }
 
-/// Returns the first of `pairs` that stands in one direction only, if another one stands in both. `rows` are the rows
-/// that name them.
+/// Returns a warning of the first of `pairs` that stands in one direction only, if another pair stands in both. `rows`
+/// are the rows of the file, each with the county before its neighbour.
 fn one_way(rows: &Pairs, pairs: &[(CountyCode, CountyCode)]) -> Option<Warning> {
     let mut first = None;
     let mut has_both = false;
@@ -58,7 +59,7 @@ fn one_way(rows: &Pairs, pairs: &[(CountyCode, CountyCode)]) -> Option<Warning> 
     if has_both { first } else { None }
 }
 
-/// Notes what is odd about an adjacency file. `text` is the file, and `pairs` are its pairs of listed counties.
+/// Notes what is odd about an adjacency file. `text` is the file, and `pairs` are its pairs of `listed` counties.
 pub(crate) fn note_adjacency(
     alloc: Global,
     listed: &[CountyCode],
@@ -72,13 +73,13 @@ pub(crate) fn note_adjacency(
     }
 }
 
-/// Returns two codes, the lesser first.
+/// Returns the two codes, the lesser first.
 fn in_order(a: CountyCode, b: CountyCode) -> (CountyCode, CountyCode) {
     if a < b { (a, b) } else { (b, a) }
 }
 
-/// Returns a warning of the first of `links` between listed counties that cuts a pair which isn't there, after the links
-/// before it. `pairs` are there before them, the lesser code first.
+/// Returns a warning of the first of `links` that cuts a pair which isn't there. Only links between listed counties
+/// count. The links are applied in turn to `pairs`, which have the lesser code first.
 fn missing_border(
     alloc: Global,
     listed: &[CountyCode],
@@ -115,7 +116,7 @@ fn unknown_county(listed: &[CountyCode], links: &[Link]) -> Option<Warning> {
     None
 }
 
-/// Notes what is odd about `links`, which are applied to `pairs`, the lesser code of each first.
+/// Notes what is odd about `links`. They are applied to `pairs`, which have the lesser code first.
 pub(crate) fn note_links(
     alloc: Global,
     listed: &[CountyCode],

@@ -25,10 +25,10 @@ use cli_shelves::{MemoryFile, MemoryShelf, Sink, WholeFault, read_whole};
 use field_lines::{Piece, RawLines, Source};
 use std::alloc::{AllocError, Global};
 
-/// How many bytes a case may have.
+/// How many bytes a case may have at most.
 pub const MAX_CASE: usize = 16_777_216;
 
-/// Bytes as text, if they are.
+/// Returns `bytes` as text, or `None` if they aren't UTF-8.
 fn text_of(bytes: &[u8]) -> Option<&str>
     ensures { MatchOption result (is_utf8 bytes.now ≡ false) (λ s. (s.now ≡ bytes.now) × (is_utf8 bytes.now ≡ true)) }
 {
@@ -38,14 +38,14 @@ fn text_of(bytes: &[u8]) -> Option<&str>
     }
 }
 
-/// The name that a line `file NAME` gives.
+/// Returns the name that a line `file NAME` gives. Any other line gives none.
 fn named_file(line: &[u8]) -> Option<&[u8]>
     ensures { option_map (λ s. s.now) result ≡ file_name line.now }
 {
     line.strip_prefix(b"file ")
 }
 
-/// Appends a piece with its LF.
+/// Appends the bytes of `piece`, and an LF if one ends it.
 fn push_line(bytes: &mut Vec<u8>, piece: Piece<'_>) -> Result<(), AllocError>
     ensures { OnOk result (bytes.new.items ≡ bytes.old.items ++ whole_line (raw_of piece.entry)) }
 {
@@ -56,7 +56,7 @@ fn push_line(bytes: &mut Vec<u8>, piece: Piece<'_>) -> Result<(), AllocError>
     Ok(())
 }
 
-/// Appends a file of the name, if there is one, with a copy of the bytes.
+/// Appends a file with a copy of `bytes`, if `name` is given.
 fn push_file(
     alloc: Global,
     files: &mut Vec<MemoryFile>,
@@ -75,7 +75,7 @@ fn push_file(
     Ok(())
 }
 
-/// The files of the pieces, if their names are text.
+/// Returns the files of the `pieces`, or `None` if the name of one isn't UTF-8.
 fn files_in(alloc: Global, mut pieces: RawLines<'_>) -> Result<Option<Vec<MemoryFile>>, AllocError>
     ensures { IfOk result (λ read. MatchOption
         read
@@ -101,7 +101,7 @@ fn files_in(alloc: Global, mut pieces: RawLines<'_>) -> Result<Option<Vec<Memory
     Ok(Some(files))
 }
 
-/// Appends the files that were stored.
+/// Appends each of the stored `files`: a line with its name, and then its bytes.
 fn push_stored(out: &mut Vec<u8>, files: &[MemoryFile]) -> Result<(), AllocError>
     ensures { OnOk result (out.new.items ≡ out.old.items ++ stored_text (files_of files.now)) }
 {
@@ -114,14 +114,14 @@ fn push_stored(out: &mut Vec<u8>, files: &[MemoryFile]) -> Result<(), AllocError
     Ok(())
 }
 
-/// The words of a line, cut at each blank.
+/// Returns the words of `line`, which is cut at each blank.
 fn words_in<'a>(alloc: Global, line: &'a str) -> Result<Vec<&'a str>, AllocError>
     ensures { IfOk result (λ v. texts v.items ≡ slice_split (λ b. b == 32) line.entry.now) }
 {
     line.split(' ').collect(alloc)
 }
 
-/// The first line, without its LF, and what follows it.
+/// Takes the first of `pieces` off, and returns it without its LF. Returns no bytes if there is none.
 fn take_line<'a>(pieces: &mut RawLines<'a>) -> &'a [u8]
     ensures line { result.now ≡ first_case_line pieces.old }
     ensures rest { pieces.new ≡ drop 1 pieces.old }
@@ -132,7 +132,7 @@ fn take_line<'a>(pieces: &mut RawLines<'a>) -> &'a [u8]
     }
 }
 
-/// The first line and the files of a case, if the line and the names are text.
+/// Returns the first line and the files of a case, or `None` if the line or the name of a file isn't UTF-8.
 fn parts_in<'a>(
     alloc: Global,
     text: &'a [u8],
@@ -153,8 +153,8 @@ fn parts_in<'a>(
     }
 }
 
-/// The answer to a line of words over files, a later one in the place of an earlier one of its name, and the
-/// files that were stored after it.
+/// Returns the answer to a `line` of words over `files`, followed by the files that were stored. If two files have the
+/// same name, the later one counts.
 fn words_over_files(
     alloc: Global,
     line: &str,
@@ -171,7 +171,7 @@ fn words_over_files(
     Ok(answer)
 }
 
-/// The answer to the text of a case, if its first line and its files' names are text.
+/// Returns the answer to the `text` of a case, or `None` if its first line or the name of a file isn't UTF-8.
 fn case_answer(alloc: Global, text: &[u8], end: &mut End) -> Result<Option<RunAnswer>, AllocError>
     ensures { IfOk result (λ a. IsCaseAnswer text.now (option_map answer_of a)) }
 {
@@ -184,7 +184,7 @@ fn case_answer(alloc: Global, text: &[u8], end: &mut End) -> Result<Option<RunAn
     }
 }
 
-/// Reads and runs a case, and answers the exit status and how the run ended. All that `run_case` promises holds of it
+/// Reads and runs a case, and returns the exit status and how the run ended. All that `run_case` promises holds of it
 /// and of its status.
 pub fn run_case_with_end<R: Source, W: Sink>(alloc: Global, input: &mut R, out: &mut W) -> (u8, End)
     requires { R.is_failed input.old ≡ false }
@@ -213,9 +213,10 @@ pub fn run_case_with_end<R: Source, W: Sink>(alloc: Global, input: &mut R, out: 
     }
 }
 
-/// Reads a case, and runs its words over its files in memory; the files that were stored follow the answer.
-/// Where the first line or a file's name isn't UTF-8 nothing is written, and the status is 2. A case above
-/// 16,777,216 bytes is refused; a failed read is `device case Device`.
+/// Reads a case and runs its words over its files, which are held in memory. Returns the exit status. The files that
+/// were stored follow the answer on `out`. If the first line or the name of a file isn't UTF-8, nothing is written and
+/// the status is 2. A case of more than 16,777,216 bytes is refused. If the reading failed, the answer is
+/// `device case Device`.
 pub fn run_case<R: Source, W: Sink>(alloc: Global, input: &mut R, out: &mut W) -> u8
     requires { R.is_failed input.old ≡ false }
     ensures { (read : Result (List ℕ) WholeFault)

@@ -1,5 +1,5 @@
-//! What the census files give: counties, with or without their names, and census blocks. Both files are read as they
-//! come, each once.
+//! What the census files give: counties, with or without their names, and census blocks. Each reading goes through both
+//! files once, piece by piece.
 
 ghost use Rattle.std.specs.Prelude.{◌≡◌, ℕ, ◌≤◌, ◌<◌, All, IfOk, map};
 ghost use Rattle.std.specs.List.Sorted.{IsStrictlyIncreasing};
@@ -37,7 +37,7 @@ struct CensusTexts {
     notes: CensusNotes,
 }
 
-/// Returns the option of a file, and the bytes that were kept of it.
+/// Returns the option of `file`, and the bytes that were kept of this file.
 fn kept_of(file: File, geo: Vec<u8>, segment: Vec<u8>) -> (FileOption, Vec<u8>) {
     match file {
         File::Geo => (FileOption::Geo, geo),
@@ -45,7 +45,7 @@ fn kept_of(file: File, geo: Vec<u8>, segment: Vec<u8>) -> (FileOption, Vec<u8>) 
     }
 }
 
-/// Notes the fault of one of the files, with what was kept of it.
+/// Notes the fault of `file`, with what was kept of the file.
 fn note_fault(texts: CensusTexts, file: File, fault: FileFault, end: &mut End) {
     let CensusTexts {
         geo,
@@ -58,7 +58,7 @@ fn note_fault(texts: CensusTexts, file: File, fault: FileFault, end: &mut End) {
     end.note_read_refused(option, fault, FaultText::Read { head, line });
 }
 
-/// Notes the fault of the files, or the name that isn't UTF-8, with what was kept of the file.
+/// Notes a fault of one of the files, or a name that isn't UTF-8, with what was kept of the file.
 fn note_named_fault(texts: CensusTexts, fault: NamedFault, end: &mut End) {
     match fault {
         NamedFault::Files(fault) => note_fault(texts, fault.file, FileFault::Census(fault), end),
@@ -90,8 +90,8 @@ fn counties_read(
     }
 }
 
-/// Returns the counties of the state. Segment 1 is read before the geographic header, which is opened first; the first
-/// fault of the two is refused.
+/// Reads the counties of the state. The geographic header is opened first, but segment 1 is read before it. The first
+/// fault of the two files is refused.
 pub(crate) fn load_counties<H: Shelf>(
     alloc: Global,
     words: CommonWords<'_>,
@@ -119,7 +119,7 @@ pub(crate) fn load_counties<H: Shelf>(
     counties_read(alloc, read, texts, end)
 }
 
-/// Returns named counties without their names.
+/// Returns the counties of `named` without their names, in the same order.
 pub(crate) fn without_names(alloc: Global, named: &[NamedCounty]) -> Result<Vec<County>, AllocError>
     ensures { IfOk result (λ v. v.items ≡ map (λ k. k.county) named.now) }
 {
@@ -130,7 +130,7 @@ pub(crate) fn without_names(alloc: Global, named: &[NamedCounty]) -> Result<Vec<
     Ok(counties)
 }
 
-/// Returns the counties with their names that were read, or the refusal of the first fault. `texts` is what was kept of
+/// Returns the counties that were read with their names, or the refusal of the first fault. `texts` is what was kept of
 /// the files.
 fn named_read(
     alloc: Global,
@@ -155,7 +155,7 @@ fn named_read(
     }
 }
 
-/// Returns the counties of the state with their names, as `load_counties` gives them.
+/// Reads the counties of the state with their names, as `load_counties` reads them without.
 pub(crate) fn load_named_counties<H: Shelf>(
     alloc: Global,
     words: CommonWords<'_>,
@@ -204,7 +204,7 @@ fn blocks_read(
     }
 }
 
-/// Returns the census blocks of the state, as `load_counties` gives the counties: the census files are opened anew.
+/// Reads the census blocks of the state, as `load_counties` reads the counties. The census files are opened anew.
 pub(crate) fn load_blocks<H: Shelf>(
     alloc: Global,
     words: CommonWords<'_>,

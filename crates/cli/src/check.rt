@@ -24,7 +24,7 @@ use county_problem::Problem;
 use state_judge::CheckFault;
 use std::alloc::Global;
 
-/// The end of a check that found no fault, and answers this status.
+/// Returns the ending of a check that found no fault and answers `status`.
 fn unrefuted(status: u8) -> Ending {
     match status {
         0 => Ending::Done,
@@ -33,7 +33,7 @@ fn unrefuted(status: u8) -> Ending {
     }
 }
 
-/// The end of a check that found this fault, if any, and answers this status.
+/// Returns the ending of a check that found `fault`, if any, and answers `status`.
 fn verdict(
     fault: Option<(CheckFault, u64)>,
     status: u8,
@@ -46,7 +46,7 @@ fn verdict(
     }
 }
 
-/// Returns what a check said, and notes how it ended. Memory was refused if it said nothing.
+/// Returns what a check said, and notes how it ended. If the check said nothing, returns `Memory`.
 fn said(
     checked: Result<Checked, CheckStop>,
     text: FaultText,
@@ -65,7 +65,7 @@ fn said(
     }
 }
 
-/// The verdict on the certificate of a file, which is read once, as it comes, and no further than the verdict asks.
+/// Checks the certificate of a file. The file is read once, piece by piece, and no further than the verdict asks.
 fn check_file<H: Shelf>(
     alloc: Global,
     words: CertificateWords<'_>,
@@ -87,7 +87,7 @@ fn check_file<H: Shelf>(
     said(checked, FaultText::Read { head, line }, tabled.problem, end)
 }
 
-/// The verdict on the certificate of a file, before anything is stored.
+/// Returns the verdict on the certificate of a file, before anything is stored.
 fn check_files<H: Shelf>(
     alloc: Global,
     words: CheckWords<'_>,
@@ -103,8 +103,8 @@ fn check_files<H: Shelf>(
     check_file(alloc, words.check, tabled, shelf, end)
 }
 
-/// The verdict on a certificate. The problem is built before the certificate is opened. If a grouping is best, its
-/// table is then stored; the first fault met is the answer.
+/// Returns the verdict on a certificate. The problem is built before the certificate is opened. If a grouping is best,
+/// its table is then stored. The first fault met is the answer.
 pub(crate) fn check<H: Shelf>(
     alloc: Global,
     words: CheckWords<'_>,

@@ -1,5 +1,5 @@
-//! A run of one command: its words are parsed, the command is run, its record is stored if the words ask for it, and
-//! the answer is written.
+//! A run of one command. Its words are parsed, and the command is run. Its record is stored if the words ask for it.
+//! Then the answer is written.
 
 ghost use Rattle.std.specs.Prelude.{◌≡◌, List, IfOk};
 ghost use Rattle.cli_shelves.specs.Files.{NamedFile};
@@ -27,7 +27,7 @@ use cli_shelves::{Shelf, Sink};
 use cli_words::{CommandWords, WordsEnd, parse};
 use std::alloc::{AllocError, Global};
 
-/// The answer of a command, or why it ends before.
+/// Runs a command. Returns its answer, or the refusal with which it ends before that.
 fn command_end<H: Shelf, V: Watcher>(
     alloc: Global,
     command: CommandWords<'_>,
@@ -52,7 +52,7 @@ fn command_end<H: Shelf, V: Watcher>(
     }
 }
 
-/// The answer of a command, or that a growth was refused.
+/// Runs a command and returns its answer. Returns `AllocError` if memory was refused.
 pub(crate) fn command_answer<H: Shelf, V: Watcher>(
     alloc: Global,
     command: CommandWords<'_>,
@@ -75,7 +75,7 @@ pub(crate) fn command_answer<H: Shelf, V: Watcher>(
     }
 }
 
-/// The answer to words that give no command.
+/// Returns the answer to words that give no command.
 fn end_answer(alloc: Global, words_end: &WordsEnd) -> Result<RunAnswer, AllocError>
     ensures { IfOk result (λ a. IsEndAnswer words_end.now (answer_of a)) }
 {
@@ -86,7 +86,7 @@ fn end_answer(alloc: Global, words_end: &WordsEnd) -> Result<RunAnswer, AllocErr
     }
 }
 
-/// The answer to words that give no command; they are noted as the end of the run.
+/// Returns the answer to words that give no command, and notes them as the end of the run.
 fn words_end_answer(
     alloc: Global,
     words_end: WordsEnd,
@@ -99,7 +99,7 @@ fn words_end_answer(
     Ok(answer)
 }
 
-/// The answer to the words, or that a growth was refused.
+/// Parses `words`, runs their command and returns the answer. Returns `AllocError` if memory was refused.
 pub(crate) fn words_answer<H: Shelf, V: Watcher>(
     alloc: Global,
     words: &[&str],
@@ -117,7 +117,7 @@ pub(crate) fn words_answer<H: Shelf, V: Watcher>(
     }
 }
 
-/// Writes a text, and answers the status, or 5 where the writing failed.
+/// Writes `text` and returns `status`, or 5 if the writing failed.
 pub(crate) fn deliver<W: Sink>(out: &mut W, text: &[u8], status: u8) -> u8
     ensures { Delivers (W.is_failed out.new) (W.contents out.old) (W.contents out.new) (record { text = text.now; status = status }) result }
 {
@@ -127,7 +127,7 @@ pub(crate) fn deliver<W: Sink>(out: &mut W, text: &[u8], status: u8) -> u8
     }
 }
 
-/// Writes an answer, or that a growth was refused. Returns the status, or 5 where the writing failed.
+/// Writes an answer, or the line that says that memory was refused. Returns the status, or 5 if the writing failed.
 fn deliver_said<W: Sink>(out: &mut W, said: Result<RunAnswer, AllocError>, end: &mut End) -> u8
     ensures { Delivers (W.is_failed out.new) (W.contents out.old) (W.contents out.new) (said_of said) result }
 {
@@ -141,8 +141,8 @@ fn deliver_said<W: Sink>(out: &mut W, said: Result<RunAnswer, AllocError>, end: 
     }
 }
 
-/// Runs one command, and answers the exit status and how the run ended. The watcher is told how far a search is. All
-/// that `run` promises holds of it and of its status, for each watcher.
+/// Runs one command, and returns the exit status and how the run ended. `watcher` is told how far a search is. All that
+/// `run` promises holds of it and of its status, for each watcher.
 pub fn run_with_end<H: Shelf, W: Sink, V: Watcher>(
     alloc: Global,
     words: &[&str],
@@ -168,22 +168,29 @@ pub fn run_with_end<H: Shelf, W: Sink, V: Watcher>(
 /// Runs one command and returns its exit status. `words` are those after the program's name. The answer is composed
 /// whole, files are stored, and then the answer is written to `out`.
 ///
-/// If `solve` or `check` ends with status 0, the grouping that it printed is lawful for the problem of the files, and no
-/// lawful grouping has greater counts. The files are any bytes under the names by which this run's readings went as
-/// they did, so those of the machine. `specs/Headline.antt` of `cli_runs` says what each command tells with each status.
+/// If `solve` or `check` ends with status 0, the grouping that it printed is lawful for the problem of the files, and
+/// no lawful grouping has greater counts. The files are any bytes under the names by which this run's readings went as
+/// they did, so those of the machine are among them. `specs/Headline.antt` of `cli_runs` says what each command tells
+/// with each status.
 ///
-/// The status is 0 for an answer, for help and for the version. It is 1 where `judge` finds a fault of the grouping,
-/// `audit` finds anything, `solve`, `check` or `list` that no grouping is lawful, `check` or `list` that the text is no
-/// certificate, or `list` that the grouping of `--which` isn't one of the best. It is 2 for usage, and 3 where the steps
-/// of `solve` or `piece` or the budget of `check`, `list` or `share` ran out, the certificate of `list` doesn't show
-/// which other groupings are best, or pieces are left to `share`. It is 4 where the input was refused, no grouping has
-/// the number that `list` should store or no piece that of `piece`. It is 5 where a file could not be had or stored,
-/// memory was refused (the line is then `memory`), or the writing failed: how much went out is then not said.
+/// The status is 0 for an answer, for help and for the version.
 ///
-/// `solve` stores the certificate, the grouping and the table, `judge` and `check` the table, `list` a grouping and the
-/// table of all groupings, `audit` the table of the districts, and `share` a certificate, each if the words name its
-/// file. If they name a file for the record of the run and the status is 0, 1 or 3, the record is stored last. What was
-/// stored before a fault stays stored.
+/// It is 1 where `judge` finds a fault of the grouping, or `audit` finds anything. It is 1, too, where `solve`, `check`
+/// or `list` tells that no grouping is lawful, or `check` or `list` that the text is no certificate. So it is where
+/// `list` tells that the grouping of `--which` isn't one of the best.
+///
+/// It is 2 for usage. It is 3 where the steps of `solve` or `piece` or the budget of `check`, `list` or `share` ran
+/// out, or pieces are left to `share`. It is 3, too, where the certificate of `list` doesn't show which other groupings
+/// are best.
+///
+/// It is 4 where the input was refused, no grouping has the number that `list` should store, or no piece has that of
+/// `piece`. It is 5 where a file could not be had or stored, memory was refused, or the writing failed. If memory was
+/// refused, the line is `memory`. If the writing failed, the status doesn't say how much went out.
+///
+/// `solve` stores the certificate, the grouping and the table. `judge` and `check` store the table. `list` stores a
+/// grouping and the table of all groupings, `audit` the table of the districts, and `share` a certificate. Each is
+/// stored if the words name its file. If they name a file for the record of the run and the status is 0, 1 or 3, the
+/// record is stored last. What was stored before a fault stays stored.
 pub fn run<H: Shelf, W: Sink>(alloc: Global, words: &[&str], shelf: &mut H, out: &mut W) -> u8
 
     // The answer is that of the steps of the words' command, its files are stored, and its text is written. If the

@@ -93,7 +93,7 @@ pub enum FileFault {
 }
 
 impl FileFault {
-    /// The line of the fault, which counts from 1; 0 where it is the whole file's.
+    /// Returns the line of the fault, which counts from 1. It is 0 if the whole file is at fault.
     pub fn line(&self) -> u64 {
         match self {
             FileFault::Census(fault) => u64::from(fault.line),
@@ -135,15 +135,17 @@ pub enum Ending {
     Problem(ProblemFault),
     /// The grouping of this problem isn't lawful.
     Unlawful(GroupingFault, Problem, Grouping),
-    /// The grouping is lawful, but this text doesn't show that it is best for the problem, and why.
+    /// The grouping is lawful, but this text doesn't show that it is best for the problem. The first value says why.
     NotShownBest(Unshown, FaultText, Problem),
     /// The audit of this grouping of the problem found something.
     Found(Findings, Problem, Grouping),
-    /// This text is no certificate of the problem: its first fault, and the line, which counts from 1.
+    /// This text is no certificate of the problem. The values are its first fault and the line of the fault, which
+    /// counts from 1.
     NoCertificate(CheckFault, u64, FaultText, Problem),
     /// The budget of a check was too small.
     Budget,
-    /// The file of an option could not be had. The path is that of the words; none where memory for it was refused.
+    /// The file of an option could not be had. The path is that of the words. It is `None` if memory for it was
+    /// refused.
     NotLoaded(FileOption, ShelfFault, Option<String>),
     /// The file of an option could not be stored. The path is as at `NotLoaded`.
     NotStored(FileOption, ShelfFault, Option<String>),
@@ -153,8 +155,8 @@ pub enum Ending {
     Impossible,
     /// The steps of the search ran out.
     Open,
-    /// The target of a certificate is best, but the certificate doesn't show which other groupings are: the line of the
-    /// first leaf at which it doesn't, from 1.
+    /// The target of a certificate is best, but the certificate doesn't show which other groupings are. The number is
+    /// the line of the first leaf at which it doesn't, counted from 1.
     ListOpen(u64),
     /// All best groupings are listed, this number of them, and none has the sets of the grouping that was asked for.
     Unlisted(usize),
@@ -162,14 +164,15 @@ pub enum Ending {
     NoSuchGrouping(usize),
     /// There is no board for the grouping and its round.
     Board(BoardFault),
-    /// So many pieces of the board wait.
+    /// This number of pieces of the board is still waiting.
     PiecesLeft(usize),
-    /// The steps of a piece ran out; whether the answer proposes a split.
+    /// The steps of a piece ran out. The flag tells whether the answer proposes a split.
     PieceOpen(bool),
     /// No piece of the number waits on the board.
     NoSuchPiece,
-    /// The answer is the table, a lawful grouping without a certificate, a grouping that is best, all best groupings,
-    /// that a board joined its certificate, an event that a piece gave, or that an audit found nothing.
+    /// The answer is the size table, a lawful grouping without a certificate, a grouping that is best, all best
+    /// groupings, or an event that a piece gave. For a board, it is that the board joined its certificate. For an
+    /// audit, it is that nothing was found.
     Done,
 }
 
@@ -178,13 +181,15 @@ pub enum Ending {
 pub struct End {
     /// What it came to.
     pub ending: Ending,
-    /// How many counties the census files list for the state, and their people; none where they were not read.
+    /// How many counties the census files list for the state, and how many people they have. `None` if the counties
+    /// were not read.
     pub counties: Option<(usize, u64)>,
-    /// The people of the state's own line of the census files; none where it was not read.
+    /// The people of the state's own line of the census files. `None` if it was not read.
     pub state_people: Option<u32>,
-    /// The STUSAB of the first lines of the geographic header and of segment 1; none where they were not read.
+    /// The STUSAB of the first line of the geographic header and of that of segment 1. `None` where a line was not
+    /// read.
     pub states: (Option<[u8; 2]>, Option<[u8; 2]>),
-    /// Whether the adjacency file has a pair of listed counties; none where it was not read.
+    /// Whether the adjacency file has a pair of listed counties. `None` if the file was not read.
     pub has_pairs: Option<bool>,
     /// What is odd about the files, at most the first of each kind. A warning is left out if memory for it was refused.
     pub warnings: Vec<Warning>,
@@ -202,13 +207,14 @@ pub struct End {
     pub has_stored_record: bool,
     /// The report of a command, or the text of a list or of a board, whose files could not all be stored.
     pub report: Option<Vec<u8>>,
-    /// The answer that was written; none where memory was refused.
+    /// The answer to the words, as it was handed to the output. `None` if memory was refused before there was one, or
+    /// if the run was that of a case.
     pub answer: Option<Vec<u8>>,
-    /// The first bytes of the geographic header, at most 65,536; none of them where the counties were not read.
+    /// The first bytes of the geographic header, at most 65,536. It is empty if the counties were not read.
     pub geo_head: Vec<u8>,
 }
 
-/// The people of the counties.
+/// Returns the number of people of all `counties`.
 pub(crate) fn people_of(counties: &[County]) -> u64 {
     let mut people: u64 = 0;
     for county in counties {
@@ -217,13 +223,14 @@ pub(crate) fn people_of(counties: &[County]) -> u64 {
     people
 }
 
-/// A copy of a path; none where memory for it was refused.
+/// Returns a copy of `path`, or `None` if memory for it was refused.
 fn copied(alloc: Global, path: &str) -> Option<String> {
     String::from_str(alloc, path).ok()
 }
 
 impl End {
-    /// The end of a run that has not met anything yet: where nothing more is noted, memory was refused.
+    /// Creates the end of a run that has not met anything yet. If nothing more is noted, it says that memory was
+    /// refused.
     pub(crate) fn new(alloc: Global) -> Self {
         End {
             ending: Ending::Memory,
@@ -249,17 +256,17 @@ impl End {
         self.ending = ending;
     }
 
-    /// Notes that the problem is refused.
+    /// Notes that the problem is refused, and why.
     pub(crate) fn note_problem(&mut self, fault: &ProblemFault) {
         self.ending = Ending::Problem(*fault);
     }
 
-    /// Notes that there is no board.
+    /// Notes that there is no board, and why.
     pub(crate) fn note_board(&mut self, fault: &BoardFault) {
         self.ending = Ending::Board(*fault);
     }
 
-    /// Notes that the grouping of the problem isn't lawful.
+    /// Notes that `grouping` isn't a lawful grouping of `problem`, and why.
     pub(crate) fn note_unlawful(
         &mut self,
         fault: &GroupingFault,
@@ -269,12 +276,12 @@ impl End {
         self.ending = Ending::Unlawful(*fault, problem, grouping);
     }
 
-    /// Notes that the file of an option, which was loaded, is refused.
+    /// Notes that the file of `option` is refused. It was loaded, and `text` is all of it.
     pub(crate) fn note_refused(&mut self, option: FileOption, fault: FileFault, text: Vec<u8>) {
         self.ending = Ending::Refused(option, fault, FaultText::Whole(text));
     }
 
-    /// Notes that the file of an option, which was read as it comes, is refused.
+    /// Notes that the file of an option, which was read piece by piece, is refused.
     pub(crate) fn note_read_refused(
         &mut self,
         option: FileOption,
@@ -284,24 +291,24 @@ impl End {
         self.ending = Ending::Refused(option, fault, text);
     }
 
-    /// Notes how many counties there are, and their people.
+    /// Notes how many `counties` there are, and how many people they have.
     pub(crate) fn note_people(&mut self, counties: &[County]) {
         self.counties = Some((counties.len(), people_of(counties)));
     }
 
-    /// Notes the states that the first lines of the census files name, so far as they were read.
+    /// Notes the states that the first lines of the census files name, as far as these were read.
     pub(crate) fn note_states(&mut self, notes: &CensusNotes) {
         let (geo, segment) = self.states;
         self.states = (notes.geo_state.or(geo), notes.segment_state.or(segment));
     }
 
-    /// Notes what the census files say besides their counties.
+    /// Notes what the census files say besides their counties: the people of the state, and the states that are named.
     pub(crate) fn note_census(&mut self, notes: &CensusNotes) {
         self.state_people = notes.state_people;
         self.note_states(notes);
     }
 
-    /// Notes the counties that were read, and what the census files say besides.
+    /// Notes the counties that were read, and what else the census files say.
     pub(crate) fn note_counties(&mut self, counties: &[County], notes: &CensusNotes) {
         self.note_people(counties);
         self.note_census(notes);
@@ -312,24 +319,24 @@ impl End {
         self.geo_head = head;
     }
 
-    /// Notes the answer that was written.
+    /// Notes the answer that was handed to the output.
     pub(crate) fn note_answer(&mut self, text: Vec<u8>) {
         self.answer = Some(text);
     }
 
-    /// Notes whether there is a pair of listed counties.
+    /// Notes whether the adjacency file has a pair of listed counties.
     pub(crate) fn note_pairs(&mut self, has_pairs: bool) {
         self.has_pairs = Some(has_pairs);
     }
 
-    /// Notes a warning, if there is one. If memory for it is refused, it is left out.
+    /// Notes `warning`, if there is one. It is left out if memory for it was refused.
     pub(crate) fn note_warning(&mut self, warning: Option<Warning>) {
         if let Some(warning) = warning {
             let _ = self.warnings.push(warning);
         }
     }
 
-    /// Notes that the file of an option could not be had.
+    /// Notes that the file of `option` could not be had, and why.
     pub(crate) fn note_unloaded(
         &mut self,
         alloc: Global,
@@ -340,7 +347,7 @@ impl End {
         self.ending = Ending::NotLoaded(option, fault, copied(alloc, name));
     }
 
-    /// Notes that the file of an option could not be stored.
+    /// Notes that the file of `option` could not be stored, and why.
     pub(crate) fn note_unstored(
         &mut self,
         alloc: Global,
@@ -351,7 +358,7 @@ impl End {
         self.ending = Ending::NotStored(option, fault, copied(alloc, name));
     }
 
-    /// Notes that the file of an option was stored.
+    /// Notes that the file of `option` was stored.
     pub(crate) fn note_stored(&mut self, option: FileOption) {
         match option {
             FileOption::CertificateOut => self.has_stored_certificate = true,

@@ -7,16 +7,16 @@ use field_lines::Fields;
 pub enum FaultText {
     /// All of it: the file was loaded.
     Whole(Vec<u8>),
-    /// The file was read as it comes.
+    /// The file was read piece by piece.
     Read {
         /// Its first bytes, at most 65,536.
         head: Vec<u8>,
-        /// The bytes of the line at fault, at most 65,536; none where the whole file is at fault.
+        /// The bytes of the line at fault, at most 65,536. There are none where the whole file is at fault.
         line: Vec<u8>,
     },
 }
 
-/// Returns the line of `text` that stands behind `before` others, if an LF ends it.
+/// Returns the line of `text` that has `before` lines before it, if an LF ends it.
 fn ended_line(text: &[u8], before: usize) -> Option<&[u8]> {
     let mut lines = Fields::new(text, b'\n');
     let line = lines.nth(before)?;
@@ -25,7 +25,7 @@ fn ended_line(text: &[u8], before: usize) -> Option<&[u8]> {
 }
 
 impl FaultText {
-    /// Returns the first bytes of the file.
+    /// Returns the first bytes of the file: all of them if it was loaded, or else at most 65,536.
     pub fn head(&self) -> &[u8] {
         match self {
             FaultText::Whole(text) => text.as_slice(),
@@ -33,8 +33,8 @@ impl FaultText {
         }
     }
 
-    /// Returns the bytes of the line at fault without its LF, where `number` is the line, which counts from 1. `None`
-    /// where the whole file is at fault, the text ends before the line, or the line isn't known.
+    /// Returns the bytes of the line at fault, without its LF. `number` is the number of the line, which counts from 1.
+    /// Returns `None` if the whole file is at fault, the text ends before the line, or the line isn't known.
     pub fn line(&self, number: u64) -> Option<&[u8]> {
         let before = usize::try_from(number.checked_sub(1)?).ok()?;
         match self {

@@ -1,4 +1,4 @@
-//! What a command's files give: each is loaded and read, and the first fault met is refused.
+//! What the files of a command give. Each is loaded and read, and the first fault met is refused.
 
 ghost use Rattle.std.specs.Prelude.{◌≡◌};
 ghost use Rattle.county_problem.specs.ProblemValue.{codes_of};
@@ -19,7 +19,7 @@ use county_codes::{County, CountyCode, Grouping, Withdrawn, listed_codes};
 use grouping_reader::read_grouping;
 use std::alloc::Global;
 
-/// The bytes of a file.
+/// Loads the bytes of the file `name`.
 pub(crate) fn load<H: Shelf>(
     alloc: Global,
     option: FileOption,
@@ -37,7 +37,7 @@ pub(crate) fn load<H: Shelf>(
     }
 }
 
-/// The pairs that an adjacency file gives of the listed counties.
+/// Reads the pairs of `listed` counties in the `text` of an adjacency file.
 fn pairs_from(
     alloc: Global,
     listed: &[CountyCode],
@@ -58,7 +58,7 @@ fn pairs_from(
     }
 }
 
-/// The links that a file gives.
+/// Reads the links in the `text` of a file.
 fn links_from(alloc: Global, text: Vec<u8>, end: &mut End) -> Result<Vec<Link>, Refusal>
     ensures { (history : History) → Comes (λ v. v.items) result (links_in text.items history history) }
 {
@@ -71,7 +71,7 @@ fn links_from(alloc: Global, text: Vec<u8>, end: &mut End) -> Result<Vec<Link>, 
     }
 }
 
-/// The withdrawn sets that a file gives.
+/// Reads the withdrawn sets in the `text` of a file.
 fn withdrawn_from(alloc: Global, text: Vec<u8>, end: &mut End) -> Result<Vec<Withdrawn>, Refusal>
     ensures { (history : History) → Comes (λ v. v.items) result (withdrawn_in text.items history history) }
 {
@@ -84,7 +84,7 @@ fn withdrawn_from(alloc: Global, text: Vec<u8>, end: &mut End) -> Result<Vec<Wit
     }
 }
 
-/// Returns the grouping that the file of `option` gives.
+/// Reads the grouping in the `text` of the file of `option`.
 fn grouping_from(
     alloc: Global,
     option: FileOption,
@@ -102,7 +102,7 @@ fn grouping_from(
     }
 }
 
-/// The pairs of an adjacency file.
+/// Loads an adjacency file and reads its pairs of `listed` counties.
 fn load_pairs<H: Shelf>(
     alloc: Global,
     listed: &[CountyCode],
@@ -118,7 +118,7 @@ fn load_pairs<H: Shelf>(
     pairs_from(alloc, listed, text, end)
 }
 
-/// The links of a file that is named, else none.
+/// Loads and reads the links of the file `name`. Returns none if no file is named.
 fn load_links<H: Shelf>(
     alloc: Global,
     name: Option<&str>,
@@ -138,7 +138,7 @@ fn load_links<H: Shelf>(
     }
 }
 
-/// The withdrawn sets of a file that is named, else none.
+/// Loads and reads the withdrawn sets of the file `name`. Returns none if no file is named.
 pub(crate) fn load_withdrawn<H: Shelf>(
     alloc: Global,
     name: Option<&str>,
@@ -158,7 +158,7 @@ pub(crate) fn load_withdrawn<H: Shelf>(
     }
 }
 
-/// The adjacent pairs: those of the adjacency file, and then the links over them.
+/// Returns the adjacent pairs: those of the adjacency file, with the links applied to them.
 pub(crate) fn load_adjacency<H: Shelf>(
     alloc: Global,
     counties: &[County],
@@ -178,7 +178,7 @@ pub(crate) fn load_adjacency<H: Shelf>(
     Ok(linked)
 }
 
-/// Returns the grouping of the file that `option` names.
+/// Loads the file that `option` names, and reads its grouping.
 pub(crate) fn load_grouping<H: Shelf>(
     alloc: Global,
     option: FileOption,

@@ -15,7 +15,7 @@ pub(crate) struct HeadReader<S> {
     head: Vec<u8>,
 }
 
-/// Puts bytes behind those that are kept, as many as there is room for. Where memory is refused, none is added.
+/// Appends to `head` the first of `bytes`, as many as there is room for. Appends none if memory was refused.
 fn keep(head: &mut Vec<u8>, bytes: &[u8]) {
     let room = MAX_HEAD.saturating_sub(head.len());
     let count = room.min(bytes.len());
@@ -25,7 +25,7 @@ fn keep(head: &mut Vec<u8>, bytes: &[u8]) {
 }
 
 impl<S: Source + Drop> HeadReader<S> {
-    /// Returns the source, of which nothing is kept so far.
+    /// Creates a reader of `source` that has kept nothing yet.
     pub(crate) fn new(alloc: Global, source: S) -> Self
         ensures given { ⟦<HeadReader<S> as Source>⟧.given result ≡ S.given source }
         ensures failed { ⟦<HeadReader<S> as Source>⟧.is_failed result ≡ S.is_failed source }

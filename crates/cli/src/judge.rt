@@ -23,7 +23,7 @@ use county_codes::Grouping;
 use county_problem::{Problem, judge as judge_grouping};
 use std::alloc::Global;
 
-/// The text of a certificate whose file is named, else none.
+/// Loads the text of a certificate, if `name` is given.
 fn load_certificate<H: Shelf>(
     alloc: Global,
     name: Option<&str>,
@@ -43,7 +43,8 @@ fn load_certificate<H: Shelf>(
     }
 }
 
-/// The end of a run whose grouping is lawful.
+/// Returns the ending of a run whose grouping is lawful. `unshown` says why the certificate doesn't show that the
+/// grouping is best, if it doesn't.
 fn lawful_end(unshown: Option<Unshown>, certificate: Option<Vec<u8>>, problem: Problem) -> Ending {
     match (unshown, certificate) {
         (Some(unshown), Some(text)) => Ending::NotShownBest(
@@ -55,8 +56,8 @@ fn lawful_end(unshown: Option<Unshown>, certificate: Option<Vec<u8>>, problem: P
     }
 }
 
-/// What is said of a lawful grouping, with the text of a certificate or without one, or the fault of a grouping that
-/// isn't lawful.
+/// Returns what is said of a lawful `grouping`, with the text of a certificate or without one. If the grouping isn't
+/// lawful, returns the answer to its fault.
 fn verdict(
     alloc: Global,
     tabled: Tabled,
@@ -84,7 +85,7 @@ fn verdict(
     }
 }
 
-/// What is said of the grouping of a file, before anything is stored.
+/// Returns what is said of the grouping of a file, before anything is stored.
 fn judge_files<H: Shelf>(
     alloc: Global,
     words: JudgeWords<'_>,
@@ -102,9 +103,9 @@ fn judge_files<H: Shelf>(
     verdict(alloc, tabled, grouping, certificate, words.budget, end)
 }
 
-/// Whether a grouping is lawful, and by a certificate whether it is best. The problem is built before the grouping is
-/// loaded and read, and then the certificate is loaded. If the grouping is lawful, its table is then stored; the first
-/// fault met is the answer.
+/// Judges whether a grouping is lawful, and with a certificate whether it is best. The problem is built first. Then the
+/// grouping is loaded and read, and then the certificate is loaded. If the grouping is lawful, its table is then
+/// stored. The first fault met is the answer.
 pub(crate) fn judge<H: Shelf>(
     alloc: Global,
     words: JudgeWords<'_>,

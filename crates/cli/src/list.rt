@@ -22,7 +22,7 @@ use county_codes::Grouping;
 use county_problem::Problem;
 use std::alloc::Global;
 
-/// Returns the number of the grouping that is stored, if one is.
+/// Returns the number of the grouping to store, if one is to be stored.
 fn number_in(words: Option<StoredWords<'_>>) -> Option<u32>
     ensures { result ≡ option_map (λ w. w.number) words.entry }
 {
@@ -32,7 +32,7 @@ fn number_in(words: Option<StoredWords<'_>>) -> Option<u32>
     }
 }
 
-/// Returns the file that the grouping is written to, if one is stored.
+/// Returns the name of the file that the grouping is written to, if one is to be stored.
 fn out_in<'a>(words: Option<StoredWords<'a>>) -> Option<&'a str>
     ensures { result ≡ option_map (λ w. w.out) words.entry }
 {
@@ -42,7 +42,7 @@ fn out_in<'a>(words: Option<StoredWords<'a>>) -> Option<&'a str>
     }
 }
 
-/// Returns the end of a list of this text.
+/// Returns the ending of a run of `list` over the certificate `text`.
 fn listed_end(end: ListEnd, text: Vec<u8>, problem: Problem) -> Ending {
     match end {
         ListEnd::All => Ending::Done,
@@ -60,7 +60,7 @@ fn listed_end(end: ListEnd, text: Vec<u8>, problem: Problem) -> Ending {
     }
 }
 
-/// Returns the grouping whose number is asked for, if its file is named.
+/// Loads the grouping whose number is asked for, if `name` is given.
 fn load_which<H: Shelf>(
     alloc: Global,
     name: Option<&str>,
@@ -108,7 +108,8 @@ fn list_files<H: Shelf>(
     Ok(listed)
 }
 
-/// Stores the grouping of the number and then the table of all groupings, each where there is one and its file is named.
+/// Stores the grouping of the number, and then the table of all groupings. Each is stored if there is one and its file
+/// is named.
 fn store_listed<H: Shelf>(
     alloc: Global,
     words: ListWords<'_>,
@@ -139,9 +140,9 @@ fn store_listed<H: Shelf>(
     )
 }
 
-/// Returns all best groupings, by a certificate. The problem is built first, then the grouping whose number is asked for
-/// is loaded, and then the certificate. The grouping of a number and the table of all are stored if the words name their
-/// files. The first fault met is the answer.
+/// Returns all best groupings, as a certificate shows them. The problem is built first. Then the grouping whose number
+/// is asked for is loaded, and then the certificate. The grouping of a number and the table of all groupings are stored
+/// if the words name their files. The first fault met is the answer.
 pub(crate) fn list<H: Shelf>(
     alloc: Global,
     words: ListWords<'_>,

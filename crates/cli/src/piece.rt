@@ -19,7 +19,7 @@ use county_problem::Problem;
 use share_board::Event;
 use std::alloc::Global;
 
-/// The end of a piece.
+/// Returns the ending of a run of `piece` that came to `end`.
 fn piece_end(end: PieceEnd) -> Ending {
     match end {
         PieceEnd::Answered => Ending::Done,
@@ -28,7 +28,7 @@ fn piece_end(end: PieceEnd) -> Ending {
     }
 }
 
-/// What a desk answers of the piece, on a board that takes the events.
+/// Returns what the solver answers for the piece, on a board that takes `events`.
 fn proved(
     alloc: Global,
     problem: &Problem,
@@ -52,8 +52,8 @@ fn proved(
     }
 }
 
-/// A piece of a board, as a desk proves it. All files are read before the board is opened; the first fault met is the
-/// answer.
+/// Returns what the solver answers for one piece of a board. All files are read before the board is opened. The first
+/// fault met is the answer.
 pub(crate) fn piece<H: Shelf>(
     alloc: Global,
     words: PieceWords<'_>,

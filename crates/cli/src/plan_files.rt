@@ -1,4 +1,4 @@
-//! What the file of a plan gives: assignments of census blocks.
+//! The assignments of census blocks that the file of a plan gives.
 
 ghost use Rattle.std.specs.Prelude.{◌≡◌, ◌≤◌, IfOk, vec_len};
 ghost use Rattle.cli_shelves.specs.History.{History};
@@ -12,7 +12,7 @@ use cli_answers::{Refusal, refuse_assignments};
 use cli_shelves::Shelf;
 use std::alloc::Global;
 
-/// The assignments that a file gives.
+/// Reads the assignments in the `text` of a file.
 fn assignments_from(alloc: Global, text: Vec<u8>, end: &mut End) -> Result<Vec<Assignment>, Refusal>
     ensures course { (history : History) → Comes (λ v. v.items) result (assignments_in text.items history history) }
     ensures few { IfOk result (λ v. vec_len v ≤ 4000000) }
@@ -26,7 +26,7 @@ fn assignments_from(alloc: Global, text: Vec<u8>, end: &mut End) -> Result<Vec<A
     }
 }
 
-/// The assignments of a file.
+/// Loads the file `name` and reads its assignments.
 pub(crate) fn load_assignments<H: Shelf>(
     alloc: Global,
     name: &str,

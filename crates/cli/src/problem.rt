@@ -19,7 +19,7 @@ use county_codes::{County, CountyCode, Window, Withdrawn};
 use county_problem::Problem;
 use std::alloc::Global;
 
-/// The problem, or the refusal of its first fault.
+/// Builds the problem, or returns the refusal of its first fault.
 pub(crate) fn build(
     alloc: Global,
     counties: &[County],
@@ -41,7 +41,7 @@ pub(crate) fn build(
     }
 }
 
-/// The problem of these counties: the other files are loaded and read in turn, before it is built.
+/// Builds the problem of these `counties`. The other files are loaded and read in turn before it is built.
 fn load_problem_over<H: Shelf>(
     alloc: Global,
     words: ProblemWords<'_>,
@@ -67,7 +67,7 @@ fn load_problem_over<H: Shelf>(
     )
 }
 
-/// The problem of the files: they are loaded and read in turn, before it is built.
+/// Builds the problem of the files. They are loaded and read in turn before it is built.
 pub(crate) fn load_problem<H: Shelf>(
     alloc: Global,
     words: ProblemWords<'_>,
@@ -83,8 +83,8 @@ pub(crate) fn load_problem<H: Shelf>(
     load_problem_over(alloc, words, &counties, shelf, end)
 }
 
-/// The problem of the files with the names of its counties: the census files are loaded and read first, and then the
-/// other files.
+/// Builds the problem of the files, and keeps the names of its counties. The census files are loaded and read first,
+/// and then the other files.
 fn load_named_problem<H: Shelf>(
     alloc: Global,
     words: ProblemWords<'_>,
@@ -106,7 +106,7 @@ fn load_named_problem<H: Shelf>(
     })
 }
 
-/// The problem of the files, with the names of its counties if a table is asked for: its file is then named.
+/// Builds the problem of the files. The names of its counties are kept if `table` names the file of a table.
 pub(crate) fn load_tabled_problem<H: Shelf>(
     alloc: Global,
     words: ProblemWords<'_>,

@@ -18,9 +18,9 @@ use cli_shelves::{Shelf, Sink};
 use field_lines::Source;
 use std::alloc::Global;
 
-/// What the program does, its exit status, and how the run ended: with words it runs their command over the shelf's
-/// files (as `run`); without any it runs the case that the input holds (as `run_case`), and the shelf stays as it was.
-/// The watcher is told how far the search of a command is. What is promised holds for each watcher.
+/// Runs the program, and returns its exit status and how the run ended. With `words`, it runs their command over the
+/// shelf's files, as `run` does. Without any, it runs the case that `input` holds, as `run_case` does, and the shelf
+/// stays as it was. `watcher` is told how far the search of a command is. What is promised holds for each watcher.
 pub fn run_program<H: Shelf, R: Source, W: Sink, V: Watcher>(
     alloc: Global,
     words: &[&str],
@@ -39,7 +39,7 @@ pub fn run_program<H: Shelf, R: Source, W: Sink, V: Watcher>(
         × RunTells (texts words.now) (H.history shelf.old) (H.history shelf.new) a
         × Delivers (W.is_failed out.new) (W.contents out.old) (W.contents out.new) a result.0 }
 
-    // Without any, the case was run that the input holds.
+    // Without any, the case that the input holds was run.
     ensures case { words.now ≡ [] → (read : Result (List ℕ) WholeFault)
         × IsWholeSource (R.content input.old) (R.is_failed input.new) read
         × (a : Option Answered)

@@ -1,4 +1,4 @@
-//! Files that are read as they come: they are opened, and their readers are given back.
+//! Files that are read piece by piece: they are opened, and their readers are given back.
 
 ghost use Rattle.std.specs.Prelude.{◌≡◌, false, Ok, Err, IfOk, OnOk, MatchResult};
 ghost use Rattle.field_lines.specs.Source.{nothing_given};
@@ -13,7 +13,7 @@ use cli_shelves::{ReadEnd, Shelf, ShelfFault};
 use cli_words::CommonWords;
 use std::alloc::Global;
 
-/// The refusal of what the shelf says of the file of an option.
+/// Returns the refusal of the shelf's `fault` for the file of `option`, and notes it at `end`.
 pub(crate) fn refuse_named(
     alloc: Global,
     option: FileOption,
@@ -27,7 +27,7 @@ pub(crate) fn refuse_named(
     refuse_load(alloc, name, fault)
 }
 
-/// Opens the file of an option.
+/// Opens the file of `option`, and returns its reader.
 pub(crate) fn open<H: Shelf>(
     alloc: Global,
     option: FileOption,
@@ -47,7 +47,7 @@ pub(crate) fn open<H: Shelf>(
     }
 }
 
-/// Gives the reader of the file of an option back. If its last pull failed, that is the refusal.
+/// Gives back the reader of the file of `option`. Returns a refusal if the reader's last pull failed.
 pub(crate) fn give_one_back<H: Shelf>(
     alloc: Global,
     option: FileOption,
@@ -67,7 +67,7 @@ pub(crate) fn give_one_back<H: Shelf>(
     }
 }
 
-/// Opens both census files, the geographic header first.
+/// Opens both census files, the geographic header first. Returns the reader of the header and then that of segment 1.
 pub(crate) fn open_both<H: Shelf>(
     alloc: Global,
     words: CommonWords<'_>,
@@ -88,7 +88,8 @@ pub(crate) fn open_both<H: Shelf>(
     Ok((geo, segment))
 }
 
-/// The refusal of what the shelf says of a reader that failed, that of segment 1 first.
+/// Returns the refusal of a reader that failed, from what the shelf says of both. If both failed, the refusal is that
+/// of segment 1.
 fn if_sound(
     alloc: Global,
     words: CommonWords<'_>,
@@ -105,8 +106,8 @@ fn if_sound(
     }
 }
 
-/// Gives both readers of the census files back, that of segment 1 first. If the last pull of one failed, that is the
-/// refusal.
+/// Gives back both readers of the census files, that of segment 1 first. Returns a refusal if the last pull of one of
+/// them failed.
 pub(crate) fn give_both_back<H: Shelf>(
     alloc: Global,
     words: CommonWords<'_>,

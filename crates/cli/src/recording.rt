@@ -1,4 +1,4 @@
-//! The record of a run, which is stored behind the files of its command.
+//! The record of a run, which is stored after the files of its command.
 
 ghost use Rattle.std.specs.Prelude.{◌≡◌, ◌-◌, ◌^◌, ◌∷◌, [], true, List, Option, length, min};
 ghost use Rattle.cli_shelves.specs.Files.{NamedFile};
@@ -22,14 +22,15 @@ use cli_shelves::Shelf;
 use cli_words::CommandWords;
 use std::alloc::{AllocError, Global};
 
-/// Whether a run with this status stores its record.
+/// Returns whether a run that ends with `status` stores its record.
 fn is_recorded(status: u8) -> bool
     ensures { result ≡ must_be_recorded status }
 {
     status == 0 || status == 1 || status == 3
 }
 
-/// The answer that stands once the record was handed over: the run's own, or that to a file which was refused.
+/// Returns the answer that stands once the record was handed over. It is that of the run, or the answer to a refused
+/// file.
 fn answer_after(
     handed_over: Result<(), Refusal>,
     answer: RunAnswer,
@@ -51,7 +52,7 @@ fn answer_after(
     }
 }
 
-/// Stores the bytes of a record, and answers as the run did, unless the file was refused.
+/// Stores the `bytes` of a record. Returns the answer of the run, unless the file was refused.
 fn store_bytes<H: Shelf>(
     alloc: Global,
     name: &str,
@@ -71,7 +72,7 @@ fn store_bytes<H: Shelf>(
     answer_after(handed_over, answer, end)
 }
 
-/// That a growth was refused in composing the record: nothing more is stored.
+/// Reports that a growth was refused while the record was composed. Nothing more is stored.
 fn uncomposed(answer: RunAnswer, end: &mut End) -> Result<RunAnswer, AllocError>
     ensures { said_of result ≡ memory_answer }
 {
@@ -80,7 +81,7 @@ fn uncomposed(answer: RunAnswer, end: &mut End) -> Result<RunAnswer, AllocError>
     Err(AllocError)
 }
 
-/// Stores the record of a run whose status asks for it. The shelf had so many events before the run.
+/// Stores the record of a run whose status asks for it. The shelf had `first` events before the run.
 fn store_composed<H: Shelf>(
     alloc: Global,
     words: &[&str],
@@ -110,7 +111,7 @@ fn store_composed<H: Shelf>(
     }
 }
 
-/// Stores the record of a run, if the answer's status asks for it. The shelf had so many events before the run.
+/// Stores the record of a run, if the answer's status asks for it. The shelf had `first` events before the run.
 fn store_record<H: Shelf>(
     alloc: Global,
     words: &[&str],
@@ -132,7 +133,7 @@ fn store_record<H: Shelf>(
     }
 }
 
-/// The answer of a command whose words name a file for the record of the run.
+/// Runs a command whose words name a file for the record of the run, and returns its answer.
 fn answer_with_record<H: Shelf, V: Watcher>(
     alloc: Global,
     words: &[&str],
@@ -155,7 +156,8 @@ fn answer_with_record<H: Shelf, V: Watcher>(
     }
 }
 
-/// The answer of a command, with its record if the words name a file for it.
+/// Runs a command and returns its answer. The record of the run is stored if the words name a file for it and the
+/// answer's status asks for it.
 pub(crate) fn answer_as_asked<H: Shelf, V: Watcher>(
     alloc: Global,
     words: &[&str],

@@ -24,7 +24,7 @@ use county_problem::Problem;
 use share_board::Event;
 use std::alloc::Global;
 
-/// What a board comes to that takes the events.
+/// Returns the outcome of a board that takes `events`.
 fn taken(
     alloc: Global,
     problem: &Problem,
@@ -52,7 +52,7 @@ fn taken(
     }
 }
 
-/// What `share` comes to over the files, before anything is stored.
+/// Returns the outcome of `share` over the files, before anything is stored.
 fn share_files<H: Shelf>(
     alloc: Global,
     words: ShareWords<'_>,
@@ -76,7 +76,7 @@ fn share_files<H: Shelf>(
     taken(alloc, &problem, &grouping, events, words, end)
 }
 
-/// The answer of a board: its text, with status 0 where no piece waits, else 3.
+/// Returns the answer of a board: its text, with status 0 if no piece is waiting, and 3 otherwise.
 fn answer_to(shared: Shared) -> RunAnswer
     ensures { answer_of result ≡ share_answer shared }
 {
@@ -86,7 +86,7 @@ fn answer_to(shared: Shared) -> RunAnswer
     }
 }
 
-/// The end of a board at which so many pieces wait.
+/// Returns the ending of a run of a board at which `left` pieces are still waiting.
 fn shared_end(left: usize) -> Ending {
     if left == 0 {
         Ending::Done
@@ -95,8 +95,8 @@ fn shared_end(left: usize) -> Ending {
     }
 }
 
-/// A board takes events that desks have sent, and the certificate that it joins is stored. All files are read before
-/// the board is opened; the first fault met is the answer.
+/// Opens a board that takes the events that solvers have sent, and stores the certificate that it joins. All files are
+/// read before the board is opened. The first fault met is the answer.
 pub(crate) fn share<H: Shelf>(
     alloc: Global,
     words: ShareWords<'_>,

@@ -13,7 +13,7 @@ use cli_words::CommonWords;
 use grouping_report::size_table;
 use std::alloc::Global;
 
-/// The size table of the counties; the first fault met is the answer.
+/// Returns the size table of the counties. The first fault met is the answer.
 pub(crate) fn size<H: Shelf>(
     alloc: Global,
     words: CommonWords<'_>,

@@ -19,7 +19,7 @@ use cli_shelves::Shelf;
 use cli_words::{CommandWords, SolveWords};
 use std::alloc::Global;
 
-/// What `solve` says of the problem of the files, before anything is stored.
+/// Returns what `solve` says of the problem of the files, before anything is stored.
 fn solve_files<H: Shelf, V: Watcher>(
     alloc: Global,
     words: SolveWords<'_>,
@@ -37,7 +37,7 @@ fn solve_files<H: Shelf, V: Watcher>(
     Ok(solved)
 }
 
-/// The end of a search whose files are stored.
+/// Returns the ending of a search whose files are stored.
 fn searched(solved: &Solved) -> Ending {
     match (&solved.certificate, &solved.grouping) {
         (Some(_), Some(_)) => Ending::Done,
@@ -46,7 +46,7 @@ fn searched(solved: &Solved) -> Ending {
     }
 }
 
-/// Stores the certificate, then the grouping and then the table, each where there is one and its file is named.
+/// Stores the certificate, then the grouping and then the table. Each is stored if there is one and its file is named.
 fn store_solved<H: Shelf>(
     alloc: Global,
     words: SolveWords<'_>,
@@ -84,8 +84,9 @@ fn store_solved<H: Shelf>(
     )
 }
 
-/// The best grouping of the problem with its certificate. The problem is built first; then the desk answers; then the
-/// files are stored, the certificate first, then the grouping, then the table; the first fault met is the answer.
+/// Returns the best grouping of the problem with its certificate. The problem is built first, and then the solver
+/// answers. Then the files are stored: the certificate first, then the grouping, then the table. The first fault met is
+/// the answer.
 pub(crate) fn solve<H: Shelf, V: Watcher>(
     alloc: Global,
     words: SolveWords<'_>,

@@ -14,7 +14,8 @@ use cli_runs::Reported;
 use cli_shelves::Shelf;
 use std::alloc::Global;
 
-/// Stores a file, or refuses what the shelf says of it.
+/// Stores `bytes` under `name`, and notes at `end` whether that succeeded. Returns the refusal of the shelf's fault if
+/// it didn't.
 fn store<H: Shelf>(
     alloc: Global,
     option: FileOption,
@@ -40,7 +41,7 @@ fn store<H: Shelf>(
     }
 }
 
-/// Stores a text, where there is one and its file is named.
+/// Stores `text` under `name` if both are given. Otherwise nothing is stored.
 pub(crate) fn store_named<H: Shelf>(
     alloc: Global,
     option: FileOption,
@@ -59,7 +60,7 @@ pub(crate) fn store_named<H: Shelf>(
     }
 }
 
-/// Stores the table that is reported, where there is one and its file is named. Then the answer is said, unless the
+/// Stores the table of `reported` if there is one and `name` is given. Returns the answer of `reported`, unless the
 /// table was refused.
 pub(crate) fn store_reported<H: Shelf>(
     alloc: Global,

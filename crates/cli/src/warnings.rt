@@ -25,7 +25,8 @@ pub enum Warning {
         /// The first county of the set.
         county: CountyCode,
     },
-    /// The adjacency file has these two as neighbours in one direction only, and others in both. The lesser comes first.
+    /// The adjacency file has these two as neighbours in one direction only, and others in both. The lesser code comes
+    /// first.
     OneWay(CountyCode, CountyCode),
     /// A link cuts the pair of these two, which isn't there.
     NoBorder(CountyCode, CountyCode),

@@ -6,7 +6,7 @@ use cli_words::CommonWords;
 use county_codes::{County, CountyCode, Withdrawn, has_code, listed_codes, unlisted_code};
 use std::alloc::{AllocError, Global};
 
-/// Returns the people of the counties whose codes are `codes`.
+/// Returns the people of the counties with these `codes`.
 fn people_among(counties: &[County], codes: &[CountyCode]) -> u64 {
     let mut people: u64 = 0;
     for county in counties {
@@ -17,8 +17,8 @@ fn people_among(counties: &[County], codes: &[CountyCode]) -> u64 {
     people
 }
 
-/// Returns the least and the greatest number of people that suit `seats`, where `total` are the people of all counties.
-/// `None` where the numbers are out of range.
+/// Returns the least and the greatest number of people that suit `seats`, where all counties have `total` people.
+/// Returns `None` if a number is out of range.
 fn suiting(seats: u16, total: u64, words: CommonWords<'_>) -> Option<(u64, u64)> {
     let (part, whole) = (u64::from(words.window.part), u64::from(words.window.whole));
     let ideal = u64::from(seats).checked_mul(total)?;
@@ -29,7 +29,7 @@ fn suiting(seats: u16, total: u64, words: CommonWords<'_>) -> Option<(u64, u64)>
     Some((least.checked_div(divisor)?, above.checked_div(divisor)?))
 }
 
-/// Returns a warning where the people of `set` don't suit its seats.
+/// Returns a warning if the people of `set` don't suit its seats.
 fn unsuited(counties: &[County], set: &Withdrawn, words: CommonWords<'_>) -> Option<Warning> {
     let (seats, codes) = (set.seats, set.codes.as_slice());
     let county = *codes.first()?;
@@ -47,7 +47,8 @@ fn unsuited(counties: &[County], set: &Withdrawn, words: CommonWords<'_>) -> Opt
     })
 }
 
-/// Adds to `reached` the counties of `codes` that a pair joins to `from`.
+/// Adds to `reached` the counties of `codes` that a pair joins to `from`. Those that it already has are not added
+/// again.
 fn add_neighbours(
     reached: &mut Vec<CountyCode>,
     pairs: &[(CountyCode, CountyCode)],
@@ -84,7 +85,7 @@ fn is_connected(
     Ok(unlisted_code(&reached, codes).is_none())
 }
 
-/// Returns a warning where `pairs` don't connect `set`.
+/// Returns a warning if `pairs` don't connect the counties of `set`.
 fn apart(alloc: Global, pairs: &[(CountyCode, CountyCode)], set: &Withdrawn) -> Option<Warning> {
     let (seats, codes) = (set.seats, set.codes.as_slice());
     let county = *codes.first()?;
@@ -101,7 +102,7 @@ struct Found {
     apart: Option<Warning>,
 }
 
-/// Returns the first warnings of the sets whose counties are all listed.
+/// Returns the first warning of each kind. Only those sets are looked at whose counties are all listed.
 fn first_of(
     alloc: Global,
     counties: &[County],

@@ -16,11 +16,11 @@ pub struct RunAnswer {
 }
 
 impl RunAnswer {
-    /// The answer of a text.
+    /// Creates an answer with a copy of `text` and with `status`.
     ///
     /// # Errors
     ///
-    /// `AllocError` where memory was refused.
+    /// Returns `AllocError` if memory was refused.
     pub fn new(alloc: Global, text: &[u8], status: u8) -> Result<Self, AllocError>
         ensures { IfOk result (λ a. answer_of a ≡ record { text = text.now; status = status }) }
     {
@@ -41,7 +41,7 @@ pub enum Refusal {
 }
 
 impl Refusal {
-    /// The refusal that shows a text, or `Memory` where there was no memory for it.
+    /// Creates the refusal that shows `text` with `status`, or `Memory` if there was no memory for the text.
     pub fn of_text(text: Result<Vec<u8>, AllocError>, status: u8) -> Self
         ensures { MatchResult text (λ v. RefusalShows (record { text = v.items; status = status }) result) (λ _. result
             ≡ Memory) }

@@ -1,4 +1,5 @@
-//! The lines of the program that stand in place of an answer of a board: a fault of its events, and its own.
+//! The lines of the program that stand in place of an answer of a board, for a fault of its events or of the board
+//! itself.
 
 ghost use Rattle.std.specs.Prelude.{◌≡◌, ◌≢◌, IfOk};
 ghost use Rattle.certificate_lines.specs.declared.fault.TextKind.TheVariants as text;
@@ -13,8 +14,8 @@ use certificate_lines::{TextFault, TextKind};
 use share_board::BoardFault;
 use std::alloc::{AllocError, Global};
 
-/// The refusal of a fault of a text of events: `refused events KIND line L` with exit status 4, or `Memory` where the
-/// fault is that or the line found no memory. The line counts from 1.
+/// Returns the refusal of a text of events: `refused events KIND line L` with exit status 4. The line counts from 1.
+/// Returns `Memory` if that is the fault, or if memory for the line was refused.
 pub fn refuse_events(alloc: Global, fault: TextFault) -> Refusal
     ensures answer { RefusalShows (events_answer fault) result }
     ensures shown { IsShown result → fault.kind ≢ text.Memory }
@@ -40,7 +41,7 @@ fn word_of_board_fault(fault: BoardFault) -> &'static [u8]
     }
 }
 
-/// `refused board KIND`.
+/// Returns the line `refused board KIND`.
 #[tactic(auto, unfolding(crate::specs::Refusals::refused_board))]
 fn board_text(alloc: Global, kind: &[u8]) -> Result<Vec<u8>, AllocError>
     ensures { IfOk result (λ v. v.items ≡ refused_board kind.now) }
@@ -51,8 +52,8 @@ fn board_text(alloc: Global, kind: &[u8]) -> Result<Vec<u8>, AllocError>
     Ok(out)
 }
 
-/// The refusal where the budget is too small to open a board: `budget` with exit status 3, or `Memory` where the line
-/// found no memory.
+/// Returns the refusal of a budget that is too small to open a board: `budget` with exit status 3. Returns `Memory` if
+/// memory for the line was refused.
 fn refuse_budget(alloc: Global) -> Refusal
     ensures { RefusalShows (board_answer board.Budget) result }
 {
@@ -62,9 +63,9 @@ fn refuse_budget(alloc: Global) -> Refusal
     }
 }
 
-/// The refusal of a fault of a board: `refused board KIND` with exit status 4, `budget` with exit status 3 where the
-/// budget is too small to open it, or `Memory` where the fault is that or the line found no memory. A target that isn't
-/// lawful is `Target`, whatever its fault.
+/// Returns the refusal of a board: `refused board KIND` with exit status 4. If the budget is too small to open the
+/// board, it is `budget` with exit status 3. A target that isn't lawful is `Target`, whatever its fault. Returns
+/// `Memory` if that is the fault, or if memory for the line was refused.
 pub fn refuse_board(alloc: Global, fault: BoardFault) -> Refusal
     ensures answer { RefusalShows (board_answer fault) result }
     ensures shown { IsShown result → fault ≢ board.Memory }

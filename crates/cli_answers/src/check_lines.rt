@@ -10,7 +10,7 @@ use field_lines::push_number;
 use state_judge::{CheckFault, push_check_fault};
 use std::alloc::{AllocError, Global};
 
-/// `no KIND line L`.
+/// Returns the line `no KIND line L`.
 #[tactic(auto, unfolding(crate::specs::CheckLines::no_line))]
 fn no_text(alloc: Global, fault: CheckFault, line: u64) -> Result<Vec<u8>, AllocError>
     ensures { IfOk result (λ v. v.items ≡ no_line fault line) }
@@ -23,12 +23,12 @@ fn no_text(alloc: Global, fault: CheckFault, line: u64) -> Result<Vec<u8>, Alloc
     Ok(out)
 }
 
-/// The answer to a text that is no certificate: `no KIND line L`, with exit status 1. The kind of a fault of the text
-/// or of the target has that fault's own behind it; the line counts from 1.
+/// Returns the answer to a text that is no certificate: `no KIND line L` with exit status 1. If the kind tells of a
+/// fault of the text or of the target, that fault's own kind follows it. The line counts from 1.
 ///
 /// # Errors
 ///
-/// `AllocError` where memory was refused.
+/// Returns `AllocError` if memory was refused.
 pub fn no_answer(alloc: Global, fault: CheckFault, line: u64) -> Result<RunAnswer, AllocError>
     ensures { IfOk result (λ a. answer_of a ≡ answer_of_no fault line) }
 {
@@ -36,11 +36,11 @@ pub fn no_answer(alloc: Global, fault: CheckFault, line: u64) -> Result<RunAnswe
     Ok(RunAnswer { text, status: 1 })
 }
 
-/// The answer where the budget of a check was too small: `budget`, with exit status 3.
+/// Returns the answer of a check whose budget was too small: `budget` with exit status 3.
 ///
 /// # Errors
 ///
-/// `AllocError` where memory was refused.
+/// Returns `AllocError` if memory was refused.
 pub fn budget_answer(alloc: Global) -> Result<RunAnswer, AllocError>
     ensures { IfOk result (λ a. answer_of a ≡ answer_of_budget) }
 {

@@ -1,9 +1,9 @@
-//! What the program answers where a command ends before its own text: the line in the place of any other, with its exit
+//! What the program answers if a command ends before its own text: one line in place of any other, with its exit
 //! status.
 //!
-//! The definitions stand in `specs/`: `Answer` (a text and a status), `Answers` (those of the code as those of the
-//! definitions), `Refusals` (the lines of faults, those of events and of a board among them) and `CheckLines` (the line
-//! of a text that is no certificate).
+//! The definitions stand in `specs/`. `Answer` defines an answer, which is a text with a status. `Answers` relates the
+//! answers of the code to those of the definitions. `Refusals` has the lines of faults, with those of events and of a
+//! board. `CheckLines` has the line of a text that is no certificate.
 #![tactic(auto)]
 
 mod answer;

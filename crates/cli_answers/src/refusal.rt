@@ -25,7 +25,7 @@ use grouping_report::push_grouping_fault;
 use pl94_counties::{File, NamedFault, Pl94Fault, Pl94Kind};
 use std::alloc::{AllocError, Global};
 
-/// The line that the program writes where memory was refused, with exit status 5. It is at hand without any memory.
+/// The line that the program writes if memory was refused, with exit status 5. Writing it needs no memory.
 pub const MEMORY: &[u8] = b"memory\n";
 
 fn word_of_line_fault(fault: LineFault) -> &'static [u8]
@@ -129,7 +129,7 @@ fn word_of_file(file: InputFile) -> &'static [u8]
     }
 }
 
-/// The line that is shown of a line fault: 0 where the text has too many.
+/// Returns the line that is shown of a line fault. It is 0 if the text has too many lines, and `line` otherwise.
 fn line_of_cut(fault: LineFault, line: u32) -> u32
     ensures { result ≡ cut_line fault line }
 {
@@ -139,7 +139,7 @@ fn line_of_cut(fault: LineFault, line: u32) -> u32
     }
 }
 
-/// `refused FILE KIND line L`.
+/// Returns the line `refused FILE KIND line L`.
 #[tactic(auto, unfolding(crate::specs::Refusals::refused_line))]
 fn refused_text(alloc: Global, file: &[u8], kind: &[u8], line: u64) -> Result<Vec<u8>, AllocError>
     ensures { IfOk result (λ v. v.items ≡ refused_line file.now kind.now line) }
@@ -154,15 +154,16 @@ fn refused_text(alloc: Global, file: &[u8], kind: &[u8], line: u64) -> Result<Ve
     Ok(out)
 }
 
-/// The refusal of an input file for a fault at a line.
+/// Returns the refusal of an input file for a fault at `line`, with exit status 4.
 pub(crate) fn refuse_input(alloc: Global, file: InputFile, kind: &[u8], line: u64) -> Refusal
     ensures { RefusalShows (input_answer file kind.now line) result }
 {
     Refusal::of_text(refused_text(alloc, word_of_file(file), kind, line), 4)
 }
 
-/// The refusal of a fault of a PL 94-171 file: `refused FILE KIND line L` with exit status 4, or `Memory` where the
-/// fault is that or the line found no memory. The line counts from 1; it is 0 where the file has too many lines.
+/// Returns the refusal of a PL 94-171 file: `refused FILE KIND line L` with exit status 4. The line counts from 1. It
+/// is 0 if the file has too many lines, or if none of its lines is a county or a block of the state. Returns `Memory`
+/// if that is the fault, or if memory for the line was refused.
 pub fn refuse_file(alloc: Global, fault: Pl94Fault) -> Refusal
     ensures answer { RefusalShows (pl94_answer fault) result }
     ensures shown { IsShown result → fault.kind ≢ kinds.Memory }
@@ -180,9 +181,9 @@ pub fn refuse_file(alloc: Global, fault: Pl94Fault) -> Refusal
     )
 }
 
-/// The refusal of a fault of the files of a state, or of the NAME of a county. A fault of the files is refused as
-/// `refuse_file` says. If a NAME isn't UTF-8, the refusal is `refused geo BadName line L` with exit status 4, or
-/// `Memory` if the line found no memory.
+/// Returns the refusal of the files of a state, or of the NAME of a county. A fault of the files is refused as
+/// `refuse_file` says. If a NAME isn't UTF-8, the refusal is `refused geo BadName line L` with exit status 4. Returns
+/// `Memory` if memory for the line was refused.
 pub fn refuse_named_counties(alloc: Global, fault: NamedFault) -> Refusal
     ensures answer { RefusalShows (named_answer fault) result }
     ensures shown { IsShown result → IsNoMemory fault → ⊥ }
@@ -195,9 +196,9 @@ pub fn refuse_named_counties(alloc: Global, fault: NamedFault) -> Refusal
     }
 }
 
-/// The refusal of a fault of a file whose lines have county codes: `refused FILE KIND line L` with exit status 4, or
-/// `Memory` where the fault is that or the line found no memory. The line counts from 1; it is 0 where the file has too
-/// many lines.
+/// Returns the refusal of a file whose lines have county codes: `refused FILE KIND line L` with exit status 4. The line
+/// counts from 1. It is 0 if the file has too many lines. Returns `Memory` if that is the fault, or if memory for the
+/// line was refused.
 pub fn refuse_codes(alloc: Global, file: InputFile, fault: CodeLineFault) -> Refusal
     ensures answer { RefusalShows (code_file_answer file fault) result }
     ensures shown { IsShown result → fault.kind ≢ lines_of_codes.Memory }
@@ -210,9 +211,9 @@ pub fn refuse_codes(alloc: Global, file: InputFile, fault: CodeLineFault) -> Ref
     refuse_input(alloc, file, word_of_code_line(fault.kind), u64::from(line))
 }
 
-/// The refusal of a fault of an assignment file: `refused assignments KIND line L` with exit status 4, or `Memory`
-/// where the fault is that or the line found no memory. The line counts from 1; it is 0 where the file has too many
-/// lines.
+/// Returns the refusal of an assignment file: `refused assignments KIND line L` with exit status 4. The line counts
+/// from 1. It is 0 if the file has too many lines. Returns `Memory` if that is the fault, or if memory for the line was
+/// refused.
 pub fn refuse_assignments(alloc: Global, fault: AssignmentFault) -> Refusal
     ensures answer { RefusalShows (assignment_answer fault) result }
     ensures shown { IsShown result → fault.kind ≢ lines_of_assignments.Memory }
@@ -226,7 +227,7 @@ pub fn refuse_assignments(alloc: Global, fault: AssignmentFault) -> Refusal
     refuse_input(alloc, InputFile::Assignments, word, u64::from(line))
 }
 
-/// `fault KIND` with its group, its county or its seats.
+/// Returns the line `fault KIND`, with the group, the county or the seats of the fault after the kind.
 #[tactic(auto, unfolding(crate::specs::Refusals::fault_line))]
 fn fault_text(alloc: Global, fault: GroupingFault) -> Result<Vec<u8>, AllocError>
     ensures { IfOk result (λ v. v.items ≡ fault_line fault) }
@@ -237,8 +238,8 @@ fn fault_text(alloc: Global, fault: GroupingFault) -> Result<Vec<u8>, AllocError
     Ok(out)
 }
 
-/// The answer to a fault of a grouping: `fault KIND` with its group, its county or its seats, and exit status 1, or
-/// `Memory` where the fault is that or the line found no memory.
+/// Returns the answer to a grouping that isn't lawful: `fault KIND` with exit status 1. The group, the county or the
+/// seats of the fault follow the kind. Returns `Memory` if that is the fault, or if memory for the line was refused.
 pub fn refuse_verdict(alloc: Global, fault: GroupingFault) -> Refusal
     ensures { RefusalShows (verdict_answer fault) result }
 {
@@ -248,7 +249,7 @@ pub fn refuse_verdict(alloc: Global, fault: GroupingFault) -> Refusal
     Refusal::of_text(fault_text(alloc, fault), 1)
 }
 
-/// Appends a blank and a code.
+/// Appends a blank and then `code`.
 fn push_blank_code(out: &mut Vec<u8>, code: CountyCode) -> Result<(), AllocError>
     ensures { OnOk result (out.new.items ≡ out.old.items ++ after_blank (five_digits code)) }
 {
@@ -256,7 +257,7 @@ fn push_blank_code(out: &mut Vec<u8>, code: CountyCode) -> Result<(), AllocError
     push_code(out, code)
 }
 
-/// Appends a word, a blank and a code.
+/// Appends `word`, a blank and then `code`.
 fn push_word_code(out: &mut Vec<u8>, word: &[u8], code: CountyCode) -> Result<(), AllocError>
     ensures { OnOk result (out.new.items ≡ out.old.items ++ (word.now ++ after_blank (five_digits code))) }
 {
@@ -264,7 +265,7 @@ fn push_word_code(out: &mut Vec<u8>, word: &[u8], code: CountyCode) -> Result<()
     push_blank_code(out, code)
 }
 
-/// Appends a word, a blank and a number.
+/// Appends `word`, a blank and then `number`.
 fn push_word_number(out: &mut Vec<u8>, word: &[u8], number: u64) -> Result<(), AllocError>
     ensures { OnOk result (out.new.items ≡ out.old.items ++ (word.now ++ after_blank (decimal number))) }
 {
@@ -273,14 +274,14 @@ fn push_word_number(out: &mut Vec<u8>, word: &[u8], number: u64) -> Result<(), A
     push_number(out, number)
 }
 
-/// Appends a word.
+/// Appends `word`.
 fn push_word(out: &mut Vec<u8>, word: &[u8]) -> Result<(), AllocError>
     ensures { OnOk result (out.new.items ≡ out.old.items ++ word.now) }
 {
     out.extend_from_slice(word)
 }
 
-/// Appends what is refused of a problem.
+/// Appends the words for what is refused of a problem.
 fn push_problem(out: &mut Vec<u8>, fault: ProblemFault) -> Result<(), AllocError>
     ensures { OnOk result (out.new.items ≡ out.old.items ++ problem_words fault) }
 {
@@ -302,7 +303,7 @@ fn push_problem(out: &mut Vec<u8>, fault: ProblemFault) -> Result<(), AllocError
     }
 }
 
-/// `refused problem KIND` with its codes or its set.
+/// Returns the line `refused problem KIND`, with the codes or the set of the fault after the kind.
 #[tactic(auto, unfolding(crate::specs::Refusals::refused_problem))]
 fn problem_text(alloc: Global, fault: ProblemFault) -> Result<Vec<u8>, AllocError>
     ensures { IfOk result (λ v. v.items ≡ refused_problem fault) }
@@ -313,8 +314,8 @@ fn problem_text(alloc: Global, fault: ProblemFault) -> Result<Vec<u8>, AllocErro
     Ok(out)
 }
 
-/// The refusal of a fault of a problem: `refused problem KIND` with its codes or its set, and exit status 4, or
-/// `Memory` where the fault is that or the line found no memory.
+/// Returns the refusal of a problem: `refused problem KIND` with exit status 4. The codes or the set of the fault
+/// follow the kind. Returns `Memory` if that is the fault, or if memory for the line was refused.
 pub fn refuse_problem(alloc: Global, fault: ProblemFault) -> Refusal
     ensures answer { RefusalShows (problem_answer fault) result }
     ensures shown { IsShown result → fault ≢ problem.Memory }
@@ -336,7 +337,7 @@ fn word_of_shelf_fault(fault: ShelfFault) -> &'static [u8]
     }
 }
 
-/// `device NAME KIND`.
+/// Returns the line `device NAME KIND`.
 #[tactic(auto, unfolding(crate::specs::Refusals::device_line))]
 fn device_text(alloc: Global, name: &[u8], kind: &[u8]) -> Result<Vec<u8>, AllocError>
     ensures { IfOk result (λ v. v.items ≡ device_line name.now kind.now) }
@@ -349,8 +350,8 @@ fn device_text(alloc: Global, name: &[u8], kind: &[u8]) -> Result<Vec<u8>, Alloc
     Ok(out)
 }
 
-/// The refusal of a fault of the shelf under a name: `device NAME KIND` with exit status 5, or `Memory` where the fault
-/// is that or the line found no memory.
+/// Returns the refusal of a fault of the shelf at the file `name`: `device NAME KIND` with exit status 5. Returns
+/// `Memory` if that is the fault, or if memory for the line was refused.
 pub fn refuse_load(alloc: Global, name: &str, fault: ShelfFault) -> Refusal
     ensures { RefusalShows (shelf_answer name.now fault) result }
 {

@@ -1,7 +1,8 @@
-//! The record of a run, from its words and from the sums of what its shelf gave and took.
+//! The record of a run, made from its words and from the sums of what its shelf gave and took.
 //!
-//! A further file of a command is named in `files_to_read` of `specs/RecordFiles.antt` and in `src/reads.rt`. A further
-//! option that names a file to store is named in `options_to_store` there and in `src/stores.rt`.
+//! If a command comes to read a further file, name it in `files_to_read` of `specs/RecordFiles.antt` and in
+//! `src/reads.rt`. If a further option names a file to store, name it in `options_to_store` there and in
+//! `src/stores.rt`.
 #![tactic(auto)]
 
 mod reads;

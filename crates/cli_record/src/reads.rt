@@ -18,7 +18,7 @@ use cli_words::{
 };
 use std::alloc::{AllocError, Global};
 
-/// Whether an event went as it is wanted.
+/// Returns whether `kind` is the same kind of event as `want`.
 pub(crate) fn went(want: EventKind, kind: EventKind) -> bool
     ensures { result ≡ has_gone want kind }
 {
@@ -31,14 +31,14 @@ pub(crate) fn went(want: EventKind, kind: EventKind) -> bool
     )
 }
 
-/// Whether an event of this name went so.
+/// Returns whether `sum` is that of an event of this `kind` and `name`.
 fn is_of(sum: &EventSum, kind: EventKind, name: &str) -> bool
     ensures { result ≡ is_event_of kind name.now (sum_value sum.now) }
 {
     went(kind, sum.kind) && sum.name.as_str() == name
 }
 
-/// The first event of this name that went so.
+/// Returns the sum of the first event of this `kind` and `name`.
 fn first_of<'a>(sums: &'a [EventSum], kind: EventKind, name: &str) -> Option<&'a EventSum>
     ensures { option_map (λ s. sum_value s.now) result ≡ find (is_event_of kind name.now) (map sum_value sums.now) }
 {
@@ -50,7 +50,8 @@ fn first_of<'a>(sums: &'a [EventSum], kind: EventKind, name: &str) -> Option<&'a
     None
 }
 
-/// The reading of a file: the first that came to the end of the file, or else the first that was left before it.
+/// Returns the reading of the file `name`. It is the first that came to the end of the file, or else the first that was
+/// left before the end.
 fn reading_of<'a>(sums: &'a [EventSum], name: &str) -> Option<&'a EventSum>
     ensures { option_map (λ s. sum_value s.now) result ≡ reading_of_name (map sum_value sums.now) name.now }
 {
@@ -60,7 +61,7 @@ fn reading_of<'a>(sums: &'a [EventSum], name: &str) -> Option<&'a EventSum>
     }
 }
 
-/// Appends the line of a file, if it was read.
+/// Appends the line of a file to `reads`, if the file was read.
 fn push_read(
     reads: &mut Vec<FileRead>,
     sums: &[EventSum],
@@ -103,7 +104,7 @@ fn push_if_named(
     }
 }
 
-/// Appends the lines of the two census files.
+/// Appends the lines of the two census files, each if it was read.
 fn push_census(
     reads: &mut Vec<FileRead>,
     sums: &[EventSum],
@@ -116,7 +117,7 @@ fn push_census(
     push_read(reads, sums, ReadFile::Segment1, words.segment)
 }
 
-/// Appends the lines of the files of a problem.
+/// Appends the lines of the files of a problem, each if it was read.
 fn push_problem(
     reads: &mut Vec<FileRead>,
     sums: &[EventSum],
@@ -131,7 +132,7 @@ fn push_problem(
     push_if_named(reads, sums, ReadFile::Withdrawn, words.withdrawn)
 }
 
-/// Appends the lines of the files of a problem and of another file.
+/// Appends the lines of the files of a problem, and then that of `file`, each if it was read.
 fn push_problem_and(
     reads: &mut Vec<FileRead>,
     sums: &[EventSum],
@@ -147,7 +148,7 @@ fn push_problem_and(
     push_read(reads, sums, file, name)
 }
 
-/// Appends the lines of the files of a board.
+/// Appends the lines of the files of a board, each if it was read.
 fn push_board(
     reads: &mut Vec<FileRead>,
     sums: &[EventSum],
@@ -165,7 +166,7 @@ fn push_board(
     )
 }
 
-/// Appends the lines of the files that `judge` reads.
+/// Appends the lines of the files that `judge` reads, each if it was read.
 fn push_judge(
     reads: &mut Vec<FileRead>,
     sums: &[EventSum],
@@ -179,7 +180,7 @@ fn push_judge(
     push_if_named(reads, sums, ReadFile::Certificate, words.certificate)
 }
 
-/// Appends the lines of the files that `list` reads.
+/// Appends the lines of the files that `list` reads, each if it was read.
 fn push_list(
     reads: &mut Vec<FileRead>,
     sums: &[EventSum],
@@ -193,7 +194,7 @@ fn push_list(
     push_read(reads, sums, ReadFile::Certificate, words.check.certificate)
 }
 
-/// Appends the lines of the files that `audit` reads.
+/// Appends the lines of the files that `audit` reads, each if it was read.
 fn push_audit(
     reads: &mut Vec<FileRead>,
     sums: &[EventSum],
@@ -207,7 +208,7 @@ fn push_audit(
     push_read(reads, sums, ReadFile::Assignments, words.assignments)
 }
 
-/// Appends the lines of the files that `share` reads.
+/// Appends the lines of the files that `share` reads, each if it was read.
 fn push_share(
     reads: &mut Vec<FileRead>,
     sums: &[EventSum],
@@ -220,7 +221,7 @@ fn push_share(
     push_read(reads, sums, ReadFile::Events, words.events)
 }
 
-/// Appends the lines of the files that `piece` reads.
+/// Appends the lines of the files that `piece` reads, each if it was read.
 fn push_piece(
     reads: &mut Vec<FileRead>,
     sums: &[EventSum],
@@ -233,7 +234,7 @@ fn push_piece(
     push_if_named(reads, sums, ReadFile::Events, words.events)
 }
 
-/// Appends the lines of the files of a problem and of a certificate.
+/// Appends the lines of the files of a problem, and then that of a certificate, each if it was read.
 fn push_certificate(
     reads: &mut Vec<FileRead>,
     sums: &[EventSum],
@@ -247,7 +248,7 @@ fn push_certificate(
     push_problem_and(reads, sums, &words.problem, file, name)
 }
 
-/// Appends the lines of the files that a command reads.
+/// Appends the lines of the files that `command` reads, each if it was read.
 fn push_files(
     reads: &mut Vec<FileRead>,
     sums: &[EventSum],
@@ -268,7 +269,7 @@ fn push_files(
     }
 }
 
-/// The lines of the files that a command read.
+/// Returns the lines of the files that `command` read. `sums` are the sums of the run's events.
 pub(crate) fn reads_of(
     alloc: Global,
     sums: &[EventSum],

@@ -14,7 +14,7 @@ use cli_shelves::EventSum;
 use cli_words::{CommandWords, version_text};
 use std::alloc::{AllocError, Global};
 
-/// The name of the file that the words give for the record of the run.
+/// Returns the name of the file that the words give for the record of the run, if they give one.
 pub fn record_file<'a>(command: &CommandWords<'a>) -> Option<&'a str>
     ensures { option_map (λ n. n.now) result ≡ record_name_of command.now }
 {
@@ -30,7 +30,7 @@ pub fn record_file<'a>(command: &CommandWords<'a>) -> Option<&'a str>
     }
 }
 
-/// The words as texts of their own.
+/// Returns copies of `words`, in the same order.
 fn texts_of(alloc: Global, words: &[&str]) -> Result<Vec<String>, AllocError>
     ensures { IfOk result (λ v. map string_bytes v.items ≡ map (λ w. w.now) words.now) }
 {
@@ -41,7 +41,7 @@ fn texts_of(alloc: Global, words: &[&str]) -> Result<Vec<String>, AllocError>
     Ok(texts)
 }
 
-/// What the record says of a run.
+/// Returns what the record says of a run.
 fn run_of(
     alloc: Global,
     words: &[&str],
@@ -62,12 +62,13 @@ fn run_of(
     })
 }
 
-/// The record of a run: the version of the program, the words, the files that the command read and stored with the sums
-/// of their bytes, the status, and the answer. The sums are those of the events of the run's shelf, in order.
+/// Returns the record of a run. It has the version of the program, the words, the files that the command read and
+/// stored with the sums of their bytes, the status, and the answer. `sums` are those of the events of the run's shelf,
+/// in order.
 ///
 /// # Errors
 ///
-/// `AllocError` where a growth was refused.
+/// Returns `AllocError` if a growth was refused.
 pub fn record_of_run(
     alloc: Global,
     words: &[&str],

@@ -1,4 +1,4 @@
-//! The record of a run, from what its shelf has done since the run began.
+//! The record of a run, made from what its shelf has done since the run began.
 
 ghost use Rattle.std.specs.Prelude.{◌≡◌, ◌+◌, ◌-◌, ◌^◌, ◌<◌, IfSome, length, map, min};
 ghost use Rattle.cli_shelves.specs.History.{History};
@@ -10,7 +10,8 @@ use cli_shelves::{EventSum, Shelf};
 use cli_words::CommandWords;
 use std::alloc::{AllocError, Global};
 
-/// The sums, if they are those of all events behind the first so many of a shelf that has so many now.
+/// Returns `sums` if they are those of all events of a shelf after its first `first` ones. The shelf has had `last`
+/// events. Returns `None` if they aren't, or if `last` is 2^64 - 1, where the count stays.
 fn if_complete(sums: &[EventSum], first: u64, last: u64) -> Option<&[EventSum]>
     ensures all { IfSome result (λ s. first + length sums.now ≡ last) }
     ensures low { IfSome result (λ s. last < 2 ^ 64 - 1) }
@@ -22,7 +23,8 @@ fn if_complete(sums: &[EventSum], first: u64, last: u64) -> Option<&[EventSum]>
     }
 }
 
-/// The sums of the events that the shelf has had since there were so many.
+/// Returns the sums of the events that the shelf has had after its first `first` ones. Returns `None` if it doesn't
+/// have the sum of each.
 fn sums_since<H: Shelf>(shelf: &H, first: u64) -> Option<&[EventSum]>
     ensures { IfSome result (λ sums. (before : History) → first ≡ min (length before.events) (2 ^ 64 - 1)
         → map sum_value sums.now ≡ sums_between before (H.history shelf.now)) }
@@ -33,9 +35,9 @@ fn sums_since<H: Shelf>(shelf: &H, first: u64) -> Option<&[EventSum]>
     }
 }
 
-/// The record of a run that ends with this status and this text, before whose first event the shelf had so many. The
-/// shelf has kept the sums of its events since then. None if a growth was refused, or if the shelf doesn't have a sum
-/// of each event.
+/// Returns the record of a run that ends with this `status` and this `text`. The shelf had `first` events before the
+/// first one of the run, and has kept the sums of its events since then. Returns `None` if a growth was refused, or if
+/// the shelf doesn't have a sum of each event. It is also `None` if the count of events is at its last value, 2^64 - 1.
 pub fn record_since<H: Shelf>(
     alloc: Global,
     words: &[&str],

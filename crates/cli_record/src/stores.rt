@@ -14,7 +14,7 @@ use cli_shelves::{EventKind, EventSum};
 use cli_words::{AuditWords, CommandWords, ListWords, SolveWords, StoredWords};
 use std::alloc::{AllocError, Global};
 
-/// Appends an option, if the words name its file.
+/// Appends `option`, if the words name its file.
 fn push_if_given(
     options: &mut Vec<StoreOption>,
     option: StoreOption,
@@ -31,7 +31,7 @@ fn push_if_given(
     }
 }
 
-/// Appends the options of `solve` at a status.
+/// Appends the options whose files `solve` stores if it ends with `status`.
 fn push_solve(
     options: &mut Vec<StoreOption>,
     words: &SolveWords<'_>,
@@ -49,7 +49,7 @@ fn push_solve(
     Ok(())
 }
 
-/// Appends an option, if the words name its file and the run ends with status 0.
+/// Appends `option`, if the words name its file and the run ends with status 0.
 fn push_at_0(
     options: &mut Vec<StoreOption>,
     option: StoreOption,
@@ -65,7 +65,7 @@ fn push_at_0(
     }
 }
 
-/// Appends the options of `audit` at a status.
+/// Appends the options whose files `audit` stores if it ends with `status`.
 fn push_audit(
     options: &mut Vec<StoreOption>,
     words: &AuditWords<'_>,
@@ -80,7 +80,7 @@ fn push_audit(
     }
 }
 
-/// Appends the option of a listed grouping, if one is stored.
+/// Appends the option of a listed grouping, if one is to be stored.
 fn push_if_listed(
     options: &mut Vec<StoreOption>,
     words: &Option<StoredWords<'_>>,
@@ -93,7 +93,7 @@ fn push_if_listed(
     }
 }
 
-/// Appends the options of `list` at a status.
+/// Appends the options whose files `list` stores if it ends with `status`.
 fn push_list(
     options: &mut Vec<StoreOption>,
     words: &ListWords<'_>,
@@ -109,7 +109,7 @@ fn push_list(
     }
 }
 
-/// Appends the options whose files a command stores, in order, if the command ends with this status.
+/// Appends the options whose files `command` stores if it ends with `status`, in the order of storing.
 fn push_options(
     options: &mut Vec<StoreOption>,
     command: &CommandWords<'_>,
@@ -130,7 +130,7 @@ fn push_options(
     }
 }
 
-/// Returns the options whose files a command stores, in order, if the command ends with this status.
+/// Returns the options whose files `command` stores if it ends with `status`, in the order of storing.
 fn options_to_store(
     alloc: Global,
     command: &CommandWords<'_>,
@@ -143,7 +143,7 @@ fn options_to_store(
     Ok(options)
 }
 
-/// The line of a file that was stored.
+/// Returns the line of a file that was stored for `option`.
 fn stored_line(option: StoreOption, sum: &EventSum) -> Result<FileStored, AllocError>
     ensures { IfOk result (λ line. stored_line_of line ≡ stored_value option (sum_value sum.now)) }
 {
@@ -155,7 +155,8 @@ fn stored_line(option: StoreOption, sum: &EventSum) -> Result<FileStored, AllocE
     })
 }
 
-/// Each file that was stored, with its option.
+/// Returns the line of each file that was stored. The first file has the first of `options`, and so on. Files beyond
+/// the last option are left out.
 fn with_options(
     alloc: Global,
     options: &[StoreOption],
@@ -177,7 +178,8 @@ fn with_options(
     Ok(stored)
 }
 
-/// The lines of the files that a command stored.
+/// Returns the lines of the files that `command` stored, if it ends with `status`. `sums` are the sums of the run's
+/// events.
 pub(crate) fn stores_of(
     alloc: Global,
     sums: &[EventSum],

@@ -1,4 +1,4 @@
-//! The answer that a text gives.
+//! The answer that a text gives, as a record has it.
 
 ghost use Rattle.std.specs.Prelude.{◌≡◌, ◌≤◌, IfSome, length};
 ghost use Rattle.std.specs.List.{position};
@@ -10,21 +10,21 @@ ghost use Rattle.cli_record_text.specs.Answers.{first_answer_line as first_line_
 /// What an answer line begins with.
 const ANSWER: &[u8] = b"answer ";
 
-/// Whether a line begins with the word `answer` and a blank.
+/// Returns whether `line` begins with the word `answer` and a blank.
 fn is_answer_line(line: &[u8]) -> bool
     ensures { result ≡ begins_with_answer line.now }
 {
     line.starts_with(ANSWER)
 }
 
-/// The place of the first line feed of a text.
+/// Returns the place of the first line feed of `text`, if it has one.
 fn line_end(text: &[u8]) -> Option<usize>
     ensures { result ≡ position is_line_feed text.now }
 {
     text.iter().position(|byte| *byte == b'\n')
 }
 
-/// The first line of a text.
+/// Returns the first line of `text`, without its line feed.
 fn first_line(text: &[u8]) -> &[u8]
     ensures { result.now ≡ first_line_of text.now }
 {
@@ -34,7 +34,7 @@ fn first_line(text: &[u8]) -> &[u8]
     }
 }
 
-/// The first answer line of a text.
+/// Returns the first answer line of `text`, without its line feed. Returns `None` if it has none.
 fn answer_line(text: &[u8]) -> Option<&[u8]>
     ensures value { option_map (λ line. line.now) result ≡ answer_line_of text.now }
     ensures long { IfSome result (λ line. 7 ≤ length line.now) }
@@ -43,8 +43,8 @@ fn answer_line(text: &[u8]) -> Option<&[u8]>
         .find(|line| is_answer_line(line))
 }
 
-/// The answer that a text gives: its first line that begins with `answer `, without this word and the blank. If no line
-/// begins so, the answer is the first line. The line feed is no part of it.
+/// Returns the answer that `text` gives. It is the first line that begins with `answer `, without this word and the
+/// blank. If no line begins like this, the answer is the first line. The line feed is no part of it.
 pub fn answer_of(text: &[u8]) -> &[u8]
     ensures { result.now ≡ answer_of_text text.now }
 {

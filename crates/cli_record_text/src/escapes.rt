@@ -6,14 +6,14 @@ ghost use Rattle.cli_record_text.specs.Escapes.{escaped};
 
 use std::alloc::AllocError;
 
-/// Whether a byte is a backslash, below 0x20 or above 0x7E.
+/// Returns whether `byte` is a backslash, below 0x20 or above 0x7E.
 fn is_escaped(byte: u8) -> bool
     ensures { result ≡ must_be_escaped byte }
 {
     byte == b'\\' || byte < 0x20 || byte > 0x7E
 }
 
-/// The hexadecimal digit of a number below 16, a letter in upper case.
+/// Returns the hexadecimal digit of `number`, with letters in upper case.
 fn hex_digit(number: u8) -> u8
     requires { number < 16 }
     ensures { result ≡ digit_of number }
@@ -25,7 +25,7 @@ fn hex_digit(number: u8) -> u8
     }
 }
 
-/// Appends a byte as it is, or `\x` and its two hexadecimal digits.
+/// Appends `byte`, or `\x` and its two hexadecimal digits if it is escaped.
 fn push_byte(out: &mut Vec<u8>, byte: u8) -> Result<(), AllocError>
     ensures { OnOk result (out.new.items ≡ out.old.items ++ escaped_byte byte) }
 {
@@ -36,7 +36,7 @@ fn push_byte(out: &mut Vec<u8>, byte: u8) -> Result<(), AllocError>
     }
 }
 
-/// Appends a text with its escapes.
+/// Appends `text` with its escapes.
 pub(crate) fn push_escaped(out: &mut Vec<u8>, text: &[u8]) -> Result<(), AllocError>
     ensures { OnOk result (out.new.items ≡ out.old.items ++ escaped text.now) }
 {

@@ -49,14 +49,14 @@ pub struct FileRead {
     pub sum: ByteSum,
     /// The name of the file.
     pub name: String,
-    /// Whether the file was left before its end.
+    /// Whether the reading ended before the end of the file.
     pub left: bool,
 }
 
 /// A file that a run stored.
 #[derive(Debug, Drop)]
 pub struct FileStored {
-    /// The option that named it.
+    /// The option that named the file.
     pub option: StoreOption,
     /// The sum of the bytes that were stored.
     pub sum: ByteSum,

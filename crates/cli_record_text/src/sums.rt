@@ -1,4 +1,4 @@
-//! The sums of bytes: how many they are, and their SHA-256 digest.
+//! The sums of bytes: their number, and their SHA-256 digest.
 
 ghost use Rattle.std.specs.Prelude.{◌≡◌, ℕ, List, [], ◌++◌};
 ghost use Rattle.hex.specs.Hex.{encode_lower};
@@ -24,14 +24,14 @@ impl Model for ByteSum {
 }
 
 impl ByteSum {
-    /// How many bytes there are.
+    /// Returns how many bytes there are.
     pub fn bytes(&self) -> u64
         ensures { result ≡ self.now.bytes }
     {
         self.bytes
     }
 
-    /// An equal sum.
+    /// Returns an equal sum.
     pub fn copy(&self) -> Self
         ensures { result ≡ self.now }
     {
@@ -41,7 +41,7 @@ impl ByteSum {
         }
     }
 
-    /// The 64 hexadecimal digits of the digest, letters in lower case.
+    /// Returns the 64 hexadecimal digits of the digest, with letters in lower case.
     pub fn digest(&self) -> &[u8]
         ensures { result.now ≡ self.now.digest }
     {
@@ -49,7 +49,7 @@ impl ByteSum {
     }
 }
 
-/// The 64 hexadecimal digits of 32 bytes, letters in lower case.
+/// Returns the 64 hexadecimal digits of `bytes`, with letters in lower case.
 fn hex_digits(bytes: &[u8; 32]) -> [u8; 64]
     ensures { result ≡ encode_lower bytes.now }
 {
@@ -58,7 +58,7 @@ fn hex_digits(bytes: &[u8; 32]) -> [u8; 64]
     digits
 }
 
-/// The 64 hexadecimal digits of the SHA-256 digest of bytes, letters in lower case.
+/// Returns the 64 hexadecimal digits of the SHA-256 digest of `bytes`, with letters in lower case.
 #[tactic(auto, unfolding(crate::specs::Sums::digest_of))]
 pub fn hex_digest(bytes: &[u8]) -> [u8; 64]
     ensures { result ≡ digest_of bytes.now }
@@ -66,7 +66,7 @@ pub fn hex_digest(bytes: &[u8]) -> [u8; 64]
     hex_digits(&Sha256::digest(bytes))
 }
 
-/// The sum of bytes.
+/// Returns the sum of `bytes`.
 pub fn sum_of(bytes: &[u8]) -> ByteSum
     ensures { result ≡ sum_of_bytes bytes.now }
 {
@@ -84,7 +84,7 @@ pub struct RunningSum {
 }
 
 impl RunningSum {
-    /// The sum of no bytes.
+    /// Creates the sum of no bytes.
     pub fn new() -> Self
         ensures { WasGiven result [] }
     {
@@ -94,7 +94,7 @@ impl RunningSum {
         }
     }
 
-    /// Gives the next piece.
+    /// Takes in the next `piece` of the bytes.
     pub fn update(&mut self, piece: &[u8])
         ensures { (bytes : List ℕ) → WasGiven self.old bytes → WasGiven self.new (bytes ++ piece.now) }
     {
@@ -102,7 +102,7 @@ impl RunningSum {
         self.hasher.update(piece);
     }
 
-    /// The sum of all bytes that were given.
+    /// Returns the sum of all bytes that were given.
     #[tactic(auto, unfolding(crate::specs::Sums::digest_of))]
     pub fn finish(self) -> ByteSum
         ensures { (bytes : List ℕ) → WasGiven self bytes → result ≡ sum_of_bytes bytes }

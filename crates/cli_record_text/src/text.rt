@@ -13,7 +13,7 @@ use crate::sums::ByteSum;
 use field_lines::push_number;
 use std::alloc::{AllocError, Global};
 
-/// Appends the word of a file that is read.
+/// Appends the word for a file that is read.
 fn push_file_word(out: &mut Vec<u8>, file: ReadFile) -> Result<(), AllocError>
     ensures { OnOk result (out.new.items ≡ out.old.items ++ word_of_file file) }
 {
@@ -30,7 +30,7 @@ fn push_file_word(out: &mut Vec<u8>, file: ReadFile) -> Result<(), AllocError>
     }
 }
 
-/// Appends the word of an option.
+/// Appends the word for `option`.
 fn push_option_word(out: &mut Vec<u8>, option: StoreOption) -> Result<(), AllocError>
     ensures { OnOk result (out.new.items ≡ out.old.items ++ word_of_option option) }
 {
@@ -43,7 +43,7 @@ fn push_option_word(out: &mut Vec<u8>, option: StoreOption) -> Result<(), AllocE
     }
 }
 
-/// Appends a count of bytes, their digest and a name, with a blank before each.
+/// Appends the count of bytes of `sum`, their digest and `name`, with a blank before each.
 #[tactic(auto, unfolding(crate::specs::Record::named_sum))]
 fn push_named_sum(out: &mut Vec<u8>, sum: &ByteSum, name: &[u8]) -> Result<(), AllocError>
     ensures { OnOk result (out.new.items ≡ out.old.items ++ named_sum sum.now name.now) }
@@ -66,7 +66,7 @@ fn push_left(out: &mut Vec<u8>, left: bool) -> Result<(), AllocError>
     Ok(())
 }
 
-/// Appends a word and some bytes on a line.
+/// Appends a line with `word` and then `bytes` with their escapes.
 #[tactic(auto, unfolding(crate::specs::Record::line_after))]
 fn push_line(out: &mut Vec<u8>, word: &[u8], bytes: &[u8]) -> Result<(), AllocError>
     ensures { OnOk result (out.new.items ≡ out.old.items ++ line_after word.now bytes.now) }
@@ -99,7 +99,7 @@ fn push_stored(out: &mut Vec<u8>, stored: &FileStored) -> Result<(), AllocError>
     out.extend_from_slice(b"\n")
 }
 
-/// Appends the lines of words.
+/// Appends a line for each of `words`.
 fn push_words(out: &mut Vec<u8>, words: &[String]) -> Result<(), AllocError>
     ensures { OnOk result (out.new.items ≡ out.old.items ++ flat_map (λ w. word_line (string_bytes w)) words.now) }
 {
@@ -109,7 +109,7 @@ fn push_words(out: &mut Vec<u8>, words: &[String]) -> Result<(), AllocError>
     Ok(())
 }
 
-/// Appends the lines of files that were read.
+/// Appends a line for each file that was read.
 fn push_reads(out: &mut Vec<u8>, reads: &[FileRead]) -> Result<(), AllocError>
     ensures { OnOk result (out.new.items ≡ out.old.items ++ flat_map read_line reads.now) }
 {
@@ -119,7 +119,7 @@ fn push_reads(out: &mut Vec<u8>, reads: &[FileRead]) -> Result<(), AllocError>
     Ok(())
 }
 
-/// Appends the lines of files that were stored.
+/// Appends a line for each file that was stored.
 fn push_stores(out: &mut Vec<u8>, stores: &[FileStored]) -> Result<(), AllocError>
     ensures { OnOk result (out.new.items ≡ out.old.items ++ flat_map stored_line stores.now) }
 {
@@ -129,7 +129,7 @@ fn push_stores(out: &mut Vec<u8>, stores: &[FileStored]) -> Result<(), AllocErro
     Ok(())
 }
 
-/// Appends the line of a status.
+/// Appends the line of `status`.
 #[tactic(auto, unfolding(crate::specs::Record::status_line))]
 fn push_status(out: &mut Vec<u8>, status: u8) -> Result<(), AllocError>
     ensures { OnOk result (out.new.items ≡ out.old.items ++ status_line status) }
@@ -139,7 +139,7 @@ fn push_status(out: &mut Vec<u8>, status: u8) -> Result<(), AllocError>
     out.extend_from_slice(b"\n")
 }
 
-/// Appends what the text is, and the version.
+/// Appends the line that says what the text is, and that of the version.
 #[tactic(auto, unfolding(crate::specs::Record::head_lines))]
 fn push_head(out: &mut Vec<u8>, version: &[u8]) -> Result<(), AllocError>
     ensures { OnOk result (out.new.items ≡ out.old.items ++ head_lines version.now) }
@@ -148,7 +148,7 @@ fn push_head(out: &mut Vec<u8>, version: &[u8]) -> Result<(), AllocError>
     push_line(out, b"version ", version)
 }
 
-/// Appends what the text is, the version and the words.
+/// Appends the line that says what the text is, that of the version, and those of the words.
 fn push_asked(out: &mut Vec<u8>, run: &Run) -> Result<(), AllocError>
     ensures { OnOk result (out.new.items ≡ out.old.items ++ asked_lines run.now) }
 {
@@ -156,7 +156,7 @@ fn push_asked(out: &mut Vec<u8>, run: &Run) -> Result<(), AllocError>
     push_words(out, &run.words)
 }
 
-/// Appends the lines of files.
+/// Appends the lines of the files that were read, and then those of the files that were stored.
 fn push_files(out: &mut Vec<u8>, run: &Run) -> Result<(), AllocError>
     ensures { OnOk result (out.new.items ≡ out.old.items ++ file_lines run.now) }
 {
@@ -164,7 +164,7 @@ fn push_files(out: &mut Vec<u8>, run: &Run) -> Result<(), AllocError>
     push_stores(out, &run.stores)
 }
 
-/// Appends the status and the answer.
+/// Appends the lines of the status and of the answer.
 fn push_end(out: &mut Vec<u8>, run: &Run) -> Result<(), AllocError>
     ensures { OnOk result (out.new.items ≡ out.old.items ++ end_lines run.now) }
 {
@@ -172,15 +172,15 @@ fn push_end(out: &mut Vec<u8>, run: &Run) -> Result<(), AllocError>
     push_line(out, b"answer ", &run.answer)
 }
 
-/// The record of a run: what the text is, the version, a line for each word, a line for each file that was read and for
-/// each that was stored, the status and the answer.
+/// Returns the record of `run`. Its first two lines say what the text is, and give the version. Then each word, each
+/// file that was read and each that was stored has a line. The last two lines are the status and the answer.
 ///
-/// In the version, a word, a name and the answer, a backslash and each byte below 0x20 or above 0x7E stand as `\xHH`,
-/// with letters in upper case. The letters of a digest are in lower case.
+/// In the version, a word, a name and the answer, some bytes are written as `\xHH`, with letters in upper case. These
+/// are a backslash, and each byte below 0x20 or above 0x7E. The letters of a digest are in lower case.
 ///
 /// # Errors
 ///
-/// `AllocError` where a growth was refused.
+/// Returns `AllocError` if a growth was refused.
 pub fn record_text(alloc: Global, run: &Run) -> Result<Vec<u8>, AllocError>
     ensures { IfOk result (λ v. v.items ≡ text_of run.now) }
 {

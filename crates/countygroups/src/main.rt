@@ -1,5 +1,5 @@
-//! The program `countygroups`: its words, the machine's files and standard output; without any word, a case
-//! from standard input. What helps a person stands on standard error.
+//! The program `countygroups`. It runs the command that its words give over the machine's files, and writes to standard
+//! output. Without any word, it runs a case from standard input. What helps a person is written to standard error.
 #![tactic(auto)]
 
 mod progress;
@@ -14,7 +14,7 @@ use std::io::{ErrorKind, IsTerminal};
 use std::process::ExitCode;
 use std::{env, io};
 
-/// Says that a case is awaited, where there is no word and standard input is a terminal.
+/// Says that a case is awaited, if there is no word and standard input is a terminal.
 fn announce(rt: &HostRuntime, words: &[&str]) {
     if words.is_empty() && rt.stdin().is_terminal() {
         let _ = eprintln!(rt;
@@ -23,7 +23,7 @@ fn announce(rt: &HostRuntime, words: &[&str]) {
     }
 }
 
-/// Writes what a person is told on standard error.
+/// Writes to standard error what a person is told. If memory for the text was refused, says so.
 fn tell(rt: &HostRuntime, text: Result<String, AllocError>) {
     match text {
         Ok(text) => {
@@ -46,7 +46,7 @@ struct Ran {
     reason: Option<ErrorKind>,
 }
 
-/// Runs the words over the machine's files, or a case from standard input where there is none.
+/// Runs `words` over the machine's files, or a case from standard input if there are no words.
 fn run(rt: &HostRuntime, words: &[&str], out: &mut impl Sink) -> Ran {
     let mut shelf = FileShelf::new(rt);
     let mut input = Reading::new(rt.reader());
@@ -67,8 +67,8 @@ fn run(rt: &HostRuntime, words: &[&str], out: &mut impl Sink) -> Ran {
     }
 }
 
-/// Runs the words, with the answer on standard output; tells on standard error what is amiss before it, and how it
-/// ended.
+/// Runs `words`, and writes the answer to standard output. Returns the exit status. What is amiss before the run and
+/// how the run ended are told on standard error.
 fn run_and_tell(rt: &HostRuntime, words: &[&str]) -> u8 {
     announce(rt, words);
     tell(rt, explain_before(rt, words));
@@ -85,7 +85,7 @@ fn run_and_tell(rt: &HostRuntime, words: &[&str]) -> u8 {
     ran.status
 }
 
-/// Runs the words after the program's name, or a case where there is none.
+/// Runs the words after the program's name, or a case if there are none. Returns the exit status.
 fn answer(rt: &HostRuntime) -> io::Result<u8> {
     let all: Vec<String> = env::args(rt)?.collect(rt.alloc())?;
     let words: Vec<&str> = all

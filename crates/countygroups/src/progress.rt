@@ -1,4 +1,4 @@
-//! How far a search is, told while it runs.
+//! How far a search is, told while the search runs.
 
 use branch_bound::Watcher;
 use county_codes::Grouping;
@@ -13,10 +13,11 @@ const PAUSE: u64 = 1;
 /// The greatest size whose number of groups is told, so that a line fits a terminal.
 const SHOWN: usize = 16;
 
-/// Goes to the beginning of the terminal's line, and clears the line.
+/// What goes to the beginning of the terminal's line and clears the line.
 const CLEAR: &str = "\r\x1b[K";
 
-/// Tells on standard error how far a search is, about once a second. If standard error is no terminal, nothing is told.
+/// A watcher that tells on standard error how far a search is, about once a second. If standard error is no terminal,
+/// it tells nothing.
 #[derive(Drop)]
 pub(crate) struct Progress<'a> {
     rt: &'a HostRuntime,
@@ -26,8 +27,8 @@ pub(crate) struct Progress<'a> {
     round: Option<String>,
 }
 
-/// The numbers of groups by size, from one county on. If some group is larger than what is told, two points stand for
-/// it.
+/// Returns the number of groups of each size, from one county on. Two points at the end stand for groups of more than
+/// `SHOWN` counties.
 fn counts(alloc: Global, grouping: &Grouping) -> Result<String, AllocError> {
     let mut text = String::new(alloc);
     let mut left = grouping.groups.len();
@@ -49,14 +50,14 @@ fn counts(alloc: Global, grouping: &Grouping) -> Result<String, AllocError> {
     Ok(text)
 }
 
-/// The round, and the counts of the best grouping so far.
+/// Returns the text of a round, with the counts of the best grouping so far.
 fn round_text(alloc: Global, limit: u16, target: &Grouping) -> Result<String, AllocError> {
     let counts = counts(alloc, target)?;
     format!(in alloc; "groups of up to {limit} counties, best counts so far{counts}")
 }
 
 impl<'a> Progress<'a> {
-    /// Nothing is told yet.
+    /// Creates a watcher that has told nothing yet.
     pub(crate) fn new(rt: &'a HostRuntime) -> Progress<'a> {
         Progress {
             rt,
@@ -67,7 +68,8 @@ impl<'a> Progress<'a> {
         }
     }
 
-    /// Whether a line is due: a second has passed since the last one, or since the first state.
+    /// Returns whether a line is due: at least `PAUSE` seconds have passed since the last one, or since the first
+    /// state.
     fn is_due(&mut self) -> bool {
         let Ok(now) = Instant::now(self.rt) else {
             return false;
