@@ -12,7 +12,7 @@ use county_codes::CountyCode;
 use std::alloc::{AllocError, Global};
 use std::collections::BTreeSet;
 
-/// Cuts the pair of two different codes from the set, where it is there. The same code twice cuts nothing.
+/// Cuts the pair of the codes `a` and `b` from the set, if it is there. The same code twice cuts nothing.
 fn cut_pair(pairs: &mut BTreeSet<(CountyCode, CountyCode)>, a: CountyCode, b: CountyCode)
     ensures { (x y : ℕ) → contains by_codes pairs.new (x, y) ≡ (not (nat_lt x y && names x y (a, b))
         && contains by_codes pairs.old (x, y)) }
@@ -38,16 +38,16 @@ fn apply(linked: &mut BTreeSet<(CountyCode, CountyCode)>, link: &Link) -> Result
     }
 }
 
-/// The pairs after links that add or cut some: the lesser code first, ascending, each once.
+/// Returns the pairs after `links` that add or cut some. They are ascending, each once and with the lesser code first.
 ///
-/// The last link that names two counties, in either order, decides on them. A link of a county with itself
-/// does nothing, and neither does a cut of a pair that isn't there. `pairs` may come in any order, either
-/// way round, and more than once; a pair of a county with itself is dropped. A pair that a link adds stays
-/// even where one of its counties is in no list, for the problem to refuse.
+/// The last link that names two counties, in either order, decides on them. A link of a county with itself does
+/// nothing, and neither does a cut of a pair that isn't there. `pairs` may come in any order, either way round, and
+/// more than once. A pair of a county with itself is dropped. A pair that a link adds stays even if one of its counties
+/// is in no list, for the problem to refuse.
 ///
 /// # Errors
 ///
-/// `AllocError` where a growth was refused.
+/// Returns `AllocError` if memory was refused.
 pub fn apply_links(
     alloc: Global,
     pairs: &[(CountyCode, CountyCode)],

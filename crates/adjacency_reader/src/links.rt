@@ -31,7 +31,7 @@ pub struct Link {
     pub b: CountyCode,
 }
 
-/// The sign that a field is.
+/// Returns the sign that the `field` is, or `None` if it is neither `+` nor `-`.
 fn sign_in(field: &[u8]) -> Option<Sign>
     ensures { result ≡ sign_of field.now }
 {
@@ -42,7 +42,7 @@ fn sign_in(field: &[u8]) -> Option<Sign>
     }
 }
 
-/// The link on a line.
+/// Returns the link on the `line`, or the first kind of fault that the line has.
 #[tactic(auto, unfolding(crate::specs::Links::link_on))]
 fn link_in(line: &[u8]) -> Result<Link, CodeLineKind>
     ensures { result ≡ link_on line.now }
@@ -63,7 +63,7 @@ fn link_in(line: &[u8]) -> Result<Link, CodeLineKind>
     Ok(Link { sign, a, b })
 }
 
-/// Adds the link on a line to those of the lines before.
+/// Appends the link on the `line` to those of the lines before.
 fn add_link(links: &mut Vec<Link>, line: &[u8]) -> Result<(), CodeLineKind>
     ensures { AddsUnless (λ k. k ≡ Memory) links.old.items (link_on line.now) result links.new.items }
 {
@@ -72,17 +72,20 @@ fn add_link(links: &mut Vec<Link>, line: &[u8]) -> Result<(), CodeLineKind>
     Ok(())
 }
 
-/// The links of a text, in order: pairs that a state adds to the adjacent counties or cuts from them, as a
-/// bridge or open water asks. The text is a cut text (`Lines` of `field_lines`), and a line is cut into
-/// fields at each pipe: field 1 is `+` or `-`, and fields 2 and 3 are codes of five digits. The format is
-/// this project's own. What links are for is the rule that a group of counties is contiguous (North Carolina
-/// Constitution, art. II, secs. 3 and 5; *Stephenson v. Bartlett*, 355 N.C. 354 (2002), 357 N.C. 301 (2003)).
+/// Reads the links of a text, in order. These are pairs that a state adds to the adjacent counties or cuts from them,
+/// as a bridge or open water asks.
+///
+/// The text is a cut text (`Lines` of `field_lines`), and a line is cut into fields at each pipe. Field 1 is `+` or
+/// `-`, and fields 2 and 3 are codes of five digits. The format is this project's own.
+///
+/// Links serve the rule that a group of counties is contiguous (North Carolina Constitution, art. II, secs. 3 and 5;
+/// *Stephenson v. Bartlett*, 355 N.C. 354 (2002), 357 N.C. 301 (2003)).
 ///
 /// # Errors
 ///
-/// The first line at fault answers, on it the first kind: `TooFewFields` where it has fewer than 3 fields,
-/// then `BadSign`, then `BadCode`. A line that can't be read (`Lower`) answers after the lines before it,
-/// and `Memory` in the place of any answer.
+/// Returns the fault of the first line that has one, and if it has several, the first kind: `TooFewFields` if the line
+/// has fewer than 3 fields, then `BadSign`, then `BadCode`. Returns `Lower` for a line that can't be read, after the
+/// faults of the lines before it. `Memory` may come in the place of any answer.
 pub fn read_links(alloc: Global, bytes: &[u8]) -> Result<Vec<Link>, CodeLineFault>
     ensures value { GivesUnless IsCodeLineMemory (λ v. v.items) result (link_list bytes.now) }
 {

@@ -16,14 +16,14 @@ use grouping_reader::{CodeLineFault, CodeLineKind};
 use std::alloc::{AllocError, Global};
 use std::collections::BTreeSet;
 
-/// Two codes, the lesser first.
+/// Returns the two codes, the lesser first.
 pub(crate) fn in_order(a: CountyCode, b: CountyCode) -> (CountyCode, CountyCode)
     ensures { result ≡ in_order a b }
 {
     if a < b { (a, b) } else { (b, a) }
 }
 
-/// The codes as a set.
+/// Returns the `codes` as a set.
 fn code_set(alloc: Global, codes: &[CountyCode]) -> Result<BTreeSet<CountyCode>, AllocError>
     ensures { IfOk result (λ s. (c : ℕ) → set_contains nat_cmp s c ≡ contains codes.now c) }
 {
@@ -34,14 +34,14 @@ fn code_set(alloc: Global, codes: &[CountyCode]) -> Result<BTreeSet<CountyCode>,
     Ok(set)
 }
 
-/// Whether both codes of a row are in the set.
+/// Returns whether both codes of the `row` are in the set.
 fn has_both(listed: &BTreeSet<CountyCode>, row: (CountyCode, CountyCode)) -> bool
     ensures { result ≡ (set_contains nat_cmp listed.now row.0 && set_contains nat_cmp listed.now row.1) }
 {
     listed.contains(&row.0) && listed.contains(&row.1)
 }
 
-/// The rows of two codes in the set.
+/// Returns the `rows` whose codes are both in the set, in their order.
 fn listed_rows(
     alloc: Global,
     listed: &BTreeSet<CountyCode>,
@@ -59,7 +59,7 @@ fn listed_rows(
     Ok(kept)
 }
 
-/// Adds the pair of two different codes to the set, the lesser first. The same code twice adds nothing.
+/// Adds the pair of the codes `a` and `b` to the set, the lesser first. The same code twice adds nothing.
 pub(crate) fn add_pair(
     pairs: &mut BTreeSet<(CountyCode, CountyCode)>,
     a: CountyCode,
@@ -74,7 +74,7 @@ pub(crate) fn add_pair(
     Ok(())
 }
 
-/// The pairs of two different codes that rows name in either order, the lesser code first.
+/// Returns the pairs of two different codes that the `rows` name in either order, the lesser code first.
 pub(crate) fn pair_set(
     alloc: Global,
     rows: &[(CountyCode, CountyCode)],
@@ -88,7 +88,7 @@ pub(crate) fn pair_set(
     Ok(pairs)
 }
 
-/// The pairs of a set, ascending.
+/// Returns the pairs of a set, ascending.
 pub(crate) fn list(
     alloc: Global,
     pairs: &BTreeSet<(CountyCode, CountyCode)>,
@@ -99,7 +99,8 @@ pub(crate) fn list(
     pairs.iter().copied().collect(alloc)
 }
 
-/// The pairs of two listed counties that rows name.
+/// Returns the pairs of two different counties of the list that the `rows` name. They are ascending, each once and with
+/// the lesser code first.
 fn pairs_among(
     alloc: Global,
     counties: &[CountyCode],
@@ -113,19 +114,22 @@ fn pairs_among(
     list(alloc, &pairs)
 }
 
-/// The pairs of listed counties that meet, by the Census Bureau's county adjacency file: the lesser code
-/// first, ascending, each once. The file is a cut text (`Lines` of `field_lines`), and a line is cut into
-/// fields at each pipe: field 2 is the county's GEOID, and field 4 its neighbour's. Either direction
-/// counts. A row of a county outside the list, or of a county beside itself, is ignored.
+/// Reads the pairs of listed counties that meet from the Census Bureau's county adjacency file. They are ascending,
+/// each once and with the lesser code first.
 ///
-/// The first line that isn't blank is a header, and dropped, where its second field is missing or isn't
-/// five digits.
+/// The file is a cut text (`Lines` of `field_lines`), and a line is cut into fields at each pipe. Field 2 is the
+/// county's GEOID, and field 4 its neighbour's. Either direction counts. A row of a county outside the list, or of a
+/// county beside itself, is ignored.
+///
+/// The first line that isn't blank is a header if its second field is missing or isn't five digits. A header is
+/// dropped.
 ///
 /// # Errors
 ///
-/// The first line at fault answers, on it the first kind: `TooFewFields` where it has fewer than 4 fields,
-/// then `BadCode` where field 2 or field 4 isn't five digits, whatever counties it names. A line that can't
-/// be read (`Lower`) answers after the lines before it, and `Memory` in the place of any answer.
+/// Returns the fault of the first line that has one, and if it has several, the first kind: `TooFewFields` if the line
+/// has fewer than 4 fields, then `BadCode` if field 2 or field 4 isn't five digits, whatever counties the line names.
+/// Returns `Lower` for a line that can't be read, after the faults of the lines before it. `Memory` may come in the
+/// place of any answer.
 pub fn read_pairs(
     alloc: Global,
     bytes: &[u8],

@@ -11,7 +11,7 @@ use field_lines::{Lines, field_at, five_digits};
 use grouping_reader::{CodeLineFault, CodeLineKind, DELIMITER, code_in};
 use std::alloc::Global;
 
-/// The county and its neighbour on a line.
+/// Returns the county and its neighbour on the `line`, or the first kind of fault that the line has.
 #[tactic(auto, unfolding(crate::specs::Rows::row_on))]
 fn row_in(line: &[u8]) -> Result<(CountyCode, CountyCode), CodeLineKind>
     ensures { result ≡ row_on line.now }
@@ -28,7 +28,7 @@ fn row_in(line: &[u8]) -> Result<(CountyCode, CountyCode), CodeLineKind>
     Ok((county, neighbour))
 }
 
-/// Whether the second field of a line is missing or isn't five digits.
+/// Returns whether the second field of the `line` is missing or isn't five digits.
 fn is_header(line: &[u8]) -> bool
     ensures { result ≡ is_header line.now }
 {
@@ -38,7 +38,7 @@ fn is_header(line: &[u8]) -> bool
     }
 }
 
-/// Adds the row on a line to those of the lines before.
+/// Appends the row on the `line` to those of the lines before.
 fn add_row(rows: &mut Vec<(CountyCode, CountyCode)>, line: &[u8]) -> Result<(), CodeLineKind>
     ensures { AddsUnless (λ k. k ≡ Memory) rows.old.items (row_on line.now) result rows.new.items }
 {
@@ -47,7 +47,7 @@ fn add_row(rows: &mut Vec<(CountyCode, CountyCode)>, line: &[u8]) -> Result<(), 
     Ok(())
 }
 
-/// The rows of an adjacency file in their order, or its first fault.
+/// Reads the rows of an adjacency file in their order, or returns its first fault.
 pub(crate) fn read_rows(
     alloc: Global,
     bytes: &[u8],

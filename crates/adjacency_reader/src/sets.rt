@@ -17,7 +17,7 @@ const LEAST_SEATS: u16 = 1;
 /// The greatest number of seats of a withdrawn set.
 const GREATEST_SEATS: u16 = 1_000;
 
-/// The withdrawn set on a line.
+/// Returns the withdrawn set on the `line`, or the kind of the line's first fault.
 fn set_in(alloc: Global, line: &[u8]) -> Result<Withdrawn, CodeLineKind>
     ensures { GivesUnless (λ k. k ≡ Memory) (λ w. w) result (set_on line.now) }
 {
@@ -25,7 +25,7 @@ fn set_in(alloc: Global, line: &[u8]) -> Result<Withdrawn, CodeLineKind>
     Ok(Withdrawn { seats, codes })
 }
 
-/// Adds the withdrawn set on a line to those of the lines before.
+/// Appends the withdrawn set on the `line` to those of the lines before.
 fn add_set(alloc: Global, sets: &mut Vec<Withdrawn>, line: &[u8]) -> Result<(), CodeLineKind>
     ensures { AddsUnless (λ k. k ≡ Memory) sets.old.items (set_on line.now) result sets.new.items }
 {
@@ -34,18 +34,20 @@ fn add_set(alloc: Global, sets: &mut Vec<Withdrawn>, line: &[u8]) -> Result<(), 
     Ok(())
 }
 
-/// The withdrawn sets of a text, in order: counties that were taken out beforehand, with their seats. The
-/// text is a cut text (`Lines` of `field_lines`), and a line is cut into fields at each pipe: field 1 is
-/// the number of seats, 1 to 1,000, and each field from the second on is a code of five digits. The format is
-/// this project's own. That such counties are taken out first is the rule of *Stephenson v. Bartlett*, 355 N.C.
-/// 354 (2002) and 357 N.C. 301 (2003), on the North Carolina Constitution, art. II, secs. 2 to 5: the districts
-/// that the Voting Rights Act requires are formed before the others.
+/// Reads the withdrawn sets of a text, in order. These are counties that were taken out beforehand, with their seats.
+///
+/// The text is a cut text (`Lines` of `field_lines`), and a line is cut into fields at each pipe. Field 1 is the number
+/// of seats, 1 to 1,000, and each field from the second on is a code of five digits. The format is this project's own.
+///
+/// Taking such counties out first is the rule of *Stephenson v. Bartlett*, 355 N.C. 354 (2002) and 357 N.C. 301 (2003),
+/// on the North Carolina Constitution, art. II, secs. 2 to 5. By this rule, the districts that the Voting Rights Act
+/// requires are formed before the others.
 ///
 /// # Errors
 ///
-/// The first line at fault answers, on it the first kind: `TooFewFields` where it has fewer than 2 fields,
-/// then `BadSeats`, then `BadCode`. A line that can't be read (`Lower`) answers after the lines before it,
-/// and `Memory` in the place of any answer.
+/// Returns the fault of the first line that has one, and if it has several, the first kind: `TooFewFields` if the line
+/// has fewer than 2 fields, then `BadSeats`, then `BadCode`. Returns `Lower` for a line that can't be read, after the
+/// faults of the lines before it. `Memory` may come in the place of any answer.
 pub fn read_withdrawn(alloc: Global, bytes: &[u8]) -> Result<Vec<Withdrawn>, CodeLineFault>
     ensures value { GivesUnless IsCodeLineMemory (λ v. v.items) result (withdrawn_list bytes.now) }
 {

@@ -9,7 +9,7 @@ use place_sets::CountySet;
 use std::alloc::{AllocError, Global};
 
 /// The county graph of a problem: the problem by the places of an order, and for each place the set of the places
-/// adjacent to it. It is made once for an order, and whatever grows or fills a set of places looks at it.
+/// adjacent to it. It is made once for an order. Whatever grows or fills a set of places looks at it.
 #[derive(Drop)]
 pub struct CountyGraph<'a, 'b, C> {
     /// Where memory comes from.
@@ -21,7 +21,7 @@ pub struct CountyGraph<'a, 'b, C> {
 }
 
 impl<'a, 'b, C: CountySet> CountyGraph<'a, 'b, C> {
-    /// The county graph of the problem by places. An error comes where memory was refused.
+    /// Builds the county graph of a problem by the places of an order. Returns an error if memory was refused.
     pub fn build(
         alloc: Global,
         ordered: &'a Ordered<'b>,

@@ -16,7 +16,7 @@ use county_problem::Steps;
 use place_sets::CountySet;
 use std::alloc::AllocError;
 
-/// The place of the front that the test names, if the set may have one more place.
+/// Returns the place of the front that the `test` names, or `None` if there is none or the set may have no more places.
 fn next_place<C: CountySet, T: GrowthTest<C>>(
     input: &GrowthInput<C>,
     test: &T,
@@ -35,7 +35,7 @@ fn next_place<C: CountySet, T: GrowthTest<C>>(
     test.next_place(input.graph.ordered, &growth.front)
 }
 
-/// Takes a step.
+/// Takes a step, or returns `StepLimit` if none is left.
 fn take_step(steps: &mut Steps) -> Result<(), Stop>
     ensures limit { steps.new.limit ≡ steps.old.limit }
     ensures used { MatchResult
@@ -50,7 +50,7 @@ fn take_step(steps: &mut Steps) -> Result<(), Stop>
     }
 }
 
-/// Puts the set of a growth that grows no further behind the groups if it is kept.
+/// Appends to `groups` the set of a `growth` that grows no further, if it is kept.
 fn put_if_kept<C: CountySet, T: GrowthTest<C>>(
     input: &GrowthInput<C>,
     test: &T,
@@ -84,7 +84,7 @@ fn put_if_kept<C: CountySet, T: GrowthTest<C>>(
     Ok(())
 }
 
-/// Ends a growth whose set grows no further: takes a step, and puts the set behind the groups if it is kept.
+/// Ends a `growth` whose set grows no further. This takes a step, and appends the set to `groups` if it is kept.
 fn end_growth<C: CountySet, T: GrowthTest<C>>(
     input: &GrowthInput<C>,
     test: &T,
@@ -122,7 +122,7 @@ fn end_growth<C: CountySet, T: GrowthTest<C>>(
     Ok(())
 }
 
-/// Passes over a growth: takes a step if the test counts it.
+/// Passes over a growth. This takes a step if the test counts it.
 fn pass_over<C: CountySet, T: GrowthTest<C>>(
     input: &GrowthInput<C>,
     growth: &Growth<C>,
@@ -142,7 +142,7 @@ fn pass_over<C: CountySet, T: GrowthTest<C>>(
     Ok(())
 }
 
-/// The growth in which a place of the front joins the set.
+/// Returns the growth in which a `place` of the front joins the set.
 fn with_place<C: CountySet>(
     input: &GrowthInput<C>,
     growth: &Growth<C>,
@@ -170,7 +170,7 @@ fn with_place<C: CountySet>(
     })
 }
 
-/// The growth in which a place is no longer free.
+/// Returns the growth in which a `place` is no longer free.
 fn without_place<C: CountySet>(growth: Growth<C>, place: u16) -> Growth<C>
     requires { place < C.PLACES }
     ensures set { result.set ≡ growth.set }
@@ -186,9 +186,11 @@ fn without_place<C: CountySet>(growth: Growth<C>, place: u16) -> Growth<C>
     }
 }
 
-/// Puts the connected sets that have all of a set, else only free places, and that are kept, behind the groups. The
-/// front has the free places that are adjacent to the set. A step is taken for each set that grows no further, and if
-/// the test counts them, for each set that is passed over.
+/// Appends to `groups` the kept connected sets that have all places of the growth's set, and otherwise only free
+/// places. The front of the `growth` has the free places that are adjacent to the set.
+///
+/// A step is taken for each set that grows no further. If the test counts them, a step is also taken for each set that
+/// is passed over.
 pub fn grow<C: CountySet, T: GrowthTest<C>>(
     input: &GrowthInput<C>,
     test: &T,

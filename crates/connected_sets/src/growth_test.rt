@@ -12,7 +12,7 @@ use county_problem::Ordered;
 use place_sets::CountySet;
 use std::alloc::AllocError;
 
-/// The test of a growth. It says which sets that grow no further are kept, and which growths are passed over since no
+/// The test of a growth. It says which sets that grow no further are kept, and which growths are passed over because no
 /// kept set comes of them.
 pub trait GrowthTest<C: CountySet> {
     /// Whether a growth that is passed over takes a step.
@@ -24,7 +24,7 @@ pub trait GrowthTest<C: CountySet> {
     /// What the test knows while certain places are free.
     ghost knows: { Self → Problem → ℕ → ℕ → (ℕ → Bool) → Type 0 };
 
-    /// Whether a growth is passed over. No kept set comes of one that is.
+    /// Returns whether a `growth` is passed over. No kept set comes of one that is.
     fn is_passed_over(&self, input: &GrowthInput<C>, growth: &Growth<C>) -> Result<bool, AllocError>
         requires graph { IsGraph C.test C.PLACES input.now.graph.now }
         requires growth { IsSoundGrowth C C.test input.now growth.now }
@@ -36,12 +36,12 @@ pub trait GrowthTest<C: CountySet> {
             → decides self.now (problem_in input.now) (places_in input.now) input.now.limit keep
             → AreKept (problem_in input.now) (places_in input.now) input.now.limit keep (C.test growth.now.set) (C.test growth.now.free) []) };
 
-    /// The place of the front that joins the set next, if there is one.
+    /// Returns the place of the `front` that joins the set next, or `None` if there is none.
     fn next_place(&self, ordered: &Ordered, front: &C) -> Option<u16>
         requires below { (x : ℕ) → C.test front.now x ≡ true → x < length ordered.now.order }
         ensures place { MatchOption result ((x : ℕ) → C.test front.now x ≡ false) (λ c. C.test front.now c ≡ true) };
 
-    /// Whether the set of a growth that grows no further is kept.
+    /// Returns whether the set of a `growth` that grows no further is kept.
     fn is_kept(&self, input: &GrowthInput<C>, growth: &Growth<C>) -> Result<bool, AllocError>
         requires graph { IsGraph C.test C.PLACES input.now.graph.now }
         requires growth { IsSoundGrowth C C.test input.now growth.now }
@@ -53,7 +53,7 @@ pub trait GrowthTest<C: CountySet> {
             → decides self.now (problem_in input.now) (places_in input.now) input.now.limit keep
             → keep (places_of (places_in input.now) (C.test growth.now.set)) ≡ kept) };
 
-    /// Where fewer places are free, the test knows as much.
+    /// If fewer places are free, the test still knows as much.
     ghost shrinks: { (t : Self) (p : Problem) (n limit : ℕ) (free less : ℕ → Bool)
         → ((x : ℕ) → less x ≡ true → free x ≡ true)
         → knows t p n limit free

@@ -2,12 +2,12 @@
 
 use crate::county_graph::CountyGraph;
 
-/// What a growth looks at: the county graph, and how many places a set may have.
+/// What a growth looks at: the county graph, and the greatest number of places that a set may have.
 #[derive(Drop)]
 pub struct GrowthInput<'g, 'a, 'b, C> {
     /// The county graph.
     pub graph: &'g CountyGraph<'a, 'b, C>,
-    /// How many places a set may have.
+    /// The greatest number of places that a set may have.
     pub limit: u16,
 }
 

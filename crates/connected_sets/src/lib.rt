@@ -1,5 +1,5 @@
 //! The county graph by the places of an order, the connected part of a region around a place, all connected parts of a
-//! region, and the growth of connected sets from a place. Any form of sets of places serves.
+//! region, and the growth of connected sets from a place. They serve any form of sets of places.
 //!
 //! `CountyGraph::build` makes the graph once for an order. `part_around`, `parts_of` and `grow` look at it.
 //!

@@ -7,8 +7,8 @@ use place_sets::CountySet;
 use smallvec::SmallVec;
 use std::alloc::{AllocError, Global};
 
-/// The places of a set, ascending, as a take or a group names its counties. Most groups have at most eight
-/// counties, and for these no memory is taken.
+/// Returns the places of a `set` as a list, ascending, as a take or a group names its counties. Most groups have at
+/// most eight counties, and for these no memory is taken.
 pub fn place_list<C: CountySet>(
     alloc: Global,
     places: u16,

@@ -9,8 +9,8 @@ use crate::county_graph::CountyGraph;
 use place_sets::CountySet;
 use std::alloc::AllocError;
 
-/// The connected part of a region around one of its places, and what is left of the region. Each place of the
-/// part is taken from the front once.
+/// Returns the connected part of a `region` around `place`, one of its places, and what is left of the region. Each
+/// place of the part is taken from the front once.
 pub fn part_around<C: CountySet>(
     graph: &CountyGraph<C>,
     region: &C,

@@ -10,8 +10,8 @@ use crate::part::part_around;
 use place_sets::CountySet;
 use std::alloc::AllocError;
 
-/// The connected parts of a region, in the order of their first places. Each place of the region is in one
-/// of them.
+/// Returns the connected parts of a `region`, in the order of their first places. Each place of the region is in one of
+/// them.
 pub fn parts_of<C: CountySet>(graph: &CountyGraph<C>, region: &C) -> Result<Vec<C>, AllocError>
     requires graph { IsGraph C.test C.PLACES graph.now }
     requires below { (x : ℕ) → C.test region.now x ≡ true → x < graph_places graph.now }

@@ -7,7 +7,7 @@ use county_problem::Ordered;
 use place_sets::CountySet;
 use std::alloc::{AllocError, Global};
 
-/// The places adjacent to a place.
+/// Returns the places adjacent to a `place`.
 fn row<C: CountySet>(alloc: Global, ordered: &Ordered, place: u16) -> Result<C, AllocError>
     requires fits { length ordered.now.order ≤ C.PLACES }
     requires place { place < length ordered.now.order }
@@ -23,7 +23,7 @@ fn row<C: CountySet>(alloc: Global, ordered: &Ordered, place: u16) -> Result<C, 
     Ok(near)
 }
 
-/// The row of each place: the set of the places adjacent to it.
+/// Returns the row of each place, in the order of the places. A row is the set of the places adjacent to a place.
 pub(crate) fn neighbour_rows<C: CountySet>(
     alloc: Global,
     ordered: &Ordered,

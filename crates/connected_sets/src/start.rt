@@ -9,7 +9,7 @@ use crate::input::Growth;
 use place_sets::CountySet;
 use std::alloc::{AllocError, Global};
 
-/// The set of one place.
+/// Returns the set of one `place`.
 fn only_place<C: CountySet>(alloc: Global, place: u16) -> Result<C, AllocError>
     requires { place < C.PLACES }
     ensures { IfOk result (λ s. (x : ℕ) → C.test s x ≡ only place x) }
@@ -17,7 +17,7 @@ fn only_place<C: CountySet>(alloc: Global, place: u16) -> Result<C, AllocError>
     C::empty(alloc)?.with(alloc, place)
 }
 
-/// The growth that begins with the place alone, where certain places are free.
+/// Returns the growth that begins with the `place` alone. The places of `free` are the free ones.
 pub fn start_growth<C: CountySet>(
     graph: &CountyGraph<C>,
     place: u16,

@@ -1,4 +1,4 @@
-//! Why a growth of connected sets isn't made to its end.
+//! The reasons why a growth of connected sets isn't made to its end.
 
 ghost use Rattle.std.specs.Prelude.{◌≡◌};
 ghost use Rattle.connected_sets.specs.declared.stop.Stop.TheVariants.{Memory};
@@ -6,7 +6,7 @@ ghost use Rattle.connected_sets.specs.declared.stop.Stop.TheVariants.{Memory};
 use std::alloc::AllocError;
 use thiserror::Error;
 
-/// Why a growth ended early.
+/// The reason why a growth ended early.
 #[derive(Clone, Copy, Debug, PartialEq, Eq, Error)]
 pub enum Stop {
     /// The limit of steps was reached.

@@ -9,14 +9,14 @@ use crate::code::CountyCode;
 use crate::county::County;
 use std::alloc::{AllocError, Global};
 
-/// Whether the code stands in the list.
+/// Returns whether `code` is in the list.
 pub fn has_code(codes: &[CountyCode], code: CountyCode) -> bool
     ensures { result ≡ contains codes.now code }
 {
     codes.iter().any(|c| *c == code)
 }
 
-/// The first code that stood before.
+/// Returns the first of the `codes` that occurred before, or `None` if none is repeated.
 pub fn repeated_code(codes: &[CountyCode]) -> Option<CountyCode>
     ensures { result ≡ first_repeated codes.now }
 {
@@ -28,7 +28,7 @@ pub fn repeated_code(codes: &[CountyCode]) -> Option<CountyCode>
     None
 }
 
-/// The first code that isn't listed.
+/// Returns the first of the `codes` that isn't in `listed`, or `None` if all of them are.
 pub fn unlisted_code(listed: &[CountyCode], codes: &[CountyCode]) -> Option<CountyCode>
     ensures { result ≡ first_unlisted listed.now codes.now }
 {
@@ -40,7 +40,7 @@ pub fn unlisted_code(listed: &[CountyCode], codes: &[CountyCode]) -> Option<Coun
     None
 }
 
-/// The codes of the counties.
+/// Returns the codes of the `counties`, in their order.
 pub fn listed_codes(alloc: Global, counties: &[County]) -> Result<Vec<CountyCode>, AllocError>
     ensures { IfOk result (λ v. v.items ≡ codes_of counties.now) }
 {

@@ -1,7 +1,7 @@
 //! Counties by their codes, and the sets of codes that files and groupings name.
 //!
-//! A county has the five digits of the Census's GEOID. A withdrawn set and a group are seats with a list of codes; what
-//! such a list has to keep is no matter here, a problem and the judge test it.
+//! A county has the five digits of the Census's GEOID. A withdrawn set and a group are seats with a list of codes. This
+//! crate puts no condition on such a list: a problem and the judge test it.
 //!
 //! ```
 //! let wake = CountyCode::new(37_183);      // Some: at most 99,999

@@ -1,10 +1,11 @@
-//! The allowance: how much of the ideal population the people of a district may miss.
+//! The allowance: the fraction of the ideal population by which the people of a district may differ from it.
 
 ghost use Rattle.std.specs.Prelude.{◌≡◌, ◌≤◌};
 ghost use Rattle.county_codes.specs.Windows.{is_window, same_window};
 
-/// The allowance of an apportionment as a fraction: how much of the ideal population the people of a district may miss.
-/// *Stephenson v. Bartlett* allows one twentieth, five percent; a court order or another state may have another.
+/// The allowance of an apportionment: the fraction of the ideal population by which the people of a district may differ
+/// from it. *Stephenson v. Bartlett* allows one twentieth, five percent. A court order or another state may
+/// set another allowance.
 ///
 /// ```
 /// let two_percent = Window { part: 1, whole: 50 };
@@ -21,21 +22,21 @@ pub struct Window {
 }
 
 impl Window {
-    /// One twentieth, the five percent of *Stephenson v. Bartlett*.
+    /// Returns one twentieth, the five percent of *Stephenson v. Bartlett*.
     pub fn twentieth() -> Window
         ensures { result ≡ Rattle.county_codes.specs.Windows.twentieth }
     {
         Window { part: 1, whole: 20 }
     }
 
-    /// Whether the denominator is 1 to 1,000 and the fraction at most a half.
+    /// Returns whether the denominator is from 1 to 1,000 and the fraction is at most a half.
     pub fn is_in_range(self) -> bool
         ensures { result ≡ is_window self }
     {
         1 <= self.whole && self.whole <= 1000 && 2 * u32::from(self.part) <= u32::from(self.whole)
     }
 
-    /// Whether the fractions are equal.
+    /// Returns whether the two fractions are equal.
     pub fn same_as(self, other: Window) -> bool
         ensures { result ≡ same_window self other }
     {

@@ -5,8 +5,8 @@ ghost use Rattle.std.specs.Prelude.{◌≡◌, IfOk};
 use crate::codes::Codes;
 use std::alloc::{AllocError, Global};
 
-/// A set of counties that was taken out beforehand, with its seats: *Stephenson v. Bartlett* has the
-/// districts that the Voting Rights Act requires formed first.
+/// A set of counties that was taken out beforehand, with its seats. By *Stephenson v. Bartlett*, the districts that the
+/// Voting Rights Act requires are formed first.
 #[derive(Debug, PartialEq, Eq, Drop)]
 pub struct Withdrawn {
     /// The seats of the set, at least 1 in a problem.
@@ -16,7 +16,7 @@ pub struct Withdrawn {
 }
 
 impl Withdrawn {
-    /// An equal set, or an error where memory was refused.
+    /// Returns an equal set, or an error if memory was refused.
     pub fn copy(&self) -> Result<Withdrawn, AllocError>
         ensures { IfOk result (λ set. set ≡ self.now) }
     {
@@ -27,7 +27,7 @@ impl Withdrawn {
     }
 }
 
-/// Equal sets.
+/// Returns equal sets, in the same order.
 pub fn copy_sets(alloc: Global, sets: &[Withdrawn]) -> Result<Vec<Withdrawn>, AllocError>
     ensures { IfOk result (λ v. v.items ≡ sets.now) }
 {

@@ -12,7 +12,7 @@ use place_sets::CountySet;
 use std::alloc::{AllocError, Global};
 
 impl Ordered<'_> {
-    /// The codes of all counties, in their order. An error comes where memory was refused.
+    /// Returns the codes of all counties, in the order of their places, or an error if memory was refused.
     pub fn codes(&self, alloc: Global) -> Result<Codes, AllocError>
         ensures value { IfOk result (λ codes. codes ≡ self.now.order) }
         ensures small { IfOk result (AllByRecursion (λ c. c ≤ 99999)) }
@@ -26,7 +26,7 @@ impl Ordered<'_> {
         Ok(Codes::new(codes))
     }
 
-    /// The codes of the counties of a set, in the order of their places. An error comes where memory was refused.
+    /// Returns the codes of the counties of `set`, in the order of their places, or an error if memory was refused.
     pub fn codes_of<C: CountySet>(&self, alloc: Global, set: &C) -> Result<Codes, AllocError>
         requires fits { length self.now.order ≤ C.PLACES }
         ensures value { IfOk result (λ codes. codes ≡ codes_of_set self.now.order C.test set.now) }
@@ -43,7 +43,7 @@ impl Ordered<'_> {
         Ok(Codes::new(codes))
     }
 
-    /// The place of the county with the code, `None` if the order has no such county.
+    /// Returns the place of the county with this `code`, or `None` if the order has no such county.
     pub fn place_of(&self, code: CountyCode) -> Option<u16>
         ensures { MatchOption result (contains self.now.order code ≡ false) (λ place. (place < length self.now.order)
             × (code_at self.now.order place ≡ code)) }

@@ -8,13 +8,14 @@ use memchr::memchr;
 /// The piece at the front of bytes that were pulled.
 #[derive(Clone, Copy, Debug, PartialEq, Eq)]
 pub(crate) struct FrontPiece {
-    /// How many bytes it has, without the LF.
+    /// The number of its bytes, without the LF.
     pub(crate) length: usize,
     /// Whether an LF ends it.
     pub(crate) ended: bool,
 }
 
-/// The place of the first LF, where there is none before the place `from`.
+/// Returns the place of the first LF in `bytes`, or `None` if there is no LF. There must be none before the place
+/// `from`.
 pub(crate) fn lf_after(bytes: &[u8], from: usize) -> Option<usize>
     requires within { from ≤ length bytes.now }
     requires none { HasNoLf (take from bytes.now) }

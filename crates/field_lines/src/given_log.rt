@@ -5,8 +5,8 @@ ghost use Rattle.std.specs.Borrow.{ftrue};
 
 use std::marker::Model;
 
-/// The bytes that a source gave so far, which only proofs read: it takes no memory, and its calls do nothing. A source
-/// that keeps one notes each pull in it.
+/// The bytes that a source gave so far. Only proofs read them: a log takes no memory, and its calls do nothing. A
+/// source that keeps a log notes each pull in it.
 #[derive(Drop)]
 pub struct GivenLog {
     pub ghost bytes: { List ℕ },
@@ -17,14 +17,14 @@ impl Model for GivenLog {
 }
 
 impl GivenLog {
-    /// No byte so far.
+    /// Creates a log without bytes.
     pub fn new() -> Self
         ensures { result.bytes ≡ [] }
     {
         GivenLog {}
     }
 
-    /// Puts bytes at the end.
+    /// Appends the bytes to the log.
     pub fn note(&mut self, _bytes: &[u8])
         ensures { self.new.bytes ≡ self.old.bytes ++ _bytes.now }
     {}

@@ -12,7 +12,7 @@ use crate::taken_pieces::{TakenLine, TakenPiece};
 use std::alloc::Global;
 use std::marker::Model;
 
-/// Takes the piece of a number, unless it is at fault. `None` at the end.
+/// Takes the next piece, whose number is `number`, unless it is at fault. Returns `None` at the end.
 fn take_piece<S: Source>(
     pulled: &mut PulledBytes,
     number: u64,
@@ -36,7 +36,7 @@ fn take_piece<S: Source>(
     }
 }
 
-/// Takes the next line that isn't blank, and counts the lines. `None` at the end.
+/// Takes the next line that isn't blank, and counts the lines in `number`. Returns `None` at the end.
 fn take_line<S: Source>(
     pulled: &mut PulledBytes,
     number: &mut u64,
@@ -66,8 +66,8 @@ fn take_line<S: Source>(
 
 /// The lines of a cut text that is pulled from a source, as `Lines` gives them of a text in memory.
 ///
-/// It holds 128 KiB and no more. A pull asks for 64 KiB or more, and is made only where no whole line is held. The part
-/// of a line that is held is then moved to the front, so a line is copied only where it lies across two pulls.
+/// It holds 128 KiB and no more. A pull asks for 64 KiB or more, and is made only if no whole line is held. The part of
+/// a line that is held is then moved to the front, so a line is copied only if it lies across two pulls.
 #[derive(Drop)]
 pub struct LineReader {
     pulled: PulledBytes,
@@ -81,7 +81,7 @@ impl Model for LineReader {
     ghost use Rattle.field_lines.specs.Fault.{most_lines, line_of_fault};
     ghost use Rattle.field_lines.specs.LinesFrom.{LinesHeld};
 
-    /// The bytes that are held, the number of the next line, and the fault that was answered.
+    /// The bytes that are held, the number of the next line, and the fault that was returned.
     ghost Value = { LinesHeld };
 
     ghost view = { λ r. record { bytes = r.pulled.bytes; number = r.number; fault = r.fault } };
@@ -97,11 +97,11 @@ impl LineReader {
     ghost use Rattle.field_lines.specs.LinesFrom.{nothing_read, IsNextRead};
     ghost use Rattle.field_lines.specs.contracts.line_reader.LineReader.{the_row};
 
-    /// A reader that has pulled nothing.
+    /// Creates a reader that has pulled nothing.
     ///
     /// # Errors
     ///
-    /// `Memory` where memory was refused.
+    /// Returns `Memory` if memory was refused.
     pub fn new(alloc: Global) -> Result<Self, LineFault>
         ensures made { IfOk result (λ r. r ≡ nothing_read) }
         ensures refused { IfErr result (λ f. f ≡ LineFault.Memory) }
@@ -117,13 +117,13 @@ impl LineReader {
         }
     }
 
-    /// The next line that isn't blank, with its number, which counts from 1, lent until the next call. `None` at the
-    /// end of the text, then and at each later call. Each call is lent the same source.
+    /// Returns the next line that isn't blank, after its number, which counts from 1. The line is lent until the next
+    /// call. Returns `None` at the end of the text, and again at each later call. Each call is lent the same `source`.
     ///
     /// # Errors
     ///
-    /// `TooManyLines` and `LineTooLong` as `Lines` answers them; `ReadFault` where the source failed, with the line
-    /// that was being read. Each later call answers the same fault, and pulls nothing.
+    /// Returns `TooManyLines` and `LineTooLong` as `Lines` does. Returns `ReadFault` with the line that was being read
+    /// if the source failed. Each later call returns the same fault, and pulls nothing.
     pub fn next_line<S: Source>(
         &mut self,
         source: &mut S,
@@ -150,8 +150,8 @@ impl LineReader {
         }
     }
 
-    /// Returns the bytes of the line at which the reader stands: those of the last one that it lent, or the first
-    /// 65,536 of one that is too long. They are for whoever shows the line to a person. No clause speaks of them.
+    /// Returns the bytes of the line at which the reader stands. These are the bytes of the last line that it lent, or
+    /// the first 65,536 of one that is too long. They are for showing the line to a person. No clause speaks of them.
     pub fn line(&self) -> &[u8] {
         let is_too_long = matches!(self.fault, Some(LineFault::LineTooLong(_)));
         self.pulled

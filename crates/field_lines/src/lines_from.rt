@@ -12,31 +12,31 @@ use crate::line_reader::LineReader;
 use crate::lines::Lines;
 use crate::source::Source;
 
-/// The lines of a cut text, whether it stands in memory or is pulled from a source: one body reads both.
+/// The lines of a cut text, whether it stands in memory or is pulled from a source. One body reads both.
 pub trait LinesFrom<F> {
     /// What was given so far, and whether more may come.
     ghost given: { F → Given };
 
-    /// Whether the last pull answered an error.
+    /// Whether the last pull returned an error.
     ghost is_failed: { F → Bool };
 
     /// The lines that are left.
     ghost left: { Self → LinesLeft };
 
-    /// The next line that isn't blank, with its number, which counts from 1, lent until the next call. `None` at the
-    /// end of the text.
+    /// Returns the next line that isn't blank, after its number, which counts from 1. The line is lent until the next
+    /// call. Returns `None` at the end of the text.
     ///
     /// # Errors
     ///
-    /// As `LineReader::next_line`.
+    /// Returns the same errors as `LineReader::next_line`.
     fn next_from(&mut self, from: &mut F) -> Result<Option<(u32, &[u8])>, LineFault>
         ensures number { IfOk result (λ next. IfSome next (λ l. (1 ≤ l.0) × (l.0 ≤ most_lines))) }
         ensures bytes { IfOk result (λ next. IfSome next (λ l. (1 ≤ length l.1.now) × (length l.1.now ≤ most_bytes))) }
         ensures fault { IfErr result (λ f. (1 ≤ line_of_fault f) × (line_of_fault f ≤ most_lines + 1)) }
         ensures* next { sem 𝓛 (Rests Self.row self.entry (λ new. IsNextAnswer (left self.old) (given from.old) (is_failed from.old) result (left new) (given from.new) (is_failed from.new))) };
 
-    /// Returns the bytes of the line at which the reader stands, as `LineReader::line`; none of a text in memory, whose
-    /// caller has the text.
+    /// Returns the bytes of the line at which the reader stands, as `LineReader::line` does. For a text in memory, this
+    /// returns no bytes, since the caller has the text.
     fn line(&self) -> &[u8];
 }
 

@@ -10,17 +10,17 @@ ghost use Rattle.field_lines.specs.Number.{kept_in, number_in, digits_of};
 
 use crate::fields::Fields;
 
-/// The most that fifteen digits spell.
+/// The greatest number that fifteen digits spell.
 const FIFTEEN_NINES: u64 = 999_999_999_999_999;
 
-/// Whether each byte is a digit.
+/// Returns whether each byte of the `field` is a digit.
 fn is_digits(field: &[u8]) -> bool
     ensures { result ≡ list_all is_ascii_digit field.now }
 {
     field.iter().all(|b| b.is_ascii_digit())
 }
 
-/// The value of digits, if it is no more than the greatest.
+/// Returns the value of the `digits`, or `None` if it is more than `greatest`.
 fn value_of(digits: &[u8], greatest: u64) -> Option<u64>
     requires all { list_all is_ascii_digit digits.now ≡ true }
     requires fits { greatest ≤ 999999999999999 }
@@ -36,7 +36,7 @@ fn value_of(digits: &[u8], greatest: u64) -> Option<u64>
     Some(value)
 }
 
-/// The number that a field spells, if it is no more than the greatest.
+/// Returns the number that a `field` spells, if it is at most `greatest`.
 fn number_up_to(field: &[u8], greatest: u64) -> Option<u64>
     requires { greatest ≤ 999999999999999 }
     ensures { result ≡ number_in 0 greatest field.now }
@@ -47,7 +47,7 @@ fn number_up_to(field: &[u8], greatest: u64) -> Option<u64>
     value_of(field, greatest)
 }
 
-/// The number that exactly `count` digits spell.
+/// Returns the number that a `field` of exactly `count` digits spells.
 fn digits(field: &[u8], count: usize) -> Option<u64>
     requires { count ≤ 15 }
     ensures value { result ≡ digits_of count field.now }
@@ -59,8 +59,8 @@ fn digits(field: &[u8], count: usize) -> Option<u64>
     number_up_to(field, FIFTEEN_NINES)
 }
 
-/// The number that a field spells in decimal, if it is from `least` to `greatest`: one or more
-/// ASCII digits, leading zeros allowed, and no other byte. `None` for any other field.
+/// Returns the number that a `field` spells in decimal, if it is from `least` to `greatest`. Such a field has one or
+/// more ASCII digits, which may begin with zeros, and no other byte. Returns `None` for any other field.
 pub fn number_in(field: &[u8], least: u32, greatest: u32) -> Option<u32>
     ensures value { result ≡ number_in least greatest field.now }
     ensures within { IfSome result (λ n. (least ≤ n) × (n ≤ greatest)) }
@@ -72,7 +72,7 @@ pub fn number_in(field: &[u8], least: u32, greatest: u32) -> Option<u32>
     Some(number)
 }
 
-/// The number that a field of exactly two ASCII digits spells. `None` for any other field.
+/// Returns the number that a `field` of exactly two ASCII digits spells. Returns `None` for any other field.
 pub fn two_digits(field: &[u8]) -> Option<u8>
     ensures value { result ≡ digits_of 2 field.now }
     ensures small { IfSome result (λ n. n < 100) }
@@ -80,7 +80,7 @@ pub fn two_digits(field: &[u8]) -> Option<u8>
     Some(digits(field, 2)? as u8)
 }
 
-/// The number that a field of exactly three ASCII digits spells. `None` for any other field.
+/// Returns the number that a `field` of exactly three ASCII digits spells. Returns `None` for any other field.
 pub fn three_digits(field: &[u8]) -> Option<u16>
     ensures value { result ≡ digits_of 3 field.now }
     ensures small { IfSome result (λ n. n < 1000) }
@@ -88,7 +88,7 @@ pub fn three_digits(field: &[u8]) -> Option<u16>
     Some(digits(field, 3)? as u16)
 }
 
-/// The number that a field of exactly five ASCII digits spells. `None` for any other field.
+/// Returns the number that a `field` of exactly five ASCII digits spells. Returns `None` for any other field.
 pub fn five_digits(field: &[u8]) -> Option<u32>
     ensures value { result ≡ digits_of 5 field.now }
     ensures small { IfSome result (λ n. n < 100000) }
@@ -96,7 +96,7 @@ pub fn five_digits(field: &[u8]) -> Option<u32>
     Some(digits(field, 5)? as u32)
 }
 
-/// The number that a field of exactly fifteen ASCII digits spells. `None` for any other field.
+/// Returns the number that a `field` of exactly fifteen ASCII digits spells. Returns `None` for any other field.
 pub fn fifteen_digits(field: &[u8]) -> Option<u64>
     ensures value { result ≡ digits_of 15 field.now }
     ensures small { IfSome result (λ n. n < 1000000000000000) }
@@ -104,8 +104,8 @@ pub fn fifteen_digits(field: &[u8]) -> Option<u64>
     digits(field, 15)
 }
 
-/// The field of a line at an index that counts from 0. `None` where the line has no more fields
-/// than `index`.
+/// Returns the field of the `line` at `index`, which counts from 0. Returns `None` if the line has no more than `index`
+/// fields.
 pub fn field_at(line: &[u8], delimiter: u8, index: usize) -> Option<&[u8]>
     ensures { option_map (λ s. s.now) result ≡ slice_get (fields_of delimiter line.now) index }
 {

@@ -11,22 +11,22 @@ use crate::raw_pieces::{Piece, RawLines};
 use crate::raw_reader::RawReader;
 use crate::source::Source;
 
-/// The pieces of a text, whether it stands in memory or is pulled from a source: one body reads both.
+/// The pieces of a text, whether it stands in memory or is pulled from a source. One body reads both.
 pub trait PiecesFrom<F> {
     /// What was given so far, and whether more may come.
     ghost given: { F → Given };
 
-    /// Whether the last pull answered an error.
+    /// Whether the last pull returned an error.
     ghost is_failed: { F → Bool };
 
     /// The pieces that are left.
     ghost left: { Self → PiecesLeft };
 
-    /// The next piece, lent until the next call. `None` at the end of the text.
+    /// Returns the next piece, which is lent until the next call. Returns `None` at the end of the text.
     ///
     /// # Errors
     ///
-    /// As `RawReader::next_piece`. A text in memory has none.
+    /// Returns the same errors as `RawReader::next_piece`. A text in memory gives none.
     fn next_from(&mut self, from: &mut F) -> Result<Option<Piece<'_>>, LineFault>
         ensures* next { sem 𝓛 (Rests Self.row self.entry (λ new. IsNextPieceOf (left self.old) (given from.old) (is_failed from.old) result (left new) (given from.new) (is_failed from.new))) };
 }

@@ -11,7 +11,7 @@ use crate::taken_pieces::TakenPiece;
 use std::alloc::{AllocError, Global};
 use std::marker::Model;
 
-/// How many bytes are held at most: as many as a line may have, and as many again for a pull.
+/// The greatest number of bytes that are held: as many as a line may have, and as many again for a pull.
 const MAX_HELD: usize = 131_072;
 
 /// The bytes that were pulled and aren't taken yet, and before them bytes that were taken since the last pull.
@@ -34,7 +34,7 @@ impl Model for PulledBytes {
     ghost invariant = { λ p. (p.start ≤ p.end) × (p.end ≤ 131072) × (vec_len p.buffer ≡ 131072) };
 }
 
-/// Pulls bytes behind the first `end` of a buffer.
+/// Pulls bytes into the `buffer` behind its first `end` bytes, and returns how many there were.
 fn pull_behind<S: Source>(
     source: &mut S,
     buffer: &mut [u8],
@@ -51,7 +51,7 @@ fn pull_behind<S: Source>(
     source.pull(&mut buffer[end..])
 }
 
-/// All bytes as a piece, unless there is none.
+/// Returns all `count` bytes as a piece that no LF ended, or `None` if there are no bytes.
 fn rest_of(count: usize) -> Option<FrontPiece>
     ensures { result ≡ (if count == 0 then None else Some (record { length = count; ended = false })) }
 {
@@ -72,7 +72,7 @@ impl PulledBytes {
     ghost use Rattle.field_lines.specs.Front.{IsFrontPiece, IsWithin, HasFront};
     ghost use Rattle.field_lines.specs.TakenPieces.{IsPlace, taken_bytes, TakesFirst};
 
-    /// No byte so far.
+    /// Creates a value that holds no bytes yet. Returns an error if memory was refused.
     pub(crate) fn new(alloc: Global) -> Result<Self, AllocError>
         ensures { IfOk result (λ p. p ≡ no_bytes) }
     {
@@ -85,7 +85,7 @@ impl PulledBytes {
         })
     }
 
-    /// The bytes that are held.
+    /// Returns the bytes that are held.
     pub(crate) fn held(&self) -> &[u8]
         ensures value { result.now ≡ self.now.bytes }
         ensures few { length result.now ≤ 131072 }
@@ -95,7 +95,7 @@ impl PulledBytes {
         &all[start..end]
     }
 
-    /// Bytes that were taken, from a place to another.
+    /// Returns the bytes that were taken, from the place `from` up to the place `to`.
     pub(crate) fn taken(&self, from: usize, to: usize) -> &[u8]
         requires ordered { from ≤ to }
         requires within { to ≤ length self.now.taken }
@@ -106,7 +106,7 @@ impl PulledBytes {
         &all[from..to]
     }
 
-    /// Takes bytes from the front, and says at which place of those taken they begin.
+    /// Takes `count` bytes from the front, and returns the place at which they begin among those taken.
     pub(crate) fn take(&mut self, count: usize) -> usize
         requires { count ≤ length self.old.bytes }
         ensures place { result ≡ length self.old.taken }
@@ -131,7 +131,8 @@ impl PulledBytes {
         }
     }
 
-    /// Pulls further bytes, 65,536 or more if there are so many, of a source that hasn't ended.
+    /// Pulls further bytes from a `source` that hasn't ended, and returns how many there were. It asks for at least
+    /// 65,536 bytes.
     fn pull<S: Source>(&mut self, source: &mut S) -> Result<usize, SourceFault>
         requires few { length self.old.bytes ≤ 65536 }
         requires open { (S.given source.old).ended ≡ false }
@@ -148,8 +149,8 @@ impl PulledBytes {
         Ok(count)
     }
 
-    /// The piece at the front, after as many pulls as it takes to tell; `None` at the end. A piece that is longer than
-    /// a line may be is cut short.
+    /// Returns the piece at the front, after as many pulls as it takes to tell, or `None` at the end. A piece that is
+    /// longer than a line may be is cut short.
     pub(crate) fn front<S: Source>(
         &mut self,
         source: &mut S,
@@ -176,8 +177,8 @@ impl PulledBytes {
         }
     }
 
-    /// Returns the bytes that were taken, from a place to another, or none if they are no place. The first 65,536 bytes
-    /// that are held stand in their place if a piece was too long to be taken.
+    /// Returns the bytes that were taken, from the place `from` up to the place `to`, or none if these aren't places.
+    /// If a piece was too long to be taken, this returns the first 65,536 bytes that are held instead.
     pub(crate) fn piece_at_fault(&self, is_too_long: bool, from: usize, to: usize) -> &[u8] {
         let piece = if is_too_long {
             self.held().get(..MAX_LINE)
@@ -187,7 +188,7 @@ impl PulledBytes {
         piece.unwrap_or(b"")
     }
 
-    /// The bytes of the piece at the front.
+    /// Returns the bytes of the piece at the front.
     pub(crate) fn piece(&self, front: FrontPiece) -> &[u8]
         requires { IsWithin self.now.bytes front.length front.ended }
         ensures value { result.now ≡ take front.length self.now.bytes }
@@ -196,7 +197,7 @@ impl PulledBytes {
         &self.held()[..front.length]
     }
 
-    /// Takes the piece at the front, and says where it lies.
+    /// Takes the piece at the front, and returns where it lies.
     pub(crate) fn take_piece(&mut self, front: FrontPiece) -> TakenPiece
         requires within { IsWithin self.old.bytes front.length front.ended }
         requires short { front.length ≤ 65536 }

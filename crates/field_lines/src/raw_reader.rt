@@ -12,7 +12,8 @@ use crate::taken_pieces::TakenPiece;
 use std::alloc::Global;
 use std::marker::Model;
 
-/// What is wrong with a piece of a number, if anything is: it is too long, or its number is the last that there is.
+/// Returns the fault of the piece with this `number`, if it has one. A piece is at fault if it is too long, or if its
+/// number is the last that there is.
 fn raw_fault_at(number: u64, length: usize) -> Option<LineFault>
     ensures { result ≡ raw_fault_at number length }
 {
@@ -25,7 +26,7 @@ fn raw_fault_at(number: u64, length: usize) -> Option<LineFault>
     }
 }
 
-/// Takes the piece of a number, unless it is at fault. `None` at the end.
+/// Takes the next piece, whose number is `number`, unless it is at fault. Returns `None` at the end.
 fn take_raw<S: Source>(
     pulled: &mut PulledBytes,
     number: u64,
@@ -45,8 +46,8 @@ fn take_raw<S: Source>(
     }
 }
 
-/// The pieces of a text that is pulled from a source, as `RawLines` gives them of a text in memory, where each has at
-/// most `MAX_LINE` bytes. It holds and moves bytes as `LineReader` does.
+/// The pieces of a text that is pulled from a source. They are those that `RawLines` gives of a text in memory, if each
+/// has at most `MAX_LINE` bytes. The reader holds and moves bytes as `LineReader` does.
 #[derive(Drop)]
 pub struct RawReader {
     pulled: PulledBytes,
@@ -58,7 +59,7 @@ pub struct RawReader {
 impl Model for RawReader {
     ghost use Rattle.field_lines.specs.LinesFrom.{LinesHeld};
 
-    /// The bytes that are held, the number of the next piece, and the fault that was answered.
+    /// The bytes that are held, the number of the next piece, and the fault that was returned.
     ghost Value = { LinesHeld };
 
     ghost view = { λ r. record { bytes = r.pulled.bytes; number = r.number; fault = r.fault } };
@@ -73,11 +74,11 @@ impl RawReader {
     ghost use Rattle.field_lines.specs.PiecesFrom.{IsRawRead};
     ghost use Rattle.field_lines.specs.contracts.raw_reader.RawReader.{the_row};
 
-    /// A reader that has pulled nothing.
+    /// Creates a reader that has pulled nothing.
     ///
     /// # Errors
     ///
-    /// `Memory` where memory was refused.
+    /// Returns `Memory` if memory was refused.
     pub fn new(alloc: Global) -> Result<Self, LineFault>
         ensures made { IfOk result (λ r. r ≡ nothing_read) }
         ensures refused { IfErr result (λ f. f ≡ LineFault.Memory) }
@@ -93,14 +94,14 @@ impl RawReader {
         }
     }
 
-    /// The next piece, lent until the next call. `None` at the end of the text, then and at each later call. Each call
-    /// is lent the same source.
+    /// Returns the next piece, which is lent until the next call. Returns `None` at the end of the text, and again at
+    /// each later call. Each call is lent the same `source`.
     ///
     /// # Errors
     ///
-    /// `LineTooLong` at a piece of more than `MAX_LINE` bytes; `ReadFault` where the source failed, with the piece that
-    /// was being read; `Memory` at piece 18,446,744,073,709,551,615. Each later call answers the same fault, and pulls
-    /// nothing.
+    /// Returns `LineTooLong` at a piece of more than `MAX_LINE` bytes. Returns `ReadFault` with the piece that was
+    /// being read if the source failed. Returns `Memory` at piece 18,446,744,073,709,551,615. Each later call returns
+    /// the same fault, and pulls nothing.
     pub fn next_piece<S: Source>(&mut self, source: &mut S) -> Result<Option<Piece<'_>>, LineFault>
         ensures bytes { IfOk result (λ next. IfSome next (λ p. length p.bytes.now ≤ most_bytes)) }
         ensures* next { sem 𝓛 (Rests the_row self.entry (λ new. IsRawRead self.old (S.given source.old) (S.is_failed source.old) result new (S.given source.new) (S.is_failed source.new))) }
@@ -131,9 +132,9 @@ impl RawReader {
         }
     }
 
-    /// Returns the bytes of the piece at which the reader stands: those of the last one that it lent, the first 65,536
-    /// of one that is too long, or none at the end. They are for whoever shows the line to a person. No clause speaks
-    /// of them.
+    /// Returns the bytes of the piece at which the reader stands. These are the bytes of the last piece that it lent,
+    /// the first 65,536 of one that is too long, or none at the end. They are for showing the line to a person. No
+    /// clause speaks of them.
     pub fn line(&self) -> &[u8] {
         let is_too_long = matches!(self.fault, Some(LineFault::LineTooLong(_)));
         self.pulled

@@ -12,7 +12,7 @@ pub(crate) struct TakenPiece {
 }
 
 impl TakenPiece {
-    /// No piece, where none was taken.
+    /// Creates the value that stands for no piece, if none was taken.
     pub(crate) fn none() -> Self {
         TakenPiece {
             from: 0,
@@ -34,7 +34,7 @@ pub(crate) struct TakenLine {
 }
 
 impl TakenLine {
-    /// No line, where none was taken.
+    /// Creates the value that stands for no line, if none was taken.
     pub(crate) fn none() -> Self {
         TakenLine {
             number: 0,

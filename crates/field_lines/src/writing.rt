@@ -1,11 +1,11 @@
-//! A number in decimal: written, and its length.
+//! Writing numbers in decimal, and their lengths.
 
 ghost use Rattle.std.specs.Prelude.{◌≡◌, ◌≤◌, ◌++◌, OnOk, decimal, length};
 
 use itoa::Buffer;
 use std::alloc::AllocError;
 
-/// Appends a number in plain decimal. It fails only where a growth was refused.
+/// Appends a `number` to `out` in plain decimal. Returns an error only if memory was refused.
 pub fn push_number(out: &mut Vec<u8>, number: u64) -> Result<(), AllocError>
     ensures { OnOk result (out.new.items ≡ out.old.items ++ decimal number) }
 {
@@ -13,7 +13,7 @@ pub fn push_number(out: &mut Vec<u8>, number: u64) -> Result<(), AllocError>
     out.extend_from_slice(buffer.format(number).as_bytes())
 }
 
-/// How many digits a number has in plain decimal.
+/// Returns how many digits a `number` has in plain decimal, at most 20.
 pub fn decimal_length(number: u64) -> usize
     ensures value { result ≡ length (decimal number) }
     ensures small { result ≤ 20 }
