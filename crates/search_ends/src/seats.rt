@@ -34,7 +34,7 @@ fn people_of_sets<C: CountySet>(
 }
 
 /// Returns seats for sets that have each county once, in the same order. Each set gets a number of seats that its
-/// people suit, and the sum is the seats left of the problem. Such numbers must exist.
+/// people suit, and these numbers add up to the seats left of the problem. Such numbers must exist.
 pub(crate) fn seats_for<C: CountySet>(
     alloc: Global,
     ordered: &Ordered,
