@@ -1,21 +1,21 @@
-//! What a desk answers of a problem.
+//! The solver's answer to a problem.
 
 use certificate_data::Certificate;
 use county_codes::Grouping;
 
-/// What a desk answers of a problem.
+/// The solver's answer to a problem.
 #[derive(Debug, Drop)]
 pub enum Answer {
-    /// A best grouping, and a certificate that names it. Its groups stand by size and then by codes, and the codes of
-    /// each ascend.
+    /// A best grouping, and a certificate that names it. The groups are ordered by size and then by codes, and the
+    /// codes of each group ascend.
     Best(Grouping, Certificate),
-    /// No grouping is lawful, and a certificate of that.
+    /// No grouping is lawful. The certificate proves it.
     Impossible(Certificate),
     /// The steps ran out.
     Open {
-        /// The best lawful grouping that was found; none only where not one step was allowed.
+        /// The best lawful grouping that was found. It is `None` only if not a single step was allowed.
         found: Option<Grouping>,
-        /// How many steps were taken: as many as were allowed.
+        /// The number of steps that were taken, which is the number that was allowed.
         steps: u64,
     },
 }

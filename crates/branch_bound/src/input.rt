@@ -1,9 +1,9 @@
-//! What a search of one round goes by.
+//! What a search of one round works from.
 
 use certificate_data::Round;
 use connected_sets::CountyGraph;
 
-/// What a search goes by: the county graph by the round's order, and the round.
+/// What a search works from: the county graph in the round's order, and the round.
 #[derive(Drop)]
 pub(crate) struct SearchInput<'g, 'a, 'b, C> {
     pub(crate) graph: &'g CountyGraph<'a, 'b, C>,

@@ -1,4 +1,4 @@
-//! How a state ends, or at which county a search branches there.
+//! How a state ends, or the county at which a search branches there.
 
 ghost use Rattle.std.specs.Prelude.{◌≡◌, ℕ, ◌+◌, ◌≤◌, ◌<◌, List, [], length, All, IfOk, OnOk, IsErrOf, MatchOption, ⊤};
 ghost use Rattle.connected_sets.specs.Graphs.{graph_places, place_problem};
@@ -22,7 +22,8 @@ use search_ends::{
 use search_groups::{PartLists, county_of_choice, live_groups, weigh};
 use std::alloc::AllocError;
 
-/// What a state of which no group fits of at most the size that is known ends with, or the groups of one county more.
+/// Returns what follows at a position where no group of at most the known size fits. The state ends with a leaf or a
+/// greater grouping, or the search goes on with the groups of one county more.
 fn next_size<C: CountySet>(
     input: &SearchInput<C>,
     position: &Position<C>,
@@ -73,7 +74,7 @@ fn next_size<C: CountySet>(
     }
 }
 
-/// A branch at a county of the groups, chosen by the weights.
+/// Returns a branch at a county of the position's groups. The county is chosen by the `weights`.
 fn branch_at<C: CountySet>(
     input: &SearchInput<C>,
     position: Position<C>,
@@ -92,7 +93,8 @@ fn branch_at<C: CountySet>(
     }
 }
 
-/// A bound leaf by weights, where they give one, else a branch.
+/// Returns a bound leaf by weights if they give one, and a branch otherwise. `wanted` groups of the position's size are
+/// still wanted.
 fn weighed<C: CountySet>(
     input: &SearchInput<C>,
     position: Position<C>,
@@ -130,7 +132,8 @@ fn weighed<C: CountySet>(
     branch_at(input, position, &weights)
 }
 
-/// A bound leaf by weights, where groups of the size are wanted and weights give one, else a branch.
+/// Returns a bound leaf if more groups of the position's size are wanted and weights give such a leaf. Otherwise it
+/// returns a branch.
 fn move_at_groups<C: CountySet>(
     input: &SearchInput<C>,
     position: Position<C>,
@@ -154,7 +157,7 @@ fn move_at_groups<C: CountySet>(
     }
 }
 
-/// Goes from size to size until there are groups, and says how the state ends or at which county it branches.
+/// Returns how the state ends, or the county at which it branches. It goes from size to size until there are groups.
 fn move_at_sizes<C: CountySet>(
     input: &SearchInput<C>,
     position: Position<C>,
@@ -197,8 +200,8 @@ fn move_at_sizes<C: CountySet>(
     }
 }
 
-/// The position without the groups that are dead, where a group was closed since they were left out. A step is taken
-/// for each group.
+/// Returns the position without its dead groups, at the same state. A position that is already tested comes back as it
+/// is. Otherwise a step is taken for each group.
 fn without_dead<C: CountySet>(
     input: &SearchInput<C>,
     position: Position<C>,
@@ -234,7 +237,7 @@ fn without_dead<C: CountySet>(
     }
 }
 
-/// A bound leaf where there is no room for as many groups of the size that is known as are wanted.
+/// Returns a bound leaf if there is no room for the wanted number of groups of the known size.
 fn present_room<C: CountySet>(
     input: &SearchInput<C>,
     position: &Position<C>,
@@ -255,7 +258,7 @@ fn present_room<C: CountySet>(
     )
 }
 
-/// A leaf that is valid at the position, found without a look at its groups.
+/// Returns a leaf that is valid at the position and can be found without looking at its groups.
 fn early_leaf<C: CountySet>(
     input: &SearchInput<C>,
     position: &Position<C>,
@@ -276,7 +279,7 @@ fn early_leaf<C: CountySet>(
     }
 }
 
-/// How the state ends, or at which county the search branches there. A step is taken for the state.
+/// Returns how the state ends, or the county at which the search branches there. A step is taken for the state.
 pub(crate) fn next_move<C: CountySet>(
     input: &SearchInput<C>,
     position: Position<C>,

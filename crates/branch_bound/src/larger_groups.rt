@@ -1,7 +1,7 @@
 //! The groups of one county more than those that are known: when they are listed ahead, and what they serve for.
 //!
-//! If they are listed at a state, then no list of them is made below it until a larger size is next: those that are
-//! left there are tested. That spares steps where many groups of the present size are still wanted.
+//! If they are listed at a state, then no list of them is made below it until a larger size is next. Those that are
+//! left there are tested instead. That saves steps where many groups of the present size are still wanted.
 
 ghost use Rattle.std.specs.Prelude.{◌≡◌, ℕ, ◌+◌, ◌≤◌, [], IfOk, IsErrOf};
 ghost use Rattle.connected_sets.specs.Graphs.{graph_order, graph_places, place_problem};
@@ -23,16 +23,16 @@ use search_ends::wanted_more;
 use search_groups::{PartLists, groups_of_size, live_groups};
 use state_groups::all_groups_of_size;
 
-/// Before so many steps none are listed ahead.
+/// The number of steps before which no groups are listed ahead.
 const FIRST_STEPS: u64 = 100_000;
 
-/// If fewer groups of the present size are wanted, none are listed ahead.
+/// The least number of wanted groups of the present size at which larger ones are listed ahead.
 const LEAST_WANTED: u32 = 4;
 
-/// If so many groups of the present size are wanted, those that are listed ahead are tested.
+/// The number of wanted groups of the present size at which the groups that are listed ahead are tested.
 const TEST_WANTED: u32 = 2;
 
-/// The groups of one county more that fit, where no group of at most the size that is known does.
+/// Returns the groups of one county more that fit, where no group of at most the known size fits.
 pub(crate) fn next_groups<C: CountySet>(
     input: &SearchInput<C>,
     position: &Position<C>,
@@ -74,8 +74,9 @@ pub(crate) fn next_groups<C: CountySet>(
     }
 }
 
-/// The groups of one county more: all that fit are listed, or if they are listed already, dead ones are left out. A
-/// step is taken for each set that is looked through, or for each group that is listed.
+/// Returns the groups of one county more. If they aren't listed yet, all that fit are listed, and a step is taken for
+/// each set that is looked through. Otherwise the dead ones are left out of the list, and a step is taken for each
+/// listed group.
 fn larger_groups<C: CountySet>(
     input: &SearchInput<C>,
     position: &Position<C>,
@@ -107,8 +108,9 @@ fn larger_groups<C: CountySet>(
     }
 }
 
-/// Whether the groups of one county more are listed where so many groups are wanted and so many steps are taken, or if
-/// they are listed already, whether dead ones are left out.
+/// Returns whether `larger_groups` is called for the `position`, where `wanted` groups are wanted and `used` steps are
+/// taken. If the groups of one county more aren't listed yet, it tells whether they are to be listed. Otherwise it
+/// tells whether the dead ones are to be left out.
 fn wants_larger<C: CountySet>(position: &Position<C>, limit: u16, wanted: u32, used: u64) -> bool {
     match &position.larger {
         Some(larger) => wanted == TEST_WANTED && !larger.tested,
@@ -116,8 +118,8 @@ fn wants_larger<C: CountySet>(position: &Position<C>, limit: u16, wanted: u32, u
     }
 }
 
-/// The position of a branch. If many groups of its size are wanted, those of one county more are listed, and if few
-/// are, those that are listed are tested.
+/// Returns the position of a branch with the same groups of its size. If many of these are wanted, the groups of one
+/// county more are listed. If few are wanted, those that are listed already are tested.
 pub(crate) fn with_larger<C: CountySet>(
     input: &SearchInput<C>,
     position: Position<C>,

@@ -1,5 +1,5 @@
-//! The desk: the best county grouping of a problem with a certificate that it is best, or a certificate that no
-//! grouping is lawful.
+//! The solver: it finds the best county grouping of a problem, with a certificate that it is best. If no grouping is
+//! lawful, it gives a certificate of that.
 //!
 //! ```
 //! match solve(alloc, &problem, 10_000_000)? {
@@ -9,11 +9,12 @@
 //! }
 //! ```
 //!
-//! It is a search by branch and bound over states: a leaf ends a state, or a branch at a county goes on with each group
-//! that fits and has the county, and with the county raised past the size. A state where nothing fits any more and no
-//! leaf is valid is a greater grouping, which the next round takes as its target. Every leaf is tested where it is
-//! written; weights, the county to branch at and the limits of the rounds are heuristics, and no promise rests on them.
-//! `specs/Answered` says what is promised, and `specs/Searching` what the search keeps.
+//! It is a search by branch and bound over states. A state ends with a leaf, or the search branches at a county. A
+//! branch goes on with each group that fits and has the county, and with the county raised past the size. A state where
+//! nothing fits any more and no leaf is valid is a greater grouping, which the next round takes as its target. Every
+//! leaf is tested where it is written. Weights, the county to branch at and the limits of the rounds are heuristics,
+//! and no promise rests on them. `specs/Answered` says what is promised, and `specs/Searching` says what the search
+//! keeps.
 #![tactic(auto)]
 
 mod answer;

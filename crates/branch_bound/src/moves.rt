@@ -21,7 +21,7 @@ use search_groups::{groups_apart, groups_having, groups_lacking, live_groups};
 use state_groups::{closed_state, first_state, raise_place};
 use std::alloc::AllocError;
 
-/// The position at which a round begins: no group is closed and nothing is known of any.
+/// Returns the position at which a round begins. No group is closed, and nothing is known of any group.
 pub(crate) fn first_position<C: CountySet>(
     input: &SearchInput<C>,
 ) -> Result<Position<C>, AllocError>
@@ -37,8 +37,8 @@ pub(crate) fn first_position<C: CountySet>(
     })
 }
 
-/// The groups of the takes of a branch at the county at the place, up to the size that is known. A step is taken for
-/// each group that has the county.
+/// Returns the groups of the takes of a branch at the county at `place`, up to the known size. A step is taken for each
+/// known group that has the county.
 pub(crate) fn groups_to_take<C: CountySet>(
     input: &SearchInput<C>,
     position: &Position<C>,
@@ -74,7 +74,8 @@ pub(crate) fn groups_to_take<C: CountySet>(
     }
 }
 
-/// The groups of one county more that are apart from a group that is closed, if they are listed.
+/// Returns the listed groups of one county more that share no county with the closed `group`. Returns `None` if they
+/// aren't listed.
 fn larger_apart<C: CountySet>(
     input: &SearchInput<C>,
     position: &Position<C>,
@@ -117,7 +118,7 @@ fn larger_apart<C: CountySet>(
     }))
 }
 
-/// The position where a group is closed: of the groups that are known those apart from it are left.
+/// Returns the position where `group` is closed. Of the known groups, those that share no county with it are left.
 pub(crate) fn closed_position<C: CountySet>(
     input: &SearchInput<C>,
     position: &Position<C>,
@@ -164,8 +165,8 @@ pub(crate) fn closed_position<C: CountySet>(
     })
 }
 
-/// The position where the county at the place is raised past the size that is known: of the groups those that lack it
-/// are left.
+/// Returns the position where the county at `place` is raised past the known size. Of the groups of that size, those
+/// that lack the county are left.
 pub(crate) fn raised_position<C: CountySet>(
     input: &SearchInput<C>,
     position: Position<C>,

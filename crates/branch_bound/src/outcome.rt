@@ -1,13 +1,13 @@
-//! What a search says of a state, of a take, and of all takes of a branch.
+//! What a search finds at a state, at a take, and at all takes of a branch.
 
 use crate::position::Position;
 use certificate_data::{Certificate, Leaf, Take, Tree};
 use county_codes::Grouping;
 
-/// What a search says of a state.
+/// What a search finds at a state.
 #[derive(Drop)]
 pub(crate) enum SearchOutcome {
-    /// No lawful grouping that agrees with the state is greater than the target: its proof tree.
+    /// A proof tree of the state: no lawful grouping that agrees with the state is greater than the target.
     Proved(Tree),
     /// A lawful grouping that agrees with the state and is greater than the target.
     Better(Grouping),
@@ -35,7 +35,7 @@ pub(crate) enum Next<C> {
     Groups(Vec<C>),
 }
 
-/// What a take of a branch ends with.
+/// What the search of one take of a branch ends with.
 #[derive(Drop)]
 pub(crate) enum Taken {
     /// The take with its proof tree.
@@ -44,16 +44,16 @@ pub(crate) enum Taken {
     Better(Grouping),
 }
 
-/// What all takes of a branch end with.
+/// What the search of all takes of a branch ends with.
 #[derive(Drop)]
 pub(crate) enum Takes {
-    /// Each with its proof tree.
+    /// All takes, each with its proof tree.
     Proved(Vec<Take>),
     /// A greater grouping was found where the group of one of them is closed.
     Better(Grouping),
 }
 
-/// Where a search goes on behind a branch.
+/// Where a search goes on after the takes of a branch.
 #[derive(Drop)]
 pub(crate) enum Raised<C> {
     /// The position where the county of the branch is raised.

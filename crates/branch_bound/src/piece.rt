@@ -1,19 +1,19 @@
-//! What a desk answers of a piece of a shared proof, and the branch at which a piece may be split.
+//! The solver's answer to a piece of a shared proof, and the branch at which a piece may be split.
 
 use certificate_data::Tree;
 use county_codes::{CountyCode, Grouping};
 
-/// A branch at which a piece may be split: into one piece for each group that fits, has the county and has at most
-/// `limit` counties, and one where the county is raised past the limit.
+/// A branch at which a piece may be split. There is one new piece for each group that fits, has the county and has at
+/// most `limit` counties. In one more piece the county is raised past the limit.
 #[derive(Clone, Copy, Debug, PartialEq, Eq, Drop)]
 pub struct Split {
     /// The county.
     pub county: CountyCode,
-    /// The most counties of a group of the branch.
+    /// The greatest number of counties in a group of the branch.
     pub limit: u16,
 }
 
-/// What a desk answers of a piece: a state of a round.
+/// The solver's answer to a piece, which is a state of a round.
 #[derive(Debug, Drop)]
 pub enum Piece {
     /// A proof tree of the state: no lawful grouping that agrees with the state is greater than the target.
@@ -22,6 +22,7 @@ pub enum Piece {
     Better(Grouping),
     /// A lawful grouping that agrees with the state and is greater than the target, with a group above the limit.
     Wider(Grouping),
-    /// The steps ran out. In a wide round it has the branch that the search made first at the state, if it came to one.
+    /// The steps ran out. In a wide round, this has the first branch that the search made at the state, if it came to
+    /// one.
     Open(Option<Split>),
 }

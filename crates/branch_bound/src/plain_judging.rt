@@ -1,4 +1,5 @@
-//! How a state of a plain round ends, or at which county a search branches there: the first that is open to the limit.
+//! How a state of a plain round ends, or the county at which a search branches there. It branches at the first county
+//! that is open to the limit.
 
 ghost use Rattle.std.specs.Prelude.{◌≡◌, ℕ, ◌≤◌, ◌<◌, IfOk, OnOk, IsErrOf, MatchOption, ⊤};
 ghost use Rattle.county_problem.specs.OrderedValue.{code_at};
@@ -20,7 +21,8 @@ use search_ends::{empty_leaf, finished_grouping, room_leaf, whole_leaf};
 use state_groups::{State, open_places};
 use std::alloc::AllocError;
 
-/// The place of the first county that is open to the limit; none where no group of at most the limit fits.
+/// Returns the place of the first county that is open to the limit. Returns `None` only if no group of at most the
+/// limit fits.
 fn first_open<C: CountySet>(
     input: &SearchInput<C>,
     state: &State<C>,
@@ -42,7 +44,7 @@ fn first_open<C: CountySet>(
     }
 }
 
-/// A leaf that is valid at the state, found without a look at its groups.
+/// Returns a leaf that is valid at the state and can be found without looking at its groups.
 fn first_leaf<C: CountySet>(
     input: &SearchInput<C>,
     state: &State<C>,
@@ -72,7 +74,7 @@ fn first_leaf<C: CountySet>(
     )
 }
 
-/// What a state ends with at which no group of at most the limit fits.
+/// Returns what a state ends with if no group of at most the limit fits: a leaf or a greater grouping.
 fn last_end<C: CountySet>(input: &SearchInput<C>, state: &State<C>) -> Result<PlainMove, AllocError>
     requires input { IsPlainGround C.PLACES C.test input.now }
     requires at { IsStateOf C.test input.now state.now }
@@ -95,7 +97,7 @@ fn last_end<C: CountySet>(input: &SearchInput<C>, state: &State<C>) -> Result<Pl
     Ok(PlainMove::Better(found))
 }
 
-/// How a state ends at which no early leaf is valid, or where the search branches.
+/// Returns how a state without a valid early leaf ends, or where the search branches.
 fn end_or_branch<C: CountySet>(
     input: &SearchInput<C>,
     state: &State<C>,
@@ -112,7 +114,7 @@ fn end_or_branch<C: CountySet>(
     }
 }
 
-/// How the state ends, or at which place the search branches there. A step is taken for the state.
+/// Returns how the state ends, or the place at which the search branches there. A step is taken for the state.
 pub(crate) fn next_plain_move<C: CountySet>(
     input: &SearchInput<C>,
     state: &State<C>,

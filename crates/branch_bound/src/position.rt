@@ -2,22 +2,23 @@
 
 use state_groups::State;
 
-/// Groups of one county more than those that are known: all that fit, by their lists of places, and maybe dead ones.
+/// Groups of one county more than those that are known, by their lists of places. They include all that fit, and maybe
+/// dead ones.
 #[derive(Drop)]
 pub(crate) struct Larger<C> {
     pub(crate) groups: Vec<C>,
-    /// Whether dead groups were left out since a group was closed.
+    /// Whether dead groups have been left out since a group was last closed.
     pub(crate) tested: bool,
 }
 
-/// Where a search stands: a state, and what is known of its groups. None of fewer than `size` counties fits, and
-/// `groups` has all of `size` counties that fit, by their lists of places, and maybe dead ones.
+/// Where a search stands: a state, and what is known of its groups. No group of fewer than `size` counties fits.
+/// `groups` has all groups of `size` counties that fit, by their lists of places, and maybe dead ones.
 #[derive(Drop)]
 pub(crate) struct Position<C> {
     pub(crate) state: State<C>,
     pub(crate) size: u16,
     pub(crate) groups: Vec<C>,
-    /// Whether dead groups were left out since a group was closed.
+    /// Whether dead groups have been left out since a group was last closed.
     pub(crate) tested: bool,
     /// The groups of one county more, if they are listed.
     pub(crate) larger: Option<Larger<C>>,

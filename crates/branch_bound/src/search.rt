@@ -32,7 +32,8 @@ use place_sets::CountySet;
 use search_groups::PartLists;
 use std::alloc::AllocError;
 
-/// The take of a group that is closed where the search has this outcome, or the better grouping that was found there.
+/// Returns the take of `group`, given the `outcome` of the search where it is closed. If the search found a better
+/// grouping there, it is returned instead.
 pub(crate) fn taken_of<C: CountySet>(
     input: &SearchInput<C>,
     group: &C,
@@ -56,7 +57,7 @@ pub(crate) fn taken_of<C: CountySet>(
     }
 }
 
-/// Takes with one more behind them, or the better grouping that was found in its place.
+/// Appends the take to the `takes`. If a better grouping was found in its place, it is returned instead.
 pub(crate) fn with_take(takes: Vec<Take>, taken: Result<Taken, Stop>) -> Result<Takes, Stop>
     ensures proved { (more : _) → result ≡ Ok (all.Proved more)
         → (take : TakeHeld) × (taken ≡ Ok (one.Proved take)) × (more.items ≡ takes.items ++ take ∷ []) }
@@ -76,8 +77,8 @@ pub(crate) fn with_take(takes: Vec<Take>, taken: Result<Taken, Stop>) -> Result<
     }
 }
 
-/// The position behind a branch at the county at the place: the branch with these takes is put to the others, and the
-/// county is raised. Or the better grouping that was found in the place of the takes.
+/// Returns the position after a branch at the county at `place`, where the county is raised. The branch with these
+/// `takes` is appended to the `branches`. If a better grouping was found in place of the takes, it is returned instead.
 fn raised_behind<C: CountySet>(
     input: &SearchInput<C>,
     at: Position<C>,
@@ -135,7 +136,8 @@ fn raised_behind<C: CountySet>(
     }
 }
 
-/// The take of a group with its proof tree, or a better grouping found where the group is closed.
+/// Builds the take of a group with its proof tree. If a better grouping is found where the group is closed, it is
+/// returned instead.
 #[cycle(proving)]
 fn prove_take<C: CountySet, W: Watcher>(
     input: &SearchInput<C>,
@@ -162,7 +164,8 @@ fn prove_take<C: CountySet, W: Watcher>(
     taken_of(input, group, outcome)
 }
 
-/// The takes of a branch at the county at the place, or a better grouping found where the group of one is closed.
+/// Builds the takes of a branch at the county at `place`. If a better grouping is found where the group of a take is
+/// closed, it is returned instead.
 #[cycle(proving)]
 fn prove_takes<C: CountySet, W: Watcher>(
     input: &SearchInput<C>,
@@ -202,12 +205,12 @@ fn prove_takes<C: CountySet, W: Watcher>(
     Ok(Takes::Proved(takes))
 }
 
-/// A proof tree at the position's state, or a lawful grouping that agrees with the state and is greater than the
-/// round's target. It goes as deep as takes nest.
+/// Builds a proof tree at the position's state, or finds a lawful grouping that agrees with the state and is greater
+/// than the round's target. The recursion goes as deep as takes nest.
 ///
 /// # Errors
 ///
-/// `StepLimit` only where all steps are used, `Memory` only where a growth was refused.
+/// Returns `StepLimit` only if all steps are used, and `Memory` only if a growth was refused.
 #[cycle(proving)]
 pub(crate) fn prove<C: CountySet, W: Watcher>(
     input: &SearchInput<C>,

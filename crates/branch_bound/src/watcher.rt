@@ -1,15 +1,16 @@
-//! Who is told how far a search is.
+//! Watchers, which are told how far a search is.
 
 use county_codes::Grouping;
 use county_problem::Steps;
 
-/// Who is told how far a search is. It changes nothing of the answer: what is promised of a search holds for each
-/// watcher.
+/// A watcher, which is told how far a search is. It changes nothing in the answer: what is promised of a search holds
+/// for each watcher.
 pub trait Watcher {
-    /// A round begins: it closes groups of at most `limit` counties, and the best grouping so far is its target.
+    /// Handles the start of a round. The round closes groups of at most `limit` counties, and its `target` is the best
+    /// grouping so far.
     fn round(&mut self, limit: u16, target: &Grouping);
 
-    /// A state is entered, where so many steps are taken.
+    /// Handles the entry into a state. `steps` tells how many steps are taken by then.
     fn step(&mut self, steps: &Steps);
 }
 

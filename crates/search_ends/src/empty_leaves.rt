@@ -1,4 +1,4 @@
-//! Bound leaves for a state where no group of at most so many counties fits.
+//! Bound leaves for a state where no group up to some size fits.
 
 ghost use Rattle.std.specs.Prelude.{◌≡◌, ℕ, ◌≤◌, map, length, ⊤, ◌⊎◌, IfOk, MatchOption};
 ghost use Rattle.county_codes.specs.Limits.{most_counties};
@@ -20,8 +20,8 @@ use state_groups::State;
 use state_judge::{closed_of_size, room_left};
 use std::alloc::{AllocError, Global};
 
-/// The line of a bound leaf for a size, in counties, that no group has: `room` where too few counties are open to one,
-/// else `weigh 1` without weights.
+/// Returns the line of a bound leaf for a `size`, in counties, that no group has. It is `room` if too few counties are
+/// open to a group of the size, and `weigh 1` without weights otherwise.
 fn empty_line<C: CountySet>(
     alloc: Global,
     ordered: &Ordered,
@@ -43,7 +43,7 @@ fn empty_line<C: CountySet>(
     })
 }
 
-/// The lines of a bound leaf for the sizes from 1 through the last one, where no group has any of the sizes.
+/// Returns the lines of a bound leaf for the sizes from 1 through `last`, where no group has any of these sizes.
 fn empty_lines<C: CountySet>(
     alloc: Global,
     ordered: &Ordered,
@@ -63,7 +63,8 @@ fn empty_lines<C: CountySet>(
     Ok(lines)
 }
 
-/// A bound leaf: for the sizes below this one lines without a group that fits, and for this size the given line.
+/// Returns a bound leaf that ends with the line `last` for the `size`. For the smaller sizes it has lines without a
+/// group that fits.
 pub(crate) fn ending_leaf<C: CountySet>(
     alloc: Global,
     ordered: &Ordered,
@@ -83,8 +84,9 @@ pub(crate) fn ending_leaf<C: CountySet>(
     Ok(Leaf::Bound(lines))
 }
 
-/// Where no group of at most so many counties fits, the last size of a bound leaf: the first one of which fewer groups
-/// are closed than the target has, or the limit where all counts are the target's.
+/// Returns the last size of a bound leaf, where no group of at most `size` counties fits. It is the first size that
+/// differs from the target, if fewer groups of it are closed than the target has. If all counts are the target's, it is
+/// the limit. Otherwise it returns `None`.
 fn last_size<C: CountySet>(
     ordered: &Ordered,
     round: &Round,
@@ -114,13 +116,15 @@ fn last_size<C: CountySet>(
     None
 }
 
-/// A bound leaf where no group of at most so many counties fits. Its lines go through the first size of which fewer
-/// groups are closed than the target has, or through the limit where all counts are the target's. `None` where more
-/// groups are closed at the first size that differs, where none differs below the limit, and where there is no target.
+/// Returns a bound leaf, where no group of at most `size` counties fits. Its lines go through the first size of which
+/// fewer groups are closed than the target has. If all counts are the target's, they go through the limit.
+///
+/// Returns `None` if more groups are closed at the first size that differs. It also returns `None` if `size` is below
+/// the limit and no size through `size` differs, or if there is no target.
 ///
 /// The leaf is complete, or the closed groups have the target's counts through the limit.
 ///
-/// An error comes where memory was refused.
+/// Returns an error if memory was refused.
 pub fn empty_leaf<C: CountySet>(
     alloc: Global,
     ordered: &Ordered,

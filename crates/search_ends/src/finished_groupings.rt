@@ -24,14 +24,15 @@ use place_sets::CountySet;
 use state_groups::State;
 use std::alloc::AllocError;
 
-/// The lawful grouping of a state that a search can't go on from: no group of at most the limit fits, no leaf is valid,
-/// and the closed groups are ahead of the target, if there is one. Its sets are the closed groups and the connected
-/// parts of the rest, with seats by `allot`; it agrees with the state and is greater than the target. The first
-/// grouping of a search is that of a round with the limit 0 and no target, at the state where nothing is closed.
+/// Returns the lawful grouping of a state that a search can't go on from. At such a state, no group of at most the
+/// limit fits and no leaf is valid. If there is a target, the closed groups are ahead of it. The sets of the grouping
+/// are the closed groups and the connected parts of the rest, with seats by `allot`. The grouping agrees with the state
+/// and is greater than the target. The first grouping of a search is that of a round with the limit 0 and no target, at
+/// the state where nothing is closed.
 ///
-/// The groups stand by size, in counties, and then by the places of their counties; a group names its counties in the
-/// order of their places. All numbers are in the ranges of a certificate's target. `_round` is the round of the search,
-/// and nothing of it is read. An error comes where memory was refused.
+/// The groups are ordered by size, in counties, and then by the places of their counties. A group names its counties in
+/// the order of their places. All numbers are in the ranges of a certificate's target. `_round` is the round of the
+/// search, and nothing of it is read. Returns an error if memory was refused.
 pub fn finished_grouping<C: CountySet>(
     graph: &CountyGraph<C>,
     _round: &Round,

@@ -1,4 +1,4 @@
-//! Groups made of sets of places, with given seats.
+//! Groups made from sets of places, with given seats.
 
 ghost use Rattle.std.specs.Prelude.{◌≡◌, ◌≤◌, length, All, IfOk};
 ghost use Rattle.grouping_laws.specs.Ranges.{seated};
@@ -10,7 +10,7 @@ use county_problem::Ordered;
 use place_sets::CountySet;
 use std::alloc::{AllocError, Global};
 
-/// The group of a set, with these seats.
+/// Returns the group of a `set`, with these `seats`.
 fn group_of<C: CountySet>(
     alloc: Global,
     ordered: &Ordered,
@@ -28,7 +28,7 @@ fn group_of<C: CountySet>(
     })
 }
 
-/// The groups of the sets, with these seats, in turn.
+/// Returns the groups of the `sets`, with these `seats`, in the same order.
 pub(crate) fn seated_groups<C: CountySet>(
     alloc: Global,
     ordered: &Ordered,

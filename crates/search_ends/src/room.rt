@@ -19,11 +19,11 @@ use state_groups::State;
 use state_judge::room_left;
 use std::alloc::{AllocError, Global};
 
-/// A bound leaf that ends with `room` at a size, in counties, below which no group fits: there is no room for as many
-/// groups of the size as are wanted. `None` where there is, and where `wanted_more` says none. The leaf falls short, so
-/// it is complete.
+/// Returns a bound leaf that ends with `room` at a `size`, in counties, below which no group fits. The leaf says that
+/// there is no room for as many groups of the size as are wanted. Returns `None` if there is room, or if `wanted_more`
+/// returns `None`. The leaf falls short, so it is complete.
 ///
-/// An error comes where memory was refused.
+/// Returns an error if memory was refused.
 pub fn room_leaf<C: CountySet>(
     alloc: Global,
     ordered: &Ordered,

@@ -14,7 +14,7 @@ use place_sets::CountySet;
 use state_groups::people_in;
 use std::alloc::{AllocError, Global};
 
-/// The people of each set, in turn.
+/// Returns the people of each set, in the same order.
 fn people_of_sets<C: CountySet>(
     alloc: Global,
     ordered: &Ordered,
@@ -33,8 +33,8 @@ fn people_of_sets<C: CountySet>(
     Ok(people)
 }
 
-/// Seats for sets that have each county once, in turn: a number for each set that its people suit, with the seats left
-/// of the problem as their sum. There are such numbers.
+/// Returns seats for sets that have each county once, in the same order. Each set gets a number of seats that its
+/// people suit, and these numbers add up to the seats left of the problem. Such numbers must exist.
 pub(crate) fn seats_for<C: CountySet>(
     alloc: Global,
     ordered: &Ordered,

@@ -12,7 +12,7 @@ use place_sets::{CountySet, copy_sets, sorted};
 use state_groups::State;
 use std::alloc::AllocError;
 
-/// The closed groups of a state, and behind them the connected parts of its rest.
+/// Returns the closed groups of a state, followed by the connected parts of its rest.
 fn closed_and_parts<C: CountySet>(
     graph: &CountyGraph<C>,
     state: &State<C>,
@@ -30,8 +30,8 @@ fn closed_and_parts<C: CountySet>(
     Ok(sets)
 }
 
-/// The closed groups of a state and the connected parts of its rest, by size and then by places. Sets that differ stand
-/// in that order.
+/// Returns the closed groups of a state and the connected parts of its rest, ordered by size and then by places. Sets
+/// that differ stand in that order.
 pub(crate) fn finished_sets<C: CountySet>(
     graph: &CountyGraph<C>,
     state: &State<C>,

@@ -1,4 +1,4 @@
-//! How the closed groups of a state stand against the target, size by size.
+//! How the closed groups of a state compare with the target, size by size.
 
 ghost use Rattle.std.specs.Prelude.{◌≡◌, ◌≤◌, ⊤, length, MatchOption};
 ghost use Rattle.county_codes.specs.Limits.{most_counties};
@@ -15,7 +15,7 @@ use place_sets::CountySet;
 use state_groups::State;
 use state_judge::closed_of_size;
 
-/// How many groups of the grouping have so many counties.
+/// Returns the number of groups of the grouping that have `size` counties.
 pub fn groups_of_size(grouping: &Grouping, size: u16) -> usize
     ensures { result ≡ counts (sets_of grouping.now.groups.items) size }
 {
@@ -28,8 +28,8 @@ pub fn groups_of_size(grouping: &Grouping, size: u16) -> usize
     count
 }
 
-/// The first size from 1 through the last one, in counties, of which there are not as many closed groups as the target
-/// has; `None` where there are as many of each.
+/// Returns the first size from 1 through `last`, in counties, at which the number of closed groups isn't the target's.
+/// Returns `None` if there are as many of each size.
 pub(crate) fn first_difference<C: CountySet>(
     ordered: &Ordered,
     target: &Grouping,
@@ -52,8 +52,9 @@ pub(crate) fn first_difference<C: CountySet>(
     None
 }
 
-/// How many more groups of a size, in counties, the target has than are closed, where of each smaller size there are
-/// as many; `None` where none is missing, where a smaller size differs, and where there is no target.
+/// Returns how many more groups of a `size`, in counties, the target has than are closed, provided that there are as
+/// many of each smaller size. Returns `None` if no group is missing, if a smaller size differs, or if there is no
+/// target.
 pub fn wanted_more<C: CountySet>(
     ordered: &Ordered,
     round: &Round,

@@ -12,7 +12,7 @@ use place_sets::CountySet;
 use state_groups::{State, has_stuck_part, is_stuck_at};
 use std::alloc::AllocError;
 
-/// The first place of the rest around which the connected part is stuck, `None` where no part is.
+/// Returns the first place of the rest around which the connected part is stuck. Returns `None` if no part is.
 fn stuck_place<C: CountySet>(
     graph: &CountyGraph<C>,
     state: &State<C>,
@@ -37,10 +37,10 @@ fn stuck_place<C: CountySet>(
     Ok(None)
 }
 
-/// A county for which a stuck leaf is valid at the state, the one at the first place of them: the connected part of the
-/// rest around it can't be filled. `None` exactly where there is no such county.
+/// Returns a county for which a stuck leaf is valid at the state: the connected part of the rest around it can't be
+/// filled. If there are several, it is the one at the first place. Returns `None` exactly if there is no such county.
 ///
-/// An error comes where memory was refused.
+/// Returns an error if memory was refused.
 pub fn stuck_county<C: CountySet>(
     graph: &CountyGraph<C>,
     state: &State<C>,

@@ -27,7 +27,7 @@ use std::alloc::{AllocError, Global};
 /// The greatest quota of a line.
 const MOST_QUOTA: u64 = 256_000_000;
 
-/// The weights of the places of a region, 0 for each other place.
+/// Returns the weights of the places of a `region`, and 0 for each other place.
 fn weights_within<C: CountySet>(
     alloc: Global,
     region: &C,
@@ -55,7 +55,8 @@ fn weights_within<C: CountySet>(
     Ok(table)
 }
 
-/// What the lightest of the groups weighs by the table; the greatest quota where that is less.
+/// Returns the weight of the lightest of the `groups` by the `table`. If that exceeds the greatest quota, it returns
+/// the greatest quota.
 fn least_weight<C: CountySet>(groups: &[C], table: &[u32]) -> u32
     requires few { length table.now ≤ most_counties }
     requires below { AreBelow (length table.now) C.test groups.now }
@@ -70,7 +71,8 @@ fn least_weight<C: CountySet>(groups: &[C], table: &[u32]) -> u32
     least as u32
 }
 
-/// The weight of the county with the code by the table of places, 0 where the order has no such county.
+/// Returns the weight of the county with this `code` by the `table` of places. Returns 0 if the order has no such
+/// county.
 fn weight_at(ordered: &Ordered, table: &[u32], code: CountyCode) -> u32
     requires count { length table.now ≡ length ordered.now.order }
     requires range { All (λ w. w ≤ 1000000) table.now }
@@ -84,7 +86,7 @@ fn weight_at(ordered: &Ordered, table: &[u32], code: CountyCode) -> u32
     }
 }
 
-/// The weights above 0 of the table, by ascending codes.
+/// Returns the weights above 0 of the `table`, by ascending codes.
 fn listed_weights(alloc: Global, ordered: &Ordered, table: &[u32]) -> Result<Weights, AllocError>
     requires count { length table.now ≡ length ordered.now.order }
     requires range { All (λ w. w ≤ 1000000) table.now }
@@ -108,8 +110,9 @@ fn listed_weights(alloc: Global, ordered: &Ordered, table: &[u32]) -> Result<Wei
     Ok(Weights::new(weights))
 }
 
-/// A line for a size, in counties, of the weights of the counties open to it. Its quota is what the lightest of the
-/// groups weighs. `None` where that is 0, and where the line allows as many groups as are wanted.
+/// Returns a line for a `size`, in counties, with the weights of the counties that are open to it. The quota is what
+/// the lightest of the `groups` weighs. Returns `None` if the quota is 0, or if the line allows as many groups as are
+/// `wanted`.
 fn weighed_line<C: CountySet>(
     alloc: Global,
     ordered: &Ordered,
@@ -154,13 +157,13 @@ fn weighed_line<C: CountySet>(
     Ok(Some(Allowance::Weigh { quota, weights }))
 }
 
-/// A bound leaf that ends with `weigh` at a size, in counties, below which no group fits: by the weights of the
-/// counties that are open to it, with what the lightest of the groups weighs as quota, fewer groups share them than
-/// are wanted. `None` where as many may, where a group weighs nothing, and where `wanted_more` says none. The leaf
-/// falls short, so it is complete.
+/// Returns a bound leaf that ends with `weigh` at a `size`, in counties, below which no group fits. Its last line has
+/// the weights of the counties that are open to the size, and its quota is what the lightest of the `groups` weighs. By
+/// that line, fewer groups share the weights than are wanted. Returns `None` if as many may share them, if a group
+/// weighs nothing, or if `wanted_more` returns `None`. The leaf falls short, so it is complete.
 ///
-/// The groups are candidates of the size, among them all that fit. There is a weight for each place of the order, at
-/// most 1,000,000. An error comes where memory was refused.
+/// The `groups` are candidates of the size, among them all that fit. There is a weight for each place of the order, at
+/// most 1,000,000. Returns an error if memory was refused.
 pub fn weighed_leaf<C: CountySet>(
     alloc: Global,
     ordered: &Ordered,

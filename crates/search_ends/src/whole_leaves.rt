@@ -18,7 +18,8 @@ use state_groups::State;
 use state_judge::judge_seats;
 use std::alloc::AllocError;
 
-/// A stuck leaf that is valid at the state, its code in the range of its line; `None` exactly where there is none.
+/// Returns a stuck leaf that is valid at the state, with its code in the range of its line. Returns `None` exactly if
+/// there is none.
 fn stuck_leaf<C: CountySet>(
     graph: &CountyGraph<C>,
     round: &Round,
@@ -48,10 +49,10 @@ fn stuck_leaf<C: CountySet>(
     }
 }
 
-/// A stuck leaf that is valid at the state, the one around the first place where there is any, else the seats leaf
-/// where it is valid; `None` exactly where there is neither.
+/// Returns a stuck leaf that is valid at the state, the one around the first place where there is any. If there is
+/// none, it returns the seats leaf, provided that it is valid. Returns `None` exactly if neither is valid.
 ///
-/// An error comes where memory was refused.
+/// Returns an error if memory was refused.
 pub fn whole_leaf<C: CountySet>(
     graph: &CountyGraph<C>,
     round: &Round,

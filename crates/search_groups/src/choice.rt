@@ -1,4 +1,4 @@
-//! The county at which a branch is made, by the weights of the counties.
+//! The county at which a branch is made, chosen by the weights of the counties.
 
 ghost use Rattle.std.specs.Prelude.{◌≡◌, ℕ, true, false, ◌<◌, ◌≤◌, length, All, Contains, IfOk, MatchOption};
 ghost use Rattle.county_codes.specs.Limits.{most_counties};
@@ -8,7 +8,7 @@ use crate::sets::{covered_by, lightest};
 use place_sets::CountySet;
 use std::alloc::{AllocError, Global};
 
-/// The places of a set, all below `places`, whose weight is at least a sixth of the quota.
+/// Returns the places of a set, all below `places`, whose weight is at least a sixth of the `quota`.
 fn heavy_places<C: CountySet>(set: C, places: u16, weights: &[u32], quota: u64) -> C
     requires fits { places ≤ C.PLACES }
     requires count { length weights.now ≡ places }
@@ -23,14 +23,15 @@ fn heavy_places<C: CountySet>(set: C, places: u16, weights: &[u32], quota: u64) 
     heavy
 }
 
-/// How many of the groups have a place.
+/// Returns the number of groups that have a place.
 fn groups_at<C: CountySet>(groups: &[C], place: u16) -> usize
     requires fits { place < C.PLACES }
 {
     groups.iter().filter(|group| group.has(place)).count()
 }
 
-/// The place of a set that the fewest groups have, the least of several; none where the set has no place.
+/// Returns the place of a set that the fewest groups have, and the least of them if there are several. Returns `None`
+/// if the set has no place.
 fn fewest_groups<C: CountySet>(groups: &[C], set: &C) -> Option<u16>
     ensures { MatchOption result ((x : ℕ) → C.test set.now x ≡ false) (λ place. C.test set.now place ≡ true) }
 {
@@ -48,12 +49,13 @@ fn fewest_groups<C: CountySet>(groups: &[C], set: &C) -> Option<u16>
     Some(best)
 }
 
-/// A county to branch at, by its place: of those whose weight is at least a sixth of the lightest group's, else of
-/// all, one that is in the fewest groups. None where no group has a county.
+/// Returns a county to branch at, by its place. It is a county that is in the fewest groups, among those whose weight
+/// is at least a sixth of the lightest group's. If no county is that heavy, it is chosen among all counties of the
+/// groups. Returns `None` if no group has a county.
 ///
 /// # Errors
 ///
-/// Where memory was refused.
+/// Returns an error if memory was refused.
 pub fn county_of_choice<C: CountySet>(
     alloc: Global,
     places: u16,

@@ -17,7 +17,7 @@ use place_sets::CountySet;
 use state_groups::{State, is_live};
 use std::alloc::{AllocError, Global};
 
-/// The groups that pass the test, in turn. An error comes where memory was refused.
+/// Returns copies of the groups that pass the test, in the same order. Returns an error if memory was refused.
 fn groups_passing<C: CountySet, F: Fn(&C) -> bool>(
     alloc: Global,
     ordered: &Ordered,
@@ -46,7 +46,8 @@ fn groups_passing<C: CountySet, F: Fn(&C) -> bool>(
     Ok(kept)
 }
 
-/// The groups that have no county of the other one, in turn. An error comes where memory was refused.
+/// Returns the groups that have no county of the `other` group, in the same order. Returns an error if memory was
+/// refused.
 pub fn groups_apart<C: CountySet>(
     alloc: Global,
     ordered: &Ordered,
@@ -70,7 +71,7 @@ pub fn groups_apart<C: CountySet>(
     )
 }
 
-/// The groups that have the county at the place, in turn. An error comes where memory was refused.
+/// Returns the groups that have the county at `place`, in the same order. Returns an error if memory was refused.
 pub fn groups_having<C: CountySet>(
     alloc: Global,
     ordered: &Ordered,
@@ -97,7 +98,7 @@ pub fn groups_having<C: CountySet>(
     )
 }
 
-/// The groups that lack the county at the place, in turn. An error comes where memory was refused.
+/// Returns the groups that lack the county at `place`, in the same order. Returns an error if memory was refused.
 pub fn groups_lacking<C: CountySet>(
     alloc: Global,
     ordered: &Ordered,
@@ -124,9 +125,9 @@ pub fn groups_lacking<C: CountySet>(
     )
 }
 
-/// The live ones of the groups, in turn: those that leave no part of the rest behind that is stuck.
+/// Returns the live groups, in the same order. A group is live if it leaves no part of the rest behind that is stuck.
 ///
-/// A step is taken for each group that is tested. `StepLimit` comes only where all steps are used, `Memory` only where
+/// A step is taken for each group that is tested. Returns `StepLimit` only if all steps are used, and `Memory` only if
 /// a growth was refused.
 pub fn live_groups<C: CountySet>(
     graph: &CountyGraph<C>,

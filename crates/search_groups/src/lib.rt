@@ -1,18 +1,19 @@
-//! What a search by branch and bound knows of the groups at a state, how it keeps it, and how it weighs the groups.
+//! What a search by branch and bound knows of the groups at a state, how it keeps that knowledge, and how it weighs the
+//! groups.
 //!
-//! It keeps one list, of the groups of one size, and knows that no smaller group fits. Where a group is closed,
-//! those that meet it go; where a county is raised past the size, those that have it go; and dead ones are left
-//! out where the list is tested. `specs/Known` has the definitions.
+//! It keeps one list, of the groups of one size, and knows that no smaller group fits. If a group is closed, those that
+//! meet it are removed. If a county is raised past the size, those that have it are removed. Dead ones are left out
+//! when the list is tested. `specs/Known` has the definitions.
 //!
-//! Where no group is left, it lists the groups of the next size. They are those that fit the connected parts of the
-//! rest, each part by itself, so that lists of parts are kept for all states. `specs/Alone` and `specs/PartLists`
-//! have the definitions.
+//! If no group is left, it lists the groups of the next size. They are those that fit the connected parts of the rest,
+//! each part by itself. That is why lists of parts are kept for all states. `specs/Alone` and `specs/PartLists` have
+//! the definitions.
 //!
-//! `weights` and `choice` are heuristics: weights of the counties of some groups, which show that few of the groups are
-//! disjoint, and the county to branch at. Where each group weighs a quota or more, no more groups are disjoint than the
-//! quota goes into the weight of all counties. Any weights would be right, since each bound leaf is tested where it is
-//! written, and so would any county of a group. So the contracts say only that the weights are small numbers, one for
-//! each place, and that the county is one of a group.
+//! `weights` and `choice` are heuristics. The one gives weights of the counties of some groups, which show that few of
+//! the groups are disjoint. The other gives the county to branch at. If each group weighs a quota or more, no more
+//! groups are disjoint than the quota goes into the weight of all counties. Any weights would be right, since each
+//! bound leaf is tested where it is written, and so would any county of a group. So the contracts only say that the
+//! weights are small numbers, one for each place, and that the county is one of a group.
 #![tactic(auto)]
 
 mod choice;

@@ -17,16 +17,16 @@ use place_sets::CountySet;
 use state_groups::{State, groups_of};
 use std::alloc::{AllocError, Global};
 
-/// How many buckets there are, a prime number.
+/// The number of buckets, which is prime.
 const BUCKETS: u32 = 1021;
 
-/// Where so many lists are kept, all of them go before one more is kept.
+/// The number of kept lists at which all of them are dropped before one more is kept.
 const MOST_LISTS: usize = 20_000;
 
-/// Where the lists have so many groups, all of them go before one more is kept.
+/// The number of groups in the kept lists at which all lists are dropped before one more is kept.
 const MOST_GROUPS: usize = 200_000;
 
-/// All groups of one size that fit a connected part by itself, by their lists of places.
+/// All groups of one size that fit a connected part by itself, ordered by their lists of places.
 #[derive(Drop)]
 pub(crate) struct PartList<C> {
     pub(crate) part: C,
@@ -43,7 +43,7 @@ pub struct PartLists<C> {
 }
 
 impl<C: CountySet> PartList<C> {
-    /// Whether the list is that of the part and the size.
+    /// Returns whether the list is that of this `part` and `size`.
     fn is_for(&self, part: &C, size: u16) -> bool
         ensures { IsTrue result → IsListFor C.test part.now size self.now }
     {
@@ -51,7 +51,7 @@ impl<C: CountySet> PartList<C> {
     }
 }
 
-/// The list of the part and the size, if the bucket has it.
+/// Returns the list of the `part` and the `size`, if the bucket has it.
 fn find<'a, C: CountySet>(bucket: &'a [PartList<C>], part: &C, size: u16) -> Option<&'a PartList<C>>
     ensures is_for { IfSome result (λ list. IsListFor C.test part.now size list.now) }
     ensures there { IfSome result (λ list. (p : Problem) (n : ℕ) → All (IsPartList C.test p n) bucket.now
@@ -65,7 +65,7 @@ fn find<'a, C: CountySet>(bucket: &'a [PartList<C>], part: &C, size: u16) -> Opt
     None
 }
 
-/// The bucket of a part and a size. Each place of the part counts for it.
+/// Returns the bucket of a part and a size. It depends on each place of the part.
 fn bucket_of<C: CountySet>(part: &C, size: u16) -> usize {
     let mut hash = u32::from(size) % BUCKETS;
     let mut from = 0;
@@ -76,7 +76,7 @@ fn bucket_of<C: CountySet>(part: &C, size: u16) -> usize {
     hash as usize
 }
 
-/// Puts copies of the sets behind the groups.
+/// Appends copies of the `sets` to the `groups`.
 fn put_copies<C: CountySet>(
     alloc: Global,
     sets: &[C],
@@ -93,8 +93,8 @@ fn put_copies<C: CountySet>(
     Ok(())
 }
 
-/// For each place the least size that the part's counties ask for by themselves: the size at the places of the part,
-/// and 0 elsewhere.
+/// Returns, for each place, the least size that the counties of the part ask for by themselves. It is `size` at the
+/// places of the part, and 0 elsewhere.
 fn sizes_alone<C: CountySet>(
     alloc: Global,
     places: u16,
@@ -113,8 +113,8 @@ fn sizes_alone<C: CountySet>(
     Ok(least)
 }
 
-/// The state in which no group is closed, and the part is the rest, each county of it in a group of at least the
-/// size.
+/// Returns the state in which no group is closed and the part is the rest. Each county of the part must lie in a group
+/// of at least `size` counties.
 fn state_alone<C: CountySet>(
     alloc: Global,
     places: u16,
@@ -134,7 +134,7 @@ fn state_alone<C: CountySet>(
     })
 }
 
-/// Makes the list of the part and the size. Steps are taken as by `groups_of`.
+/// Makes the list of the `part` and the `size`. Steps are taken as by `groups_of`.
 fn list_part<C: CountySet>(
     graph: &CountyGraph<C>,
     part: &C,
@@ -160,7 +160,7 @@ fn list_part<C: CountySet>(
 }
 
 impl<C: CountySet> PartLists<C> {
-    /// No lists yet.
+    /// Creates the lists, of which there are none yet.
     pub fn new(alloc: Global) -> PartLists<C>
         ensures lists { (p : Problem) (n : ℕ) → AreListsOf C.test p n result }
     {
@@ -171,7 +171,7 @@ impl<C: CountySet> PartLists<C> {
         }
     }
 
-    /// Where the lists are full, none is kept any more.
+    /// Drops all lists if they are full.
     fn make_room(&mut self, alloc: Global)
         ensures lists { (p : Problem) (n : ℕ) → AreListsOf C.test p n self.old → AreListsOf C.test p n self.new }
         ensures room { self.new.lists < 20000 }
@@ -183,7 +183,7 @@ impl<C: CountySet> PartLists<C> {
         }
     }
 
-    /// Makes empty buckets until there is that one.
+    /// Appends empty buckets until there is one at the index `at`.
     fn make_bucket(&mut self, alloc: Global, at: usize) -> Result<(), AllocError>
         ensures lists { (p : Problem) (n : ℕ) → AreListsOf C.test p n self.old → AreListsOf C.test p n self.new }
         ensures bucket { OnOk result (at < length self.new.buckets.items) }
@@ -195,7 +195,7 @@ impl<C: CountySet> PartLists<C> {
         Ok(())
     }
 
-    /// Keeps the list in the bucket.
+    /// Keeps the `list` in the bucket at the index `at`. If the lists are full, they are all dropped before.
     fn keep(&mut self, alloc: Global, at: usize, list: PartList<C>) -> Result<(), AllocError>
         ensures { (p : Problem) (n : ℕ) → IsPartList C.test p n list → AreListsOf C.test p n self.old
             → AreListsOf C.test p n self.new }
@@ -209,7 +209,8 @@ impl<C: CountySet> PartLists<C> {
         Ok(())
     }
 
-    /// Where the list of the part and the size is kept, puts copies of its groups behind the groups.
+    /// Appends copies of the groups of the `part` and the `size` to the `groups`, if their list is kept. Returns
+    /// whether it is. If not, the `groups` stay unchanged.
     fn put_kept(
         &self,
         alloc: Global,
@@ -234,10 +235,10 @@ impl<C: CountySet> PartLists<C> {
         }
     }
 
-    /// Puts the groups of the size that fit the part by itself behind the groups.
+    /// Appends the groups of `size` counties that fit the `part` by itself to the `groups`.
     ///
-    /// Where no list of them is kept, one is made and kept. A list that wasn't made to its end is not kept. A step is
-    /// taken for the look. Where the list is made, steps are taken as by `groups_of`.
+    /// If no list of them is kept, one is made and kept. A list that wasn't made to its end is not kept. A step is
+    /// taken to look for the list. If the list is made, steps are taken as by `groups_of`.
     pub(crate) fn put(
         &mut self,
         graph: &CountyGraph<C>,

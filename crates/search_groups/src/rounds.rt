@@ -10,16 +10,16 @@ use place_sets::CountySet;
 use state_groups::weight_in;
 use std::alloc::{AllocError, Global};
 
-/// How often the lightest group is made heavier.
+/// The number of times that the lightest group is made heavier.
 const ROUNDS: u32 = 400;
 
 /// The weight of each county at first.
 const START: u32 = 60;
 
-/// More groups than these are weighed by 1 for each county alone.
+/// The number of groups above which each county simply weighs 1.
 const MANY: usize = 2_000;
 
-/// Weights by place, the weight of the lightest group, and that of all counties.
+/// Weights by place, the weight of the lightest group, and the weight of all counties.
 #[derive(Drop)]
 struct Weighing {
     weights: Vec<u32>,
@@ -28,18 +28,18 @@ struct Weighing {
 }
 
 impl Weighing {
-    /// Whether the quota goes into the sum less than `wanted` times.
+    /// Returns whether the quota goes into the sum fewer than `wanted` times.
     fn shows(&self, wanted: u32) -> bool {
         self.sum < self.quota.saturating_mul(u64::from(wanted))
     }
 
-    /// Whether that quota goes into that sum less often.
+    /// Returns whether `quota` goes into `sum` fewer times than this weighing's quota goes into its sum.
     fn is_beaten_by(&self, quota: u64, sum: u64) -> bool {
         sum.saturating_mul(self.quota) < self.sum.saturating_mul(quota)
     }
 }
 
-/// The better of what was found and of these weights, whose lightest group weighs the quota.
+/// Returns the better of the `best` weighing so far and these `weights`, whose lightest group weighs the `quota`.
 fn better<C: CountySet>(
     alloc: Global,
     best: Weighing,
@@ -67,7 +67,7 @@ fn better<C: CountySet>(
     })
 }
 
-/// The better of what was found and of these weights without what no group needs.
+/// Returns the better of the `best` weighing so far and these `weights`, lowered by what no group needs.
 fn better_lowered<C: CountySet>(
     alloc: Global,
     best: Weighing,
@@ -89,8 +89,9 @@ fn better_lowered<C: CountySet>(
     better(alloc, best, &lower, covered, quota)
 }
 
-/// The best weights of all rounds, or the first that show that fewer than `wanted` groups are disjoint. Each round
-/// tries the weights, every eighth without what no group needs, and then makes the lightest group heavier.
+/// Returns the best weights of all rounds, or the first ones that show that fewer than `wanted` groups are disjoint.
+/// Each round tries the weights, and then makes the lightest group heavier. Every eighth round tries them without what
+/// no group needs.
 fn best_of_rounds<C: CountySet>(
     alloc: Global,
     weights: &mut [u32],
@@ -125,12 +126,13 @@ fn best_of_rounds<C: CountySet>(
     Ok(best.weights)
 }
 
-/// Weights by place which show that fewer than `wanted` of the groups, all of `size` counties, are disjoint, or the
-/// best that were found: at most 1,000,000 each, and 0 for a county of no group.
+/// Returns weights by place which show that fewer than `wanted` of the `groups`, all of `size` counties, are disjoint.
+/// If no such weights were found, it returns the best that were found. Each weight is at most 1,000,000, and 0 for a
+/// county of no group.
 ///
 /// # Errors
 ///
-/// Where memory was refused.
+/// Returns an error if memory was refused.
 pub fn weigh<C: CountySet>(
     alloc: Global,
     places: u16,

@@ -9,7 +9,7 @@ use place_sets::CountySet;
 use state_groups::weight_in;
 use std::alloc::{AllocError, Global};
 
-/// The places of all groups.
+/// Returns the places of all groups.
 pub(crate) fn covered_by<C: CountySet>(alloc: Global, groups: &[C]) -> Result<C, AllocError>
     ensures { IfOk result (λ s. (x : ℕ) → C.test s x ≡ list_any (λ g. C.test g x) groups.now) }
 {
@@ -20,7 +20,7 @@ pub(crate) fn covered_by<C: CountySet>(alloc: Global, groups: &[C]) -> Result<C,
     Ok(covered)
 }
 
-/// The index of the lightest group, the first of several, and its weight.
+/// Returns the index of the lightest group and its weight. If several are lightest, it is the first of them.
 pub(crate) fn lightest<C: CountySet>(weights: &[u32], groups: &[C]) -> (usize, u64)
     requires few { length weights.now ≤ most_counties }
     requires below { AreBelow (length weights.now) C.test groups.now }

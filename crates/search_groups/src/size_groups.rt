@@ -23,8 +23,8 @@ use place_sets::{CountySet, sorted};
 use state_groups::{State, all_groups_of_size, open_places};
 use std::alloc::{AllocError, Global};
 
-/// Whether a part of so many counties may have a group of the size. The group is the part, or leaves at least as many
-/// counties of it as it has.
+/// Returns whether a part of this number of `counties` may have a group of the `size`. The group is the whole part, or
+/// it leaves at least as many counties of the part as it has itself.
 fn has_room(counties: u32, size: u16) -> bool
     ensures { IsTrue result ↔ ((counties ≡ size) ⊎ (2 * size ≤ counties)) }
 {
@@ -32,7 +32,7 @@ fn has_room(counties: u32, size: u16) -> bool
     counties == size || counties >= 2 * size
 }
 
-/// Whether each county of the rest may lie in a group of the size.
+/// Returns whether each county of the rest may lie in a group of the `size`.
 fn all_open<C: CountySet>(alloc: Global, state: &State<C>, size: u16) -> Result<bool, AllocError>
     requires fits { length state.now.least.items ≤ C.PLACES }
     requires few { length state.now.least.items < 65536 }
@@ -43,7 +43,7 @@ fn all_open<C: CountySet>(alloc: Global, state: &State<C>, size: u16) -> Result<
     Ok(state.rest.within(&open))
 }
 
-/// The groups of the size that fit one of the parts by itself, part by part.
+/// Returns the groups of the `size` that fit one of the `parts` by itself, part by part.
 fn part_groups<C: CountySet>(
     graph: &CountyGraph<C>,
     parts: &[C],
@@ -71,7 +71,8 @@ fn part_groups<C: CountySet>(
     Ok(groups)
 }
 
-/// The groups of the size that fit a state with this rest, of which the size is next, by their lists of places.
+/// Returns the groups of the `size` that fit a state with this `rest`, where the size is the next one to look at. They
+/// are ordered by their lists of places.
 fn rest_groups<C: CountySet>(
     graph: &CountyGraph<C>,
     rest: &C,
@@ -95,12 +96,12 @@ fn rest_groups<C: CountySet>(
     Ok(sorted(groups)?)
 }
 
-/// The groups of a size, in counties, that fit the state, each once, by their lists of places: what a search knows of
-/// the next size where no smaller group fits.
+/// Returns the groups of `size` counties that fit the state. Each group comes once, and they are ordered by their lists
+/// of places. This is what a search knows of the next size, where no smaller group fits.
 ///
-/// `lists` are kept from call to call, for all calls with one order. Where each county of the rest may lie in a group
-/// of the size, a step is taken for each part that may have one. Where a list is made, of a part or of the state, steps
-/// are taken as by `groups_of`. `StepLimit` comes only where all steps are used, `Memory` only where a growth was
+/// The `lists` are kept from call to call, for all calls with one order. If each county of the rest may lie in a group
+/// of the size, a step is taken for each part that may have one. If a list is made, of a part or of the state, steps
+/// are taken as by `groups_of`. Returns `StepLimit` only if all steps are used, and `Memory` only if a growth was
 /// refused.
 pub fn groups_of_size<C: CountySet>(
     graph: &CountyGraph<C>,

@@ -11,10 +11,11 @@ use std::alloc::{AllocError, Global};
 /// The greatest weight of a county.
 const MOST: u32 = 1_000_000;
 
-/// Where a weight is past this, all are halved.
+/// The weight above which all weights are halved.
 const HEAVY: u32 = 400_000;
 
-/// Weights by place, of so many: the same for each county of a set, and 0 for the others.
+/// Returns weights by place, for this number of `places`. Each county of the set weighs `weight`, and the others weigh
+/// 0.
 pub(crate) fn uniform<C: CountySet>(
     alloc: Global,
     places: u16,
@@ -34,7 +35,7 @@ pub(crate) fn uniform<C: CountySet>(
     Ok(weights)
 }
 
-/// Makes each county of a group heavier by a fifth and 1. Whether one is past the limit.
+/// Makes each county of a group heavier by a fifth and 1. Returns whether one of them is past the limit.
 fn make_heavier<C: CountySet>(weights: &mut [u32], group: &C) -> bool
     requires below { (x : ℕ) → C.test group.now x ≡ true → x < length weights.old }
     requires range { All (λ w. w ≤ 1000000) weights.old }
@@ -64,7 +65,7 @@ fn halve(weights: &mut [u32])
     }
 }
 
-/// Makes each county of a group heavier, and then all lighter where one is too heavy.
+/// Makes each county of a group heavier. If one is too heavy then, all weights are halved.
 pub(crate) fn raise<C: CountySet>(weights: &mut [u32], group: &C)
     requires below { (x : ℕ) → C.test group.now x ≡ true → x < length weights.old }
     requires range { All (λ w. w ≤ 1000000) weights.old }
@@ -76,7 +77,8 @@ pub(crate) fn raise<C: CountySet>(weights: &mut [u32], group: &C)
     }
 }
 
-/// By how much the county at a place can be lighter while each of its groups weighs the quota: at most its weight.
+/// Returns by how much the county at `place` can be lighter while each of its groups still weighs the `quota`. It is at
+/// most the county's weight.
 fn slack<C: CountySet>(weights: &[u32], groups: &[C], place: u16, quota: u64) -> u32
     requires few { length weights.now ≤ most_counties }
     requires below { AreBelow (length weights.now) C.test groups.now }
@@ -96,7 +98,8 @@ fn slack<C: CountySet>(weights: &[u32], groups: &[C], place: u16, quota: u64) ->
     slack
 }
 
-/// The weights without what no group needs to weigh the quota, taken from the counties of a set in turn.
+/// Returns the weights without what no group needs to weigh the `quota`. The excess is taken from the counties of the
+/// `covered` set in turn.
 pub(crate) fn lowered<C: CountySet>(
     alloc: Global,
     weights: &[u32],

@@ -1,4 +1,4 @@
-//! What bounds how many groups of a size may still be closed: the room for them, and their weights.
+//! What limits the number of groups of a size that may still be closed: the room for them, and their weights.
 
 ghost use Rattle.std.specs.Prelude.{◌≡◌, ℕ, true, ◌<◌, ◌≤◌, length, get_or, All, IfOk, IsTrue, ◌↔◌};
 ghost use Rattle.grouping_laws.specs.Sets.{sum_by};
@@ -14,8 +14,8 @@ use county_problem::Ordered;
 use place_sets::CountySet;
 use std::alloc::{AllocError, Global};
 
-/// How many counties are open to a group of so many, less those that smaller groups use up; 0 where that is
-/// more.
+/// Returns the number of counties that are open to a group of `size` counties, less the `used` counties that smaller
+/// groups take. Returns 0 if that would be negative.
 pub fn room<C: CountySet>(
     alloc: Global,
     ordered: &Ordered,
@@ -33,7 +33,8 @@ pub fn room<C: CountySet>(
     Ok(region.size().saturating_sub(used))
 }
 
-/// Whether each of the groups weighs at least so much by the weights of its places.
+/// Returns whether each of the `groups` weighs at least the `quota`. A group weighs the sum of the `weights` of its
+/// places.
 pub fn weigh_enough<C: CountySet>(weights: &[u32], quota: u64, groups: &[C]) -> bool
     requires few { length weights.now ≤ 65536 }
     requires below { All (λ g. (x : ℕ) → C.test g x ≡ true → x < length weights.now) groups.now }

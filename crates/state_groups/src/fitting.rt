@@ -1,4 +1,4 @@
-//! The groups that fit a state: their people suit seats, and their counties are open to their size.
+//! The groups that fit a state: their people suit some number of seats, and their counties are open to their size.
 
 ghost use Rattle.std.specs.Prelude.{◌≡◌, ℕ, true, ◌<◌, ◌≤◌, length, get_or, IfOk, IsTrue, ◌↔◌};
 ghost use Rattle.grouping_laws.specs.Sets.{Inside};
@@ -16,7 +16,8 @@ use connected_sets::CountyGraph;
 use place_sets::CountySet;
 use std::alloc::{AllocError, Global};
 
-/// The places that are open to a group of so many counties: those of the rest that may lie in one.
+/// Returns the places that are open to a group of `size` counties. These are the places of the rest that may lie in
+/// such a group.
 pub fn open_places<C: CountySet>(
     alloc: Global,
     state: &State<C>,
@@ -35,7 +36,7 @@ pub fn open_places<C: CountySet>(
     Ok(open)
 }
 
-/// Whether each county of the group is open to a group of its size.
+/// Returns whether each county of the group is open to a group of its size.
 pub fn is_open<C: CountySet>(state: &State<C>, group: &C) -> bool
     requires below { (x : ℕ) → C.test group.now x ≡ true → x < length state.now.least.items }
     ensures { IsTrue result
@@ -49,8 +50,8 @@ pub fn is_open<C: CountySet>(state: &State<C>, group: &C) -> bool
     !asks_more(state, group, group.size())
 }
 
-/// Whether a connected group, which has so many people, fits the state: its people suit some number of seats, each
-/// of its counties is open to a group of its size, and in a wide language it is live.
+/// Returns whether a connected group with this number of `people` fits the state. Its people must suit some number of
+/// seats, and each of its counties must be open to a group of its size. In a wide language it must also be live.
 pub fn fits<C: CountySet>(
     graph: &CountyGraph<C>,
     language: Language,

@@ -1,4 +1,4 @@
-//! The growth's test of a state: which place joins a set next, and which sets are kept.
+//! How a growth is tested against a state: which place joins a set next, and which sets are kept.
 
 ghost use Rattle.std.specs.Prelude.{◌≡◌, ℕ, true, false, ◌<◌, ◌≤◌, MatchOption, IfOk, IsTrue, ◌↔◌, length};
 ghost use Rattle.grouping_laws.specs.Problem.{Connected, people_of};
@@ -17,7 +17,8 @@ use county_problem::Ordered;
 use place_sets::CountySet;
 use std::alloc::AllocError;
 
-/// The first place of the set that has as many people as any of its places.
+/// Returns the most populous place of the set, and the first of them if there are several. Returns `None` if the set is
+/// empty.
 pub(crate) fn most_populous<C: CountySet>(ordered: &Ordered, set: &C) -> Option<u16>
     requires { (x : ℕ) → C.test set.now x ≡ true → x < length ordered.now.order }
     ensures { MatchOption result ((x : ℕ) → C.test set.now x ≡ false) (λ c. C.test set.now c ≡ true) }
@@ -33,7 +34,7 @@ pub(crate) fn most_populous<C: CountySet>(ordered: &Ordered, set: &C) -> Option<
     Some(found)
 }
 
-/// Whether the set has the size that is asked for.
+/// Returns whether the set has the size that is asked for. Unless the test is exact, any size will do.
 fn has_size<C: CountySet>(input: &GrowthInput<C>, test: &StateTest<C>, set: &C) -> bool
     requires small { length (places_of (places_in input.now) (C.test set.now)) ≤ input.now.limit }
     requires below { (x : ℕ) → C.test set.now x ≡ true → x < places_in input.now }
@@ -46,7 +47,8 @@ fn has_size<C: CountySet>(input: &GrowthInput<C>, test: &StateTest<C>, set: &C) 
     set.size() >= u32::from(input.limit)
 }
 
-/// Whether a connected set, which has so many people, is kept: it fits the state and has the size that is asked for.
+/// Returns whether a connected set with this number of `people` is kept. It is kept if it fits the state and has the
+/// size that is asked for.
 fn fits_and_is_asked<C: CountySet>(
     input: &GrowthInput<C>,
     test: &StateTest<C>,

@@ -6,7 +6,8 @@
 //! `groups_of` and `all_groups_of_size` list those of one size, for a line of a bound leaf. The lists are found by
 //! growing connected sets of places.
 //!
-//! A checker and a search ask the same of a state, so both stand on this crate. Any form of sets of places serves.
+//! A checker and a search ask the same questions of a state, so both are built on this crate. It works with any form of
+//! sets of places.
 #![tactic(auto)]
 
 mod bounds;

@@ -1,4 +1,4 @@
-//! The groups that fit a state: those at a place, and those of a size.
+//! The groups that fit a state: those at a place, and those of one size.
 
 ghost use Rattle.std.specs.Prelude.{◌≡◌, ℕ, ◌+◌, true, false, ◌<◌, ◌≤◌, Bool, List, OnOk, IfOk, IsErrOf, length};
 ghost use Rattle.grouping_laws.specs.Places.{places_below};
@@ -23,8 +23,7 @@ use connected_sets::{CountyGraph, GrowthInput, Stop, grow, start_growth};
 use county_problem::Steps;
 use place_sets::{CountySet, sorted};
 
-/// Puts the connected sets of the region that have the place and at most `limit` places, and are kept, behind the
-/// groups.
+/// Appends to the `groups` the kept connected sets of the `region` that have `place` and at most `limit` places.
 fn search<C: CountySet>(
     graph: &CountyGraph<C>,
     language: Language,
@@ -68,15 +67,19 @@ fn search<C: CountySet>(
     grow(&input, &test, growth, steps, groups)
 }
 
-/// The groups that fit the state, have the county at the place and have at most `limit` counties, each once, by
-/// size, and groups of one size by their lists of places: what the takes of a branch have to be.
+/// Returns the groups that fit the state, have the county at `place` and have at most `limit` counties. These are the
+/// groups that the takes of a branch must have. Each group comes once. They are ordered by size, and groups of one size
+/// by their lists of places.
 ///
-/// A step is taken for each connected set of open counties that is met, each with the place and at most `limit`
-/// counties. Of the open counties at most so many moves away from a set as may join it, some have to give it people
-/// that suit some number of seats; if none do, the search passes over the set. In a wide language it also passes over a
-/// set that leaves people of the rest that suit no number of seats. The same goes for a set that leaves a part behind
-/// that can't be filled. So there are at least as many steps as groups, and at most as many as such sets. `StepLimit`
-/// comes only where all steps are used, `Memory` only where a growth was refused; the steps that were taken stay taken.
+/// A step is taken for each connected set of open counties that is met. Each such set has the place and at most `limit`
+/// counties. The search passes over a set that can't get people that suit some number of seats. For that it looks at
+/// the open counties that are at most as many moves away from the set as counties may join it. Some of them have to
+/// give the set such people. In a wide language the search also passes over a set that leaves people of the rest that
+/// suit no number of seats. The same goes for a set that leaves a part behind that can't be filled. So there are at
+/// least as many steps as groups, and at most as many steps as such sets.
+///
+/// Returns `StepLimit` only if all steps are used, and `Memory` only if a growth was refused. The steps that were taken
+/// stay taken.
 pub fn groups_at<C: CountySet>(
     graph: &CountyGraph<C>,
     language: Language,
@@ -111,11 +114,12 @@ pub fn groups_at<C: CountySet>(
     Ok(sorted(sets)?)
 }
 
-/// The groups of so many counties that fit the state, each once, by their lists of places: what a `weigh` line of a
-/// bound leaf asks of.
+/// Returns the groups of `size` counties that fit the state. These are the groups that a `weigh` line of a bound leaf
+/// asks about. Each group comes once, and they are ordered by their lists of places.
 ///
-/// A step is taken for each connected set of at most so many open counties that is met, as in `groups_at`. The sets
-/// that have the most populous open county come first, then those of the others that have the next one, and so on.
+/// A step is taken for each connected set of at most `size` open counties that is met, as in `groups_at`. The sets that
+/// have the most populous open county come first. Next are those of the others that have the second most populous one,
+/// and so on.
 pub fn groups_of<C: CountySet>(
     graph: &CountyGraph<C>,
     language: Language,

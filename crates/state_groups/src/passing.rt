@@ -1,4 +1,4 @@
-//! Which sets the growing passes over, since no group that fits can come of them.
+//! Which sets a growth passes over, because no group that fits can come of them.
 
 ghost use Rattle.std.specs.Prelude.{◌≡◌, ℕ, ◌+◌, ◌^◌, Bool, List, [], true, filter, ◌<◌, ◌≤◌, MatchOption, IfOk};
 ghost use Rattle.std.specs.Prelude.{IsTrue, length};
@@ -24,7 +24,8 @@ use connected_sets::{Growth, GrowthInput};
 use place_sets::CountySet;
 use std::alloc::AllocError;
 
-/// The least number of people of so many places in reach, if sets of one size are asked for; else 0.
+/// Returns the least number of people that `more` places in reach can have, if sets of one size are asked for.
+/// Otherwise it returns 0.
 fn fewest_more<C: CountySet>(
     input: &GrowthInput<C>,
     test: &StateTest<C>,
@@ -46,8 +47,8 @@ fn fewest_more<C: CountySet>(
     first_people(&test.tables.by_people, reach, more)
 }
 
-/// The greatest number of people of at most so many places in reach: all people in reach but those of the others,
-/// which have the fewest.
+/// Returns the greatest number of people that at most `more` places in reach can have. It takes all people in reach but
+/// those of the other places, which have the fewest.
 fn most_more<C: CountySet>(input: &GrowthInput<C>, test: &StateTest<C>, reach: &C, more: u32) -> u64
     requires fits { places_in input.now ≤ C.PLACES }
     requires below { (x : ℕ) → C.test reach.now x ≡ true → x < places_in input.now }
@@ -62,7 +63,8 @@ fn most_more<C: CountySet>(input: &GrowthInput<C>, test: &StateTest<C>, reach: &
     people_in(input.graph.ordered, reach) - first_people(&test.tables.by_people, reach, others)
 }
 
-/// Whether people from the least to the greatest may suit, and what they leave of the rest too, if that has to.
+/// Returns whether some number of people from `least` to `greatest` may suit some number of seats. If what it leaves of
+/// the rest has to suit some number of seats too, that is tested as well.
 fn may_fit<C: CountySet>(
     input: &GrowthInput<C>,
     test: &StateTest<C>,
@@ -88,7 +90,7 @@ fn may_fit<C: CountySet>(
     }
 }
 
-/// Whether the people of a set and of places in reach that join it may fit.
+/// Returns whether the people of a set, together with those of places in reach that join it, may fit.
 fn may_grow<C: CountySet>(
     input: &GrowthInput<C>,
     test: &StateTest<C>,
@@ -118,9 +120,10 @@ fn may_grow<C: CountySet>(
     may_fit(input, test, least, greatest)
 }
 
-/// Whether nothing can come of a growth: no places that the set reaches by as many moves as places may join it give it
-/// people that may fit, or it leaves a part behind that can't be filled. If the set has as many places as may be, it
-/// is not passed over.
+/// Returns whether nothing can come of a growth. One reason is that no places that may join the set give it people that
+/// may fit. Only the places that it reaches by as many moves as places may join it are considered. The other reason is
+/// that the set leaves a part behind that can't be filled. A set that already has the greatest allowed number of places
+/// isn't passed over.
 pub(crate) fn is_passed_over<C: CountySet>(
     input: &GrowthInput<C>,
     test: &StateTest<C>,

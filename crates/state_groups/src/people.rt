@@ -1,4 +1,4 @@
-//! The places of a set by their people, and the people of the first ones.
+//! The places of a set ordered by their people, and the people of the first ones.
 
 ghost use Rattle.std.specs.Prelude.{◌≡◌, ℕ, true, ◌<◌, ◌≤◌, ◌^◌, IfOk, All, List, length, filter, take};
 ghost use Rattle.grouping_laws.specs.Sets.{sum_by};
@@ -9,7 +9,7 @@ use county_problem::Ordered;
 use place_sets::CountySet;
 use std::alloc::{AllocError, Global};
 
-/// The places of a set with their people, the fewest people first.
+/// Returns the people and the place of each place of a set. The places with the fewest people come first.
 pub(crate) fn places_by_people<C: CountySet>(
     alloc: Global,
     ordered: &Ordered,
@@ -29,7 +29,8 @@ pub(crate) fn places_by_people<C: CountySet>(
     Ok(places)
 }
 
-/// The people of the first so many places of a list that are in the set, added up; of all those where they are fewer.
+/// Returns the people of the first `count` places of the list that are in the set. If there are fewer such places, it
+/// returns the people of all of them.
 pub(crate) fn first_people<C: CountySet>(places: &[(u32, u16)], set: &C, count: u32) -> u64
     requires few { length places.now ≤ 65536 }
     requires below { All (λ r. r.1 < C.PLACES) places.now }

@@ -10,7 +10,7 @@ use connected_sets::{CountyGraph, Growth, GrowthInput};
 use place_sets::CountySet;
 use std::alloc::AllocError;
 
-/// The places that are adjacent to a place of the set.
+/// Returns the places that are adjacent to a place of the set.
 fn neighbours_of<C: CountySet>(graph: &CountyGraph<C>, set: &C) -> Result<C, AllocError>
     requires graph { IsGraph C.test C.PLACES graph.now }
     requires below { (x : ℕ) → C.test set.now x ≡ true → x < graph_places graph.now }
@@ -28,7 +28,7 @@ fn neighbours_of<C: CountySet>(graph: &CountyGraph<C>, set: &C) -> Result<C, All
     Ok(found)
 }
 
-/// The free places that are adjacent to the edge and aren't reached yet.
+/// Returns the free places that are adjacent to the `edge` and aren't reached yet.
 fn beyond<C: CountySet>(
     input: &GrowthInput<C>,
     free: &C,
@@ -51,7 +51,8 @@ fn beyond<C: CountySet>(
     Ok(near.intersection(free).minus(reach))
 }
 
-/// The free places that the set reaches by at most so many moves, each to an adjacent free place.
+/// Returns the free places that the set reaches by at most this number of `moves`. Each move goes to an adjacent free
+/// place.
 pub(crate) fn reached<C: CountySet>(
     input: &GrowthInput<C>,
     growth: &Growth<C>,

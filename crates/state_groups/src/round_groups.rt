@@ -1,4 +1,4 @@
-//! The groups of one size that fit a state of a round, told by their codes.
+//! The groups of one size that fit a state of a round, described by their codes.
 
 ghost use Rattle.std.specs.Prelude.{◌≡◌, ◌≤◌, IfOk, IsErrOf};
 ghost use Rattle.grouping_laws.specs.Places.{places_below};
@@ -17,11 +17,12 @@ use connected_sets::{CountyGraph, Stop};
 use county_problem::Steps;
 use place_sets::CountySet;
 
-/// The groups of a size, in counties, that fit the state, each once, by their lists of places, whatever smaller groups
-/// fit: the groups of `groups_of` in the language of the round, told by their codes.
+/// Returns the groups of `size` counties that fit the state, whatever smaller groups fit. Each group comes once, and
+/// they are ordered by their lists of places. They are the groups of `groups_of` in the language of the round, but the
+/// contract describes them by their codes.
 ///
-/// Steps are taken as by `groups_of`. `StepLimit` comes only where all steps are used, `Memory` only where a growth
-/// was refused.
+/// Steps are taken as by `groups_of`. Returns `StepLimit` only if all steps are used, and `Memory` only if a growth was
+/// refused.
 pub fn all_groups_of_size<C: CountySet>(
     graph: &CountyGraph<C>,
     round: &Round,

@@ -1,4 +1,4 @@
-//! The numbers of seats that the people of sets suit, and whether the seats left lie outside of them.
+//! The numbers of seats that the people of sets suit, and whether the seats left lie outside of their range.
 
 ghost use Rattle.std.specs.Prelude.{◌≡◌, ℕ, true, ◌<◌, ◌≤◌, ◌||◌, nat_lt, length, map, All, IfOk, IfSome, IsTrue, ◌↔◌};
 ghost use Rattle.grouping_laws.specs.Problem.{Suits, people_of};
@@ -17,7 +17,8 @@ use county_problem::Ordered;
 use place_sets::CountySet;
 use std::alloc::AllocError;
 
-/// The least and the greatest number of seats that the people of a set suit.
+/// Returns the least and the greatest number of seats that the people of a set suit. Returns `None` if they suit no
+/// number.
 fn seats_in<C: CountySet>(ordered: &Ordered, set: &C) -> Option<(u64, u64)>
     requires { (x : ℕ) → C.test set.now x ≡ true → x < length ordered.now.order }
     ensures run { IsRun (Suits (problem_at ordered.now) (people_of (problem_at ordered.now) (places_of (length ordered.now.order) (C.test set.now)))) result }
@@ -29,8 +30,8 @@ fn seats_in<C: CountySet>(ordered: &Ordered, set: &C) -> Option<(u64, u64)>
     Some((u64::from(low), u64::from(high)))
 }
 
-/// The least numbers of seats of the sets, added up, and the greatest; `None` where the people of some set suit
-/// no number.
+/// Returns the sum of the least numbers of seats of the sets, and the sum of the greatest. Returns `None` if the people
+/// of some set suit no number.
 fn seat_sums<C: CountySet>(ordered: &Ordered, sets: &[C]) -> Option<(u64, u64)>
     requires few { length sets.now ≤ 65536 }
     requires below { All (λ s. (x : ℕ) → C.test s x ≡ true → x < length ordered.now.order) sets.now }
@@ -48,15 +49,16 @@ fn seat_sums<C: CountySet>(ordered: &Ordered, sets: &[C]) -> Option<(u64, u64)>
     Some((least, greatest))
 }
 
-/// Whether a number of seats is below the least or above the greatest.
+/// Returns whether a number of seats is below the least or above the greatest.
 fn is_outside(seats: u64, least: u64, greatest: u64) -> bool
     ensures { result ≡ (nat_lt seats least || nat_lt greatest seats) }
 {
     seats < least || greatest < seats
 }
 
-/// Whether a seats leaf is valid: each connected part of the rest suits some number of seats, and the least
-/// numbers over the closed groups and the parts add up to more than the seats left, or the greatest to less.
+/// Returns whether a seats leaf is valid. Each connected part of the rest must suit some number of seats. Over the
+/// closed groups and these parts, the least numbers must add up to more than the seats left, or the greatest numbers to
+/// fewer.
 pub fn is_off_seats<C: CountySet>(
     graph: &CountyGraph<C>,
     state: &State<C>,

@@ -1,4 +1,4 @@
-//! States by the places of an order: the first one, and those after a group is closed or a county raised.
+//! States by the places of an order: the first one, and those after a group is closed or a county is raised.
 
 ghost use Rattle.std.specs.Prelude.{◌≡◌, ℕ, ◌<◌, ◌≤◌, cond, nat_lt, length, get_or, IfOk};
 ghost use Rattle.county_problem.specs.ProblemValue.{problem_of};
@@ -11,23 +11,23 @@ use county_problem::Ordered;
 use place_sets::{CountySet, copy_sets};
 use std::alloc::{AllocError, Global};
 
-/// Where a search or a proof tree stands, by the places of an order: groups that are closed, the other
+/// Where a search or a proof tree stands, by the places of an order. A state has the groups that are closed, the other
 /// counties, and how large a group each of these asks for.
 ///
-/// The type stands here, below the checker and the desk, since both go from state to state; their contracts
-/// speak of its value by places, `state_of`, and of the value by codes that this says, `in_codes`.
+/// The type is defined here, below the checker and the solver, since both go from state to state. Their contracts speak
+/// of its value by places, `state_of`, and of the value by codes that this stands for, `in_codes`.
 #[derive(Debug, Drop)]
 pub struct State<C> {
-    /// The places of each closed group, in the order in which they were closed.
+    /// The places of each closed group, in the order in which the groups were closed.
     pub closed: Vec<C>,
-    /// The places of the counties of no closed group.
+    /// The places of the counties that are in no closed group.
     pub rest: C,
-    /// For each place of the order the least size, in counties, of a group that it may lie in; 0 where nothing
-    /// is asked, as of each place outside the rest.
+    /// For each place of the order, the least size, in counties, of a group that it may lie in. It is 0 where nothing
+    /// is asked, which includes each place outside the rest.
     pub least: Vec<u16>,
 }
 
-/// All places below a number.
+/// Returns the set of all places below `places`.
 fn all_places<C: CountySet>(alloc: Global, places: u16) -> Result<C, AllocError>
     requires { places ≤ C.PLACES }
     ensures { IfOk result (λ s. (x : ℕ) → C.test s x ≡ nat_lt x places) }
@@ -39,7 +39,7 @@ fn all_places<C: CountySet>(alloc: Global, places: u16) -> Result<C, AllocError>
     Ok(all)
 }
 
-/// A 0 for each place.
+/// Returns a list with a 0 for each place.
 fn no_sizes(alloc: Global, places: u16) -> Result<Vec<u16>, AllocError>
     ensures count { IfOk result (λ v. length v.items ≡ places) }
     ensures none { IfOk result (λ v. (x : ℕ) → get_or v.items x 0 ≡ 0) }
@@ -51,7 +51,7 @@ fn no_sizes(alloc: Global, places: u16) -> Result<Vec<u16>, AllocError>
     Ok(least)
 }
 
-/// Sets the numbers of a set's places to 0.
+/// Sets the numbers at the places of a set to 0. The others stay the same.
 fn clear_sizes<C: CountySet>(least: &mut Vec<u16>, set: &C)
     requires fits { length least.old.items ≤ C.PLACES }
     requires few { length least.old.items < 65536 }
@@ -66,7 +66,8 @@ fn clear_sizes<C: CountySet>(least: &mut Vec<u16>, set: &C)
     }
 }
 
-/// The state of an order at which a search begins: no group is closed, and each county may lie in a group of any size.
+/// Returns the state of an order at which a search begins. No group is closed, and each county may lie in a group of
+/// any size.
 fn empty_by_places<C: CountySet>(alloc: Global, ordered: &Ordered) -> Result<State<C>, AllocError>
     requires fits { length ordered.now.order ≤ C.PLACES }
     ensures value { IfOk result (λ s. state_of C.test s
@@ -81,8 +82,8 @@ fn empty_by_places<C: CountySet>(alloc: Global, ordered: &Ordered) -> Result<Sta
     })
 }
 
-/// The state at which a certificate begins: no group is closed, and nothing is asked of a county. An error comes
-/// where memory was refused.
+/// Returns the state at which a certificate begins. No group is closed, and nothing is asked of a county. Returns an
+/// error if memory was refused.
 pub fn first_state<C: CountySet>(alloc: Global, ordered: &Ordered) -> Result<State<C>, AllocError>
     requires fits { length ordered.now.order ≤ C.PLACES }
     ensures value { IfOk result (λ s. state_at ordered.now.order C.test s
@@ -93,8 +94,8 @@ pub fn first_state<C: CountySet>(alloc: Global, ordered: &Ordered) -> Result<Sta
     empty_by_places(alloc, ordered)
 }
 
-/// The state where one more group of the rest is closed; the old one stays. An error comes where memory was
-/// refused.
+/// Returns the state where one more `group` of the rest is closed. The old state stays as it is. Returns an error if
+/// memory was refused.
 pub fn closed_state<C: CountySet>(
     alloc: Global,
     ordered: &Ordered,
@@ -121,7 +122,7 @@ pub fn closed_state<C: CountySet>(
     })
 }
 
-/// An equal state, or an error where memory was refused.
+/// Returns an equal state, or an error if memory was refused.
 pub fn copied_state<C: CountySet>(
     alloc: Global,
     ordered: &Ordered,
@@ -139,7 +140,7 @@ pub fn copied_state<C: CountySet>(
     })
 }
 
-/// Raises the county at the place past a limit: from now on it lies in a group of more counties than that.
+/// Raises the county at `place` past the `limit`. From then on, it must lie in a group of more counties than that.
 pub fn raise_place<C: CountySet>(ordered: &Ordered, state: &mut State<C>, place: u16, limit: u16)
     requires placed { IsPlaced (length ordered.now.order) C.test state.old }
     requires place { place < length ordered.now.order }

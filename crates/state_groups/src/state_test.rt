@@ -4,8 +4,8 @@ use crate::state::State;
 use crate::tables::Tables;
 use certificate_data::Language;
 
-/// The test of a state: the language and the state that groups are to fit, whether only sets of as many places as may
-/// be are asked for, and the tables that are made once for the state.
+/// The test of a state. It has the language and the state that groups must fit, and the tables that are made once for
+/// the state. `exact` tells whether only sets of the greatest allowed number of places are asked for.
 #[derive(Drop)]
 pub(crate) struct StateTest<'a, C> {
     pub(crate) language: Language,

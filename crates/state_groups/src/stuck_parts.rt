@@ -21,7 +21,7 @@ use county_problem::Ordered;
 use place_sets::CountySet;
 use std::alloc::{AllocError, Global};
 
-/// Whether some county of the set asks for a group of more counties than that.
+/// Returns whether some county of the set asks for a group of more than `size` counties.
 pub(crate) fn asks_more<C: CountySet>(state: &State<C>, set: &C, size: u32) -> bool
     requires below { (x : ℕ) → C.test set.now x ≡ true → x < length state.now.least.items }
     ensures { IsTrue result ↔ ((c : ℕ) × (C.test set.now c ≡ true) × (size < get_or state.now.least.items c 0)) }
@@ -36,8 +36,8 @@ pub(crate) fn asks_more<C: CountySet>(state: &State<C>, set: &C, size: u32) -> b
     false
 }
 
-/// Whether no groups can fill the set: its people suit no number of seats, or one of its counties asks for a
-/// group of more counties than the set has.
+/// Returns whether no groups can fill the set. That is so if its people suit no number of seats, or if one of its
+/// counties asks for a group of more counties than the set has.
 pub fn is_stuck<C: CountySet>(ordered: &Ordered, state: &State<C>, part: &C) -> bool
     requires places { length state.now.least.items ≡ length ordered.now.order }
     requires below { (x : ℕ) → C.test part.now x ≡ true → x < length ordered.now.order }
@@ -52,7 +52,7 @@ pub fn is_stuck<C: CountySet>(ordered: &Ordered, state: &State<C>, part: &C) -> 
     asks_more(state, part, part.size())
 }
 
-/// Whether the set has none of the free places and can't be filled.
+/// Returns whether the set has none of the free places and can't be filled.
 fn is_cut_off<C: CountySet>(ordered: &Ordered, state: &State<C>, part: &C, free: &C) -> bool
     requires places { length state.now.least.items ≡ length ordered.now.order }
     requires below { (x : ℕ) → C.test part.now x ≡ true → x < length ordered.now.order }
@@ -66,7 +66,7 @@ fn is_cut_off<C: CountySet>(ordered: &Ordered, state: &State<C>, part: &C, free:
     is_stuck(ordered, state, part)
 }
 
-/// Whether some connected part of the region that has none of the free places can't be filled.
+/// Returns whether the region has a connected part that has none of the free places and can't be filled.
 pub fn has_stuck_part<C: CountySet>(
     graph: &CountyGraph<C>,
     state: &State<C>,
@@ -90,8 +90,8 @@ pub fn has_stuck_part<C: CountySet>(
     Ok(false)
 }
 
-/// Whether the set has a place that is not free, and nothing of the set around such a place can be filled: the set has
-/// fewer people than one seat asks for, or fewer places than the place asks for.
+/// Returns whether the set is too small for one of its places that isn't free. It is if it has fewer people than one
+/// seat asks for, or fewer places than that place asks for. Then nothing of the set around the place can be filled.
 fn is_too_small<C: CountySet>(
     alloc: Global,
     ordered: &Ordered,
@@ -118,7 +118,8 @@ fn is_too_small<C: CountySet>(
     Ok(asks_more(state, &kept, part.size()))
 }
 
-/// Whether the set has no free place and can't be filled, or has another place and is too small for it.
+/// Returns whether the set is stranded. A set without a free place is stranded if it can't be filled. Any other set is
+/// stranded if it is too small for a place that isn't free.
 fn is_stranded<C: CountySet>(
     alloc: Global,
     ordered: &Ordered,
@@ -139,7 +140,7 @@ fn is_stranded<C: CountySet>(
     is_too_small(alloc, ordered, state, part, free)
 }
 
-/// Whether some connected part of the region is stranded.
+/// Returns whether some connected part of the region is stranded.
 fn has_stranded_part<C: CountySet>(
     graph: &CountyGraph<C>,
     state: &State<C>,
@@ -164,13 +165,13 @@ fn has_stranded_part<C: CountySet>(
     Ok(false)
 }
 
-/// Whether each group that has all of the set, else only free places, leaves a part behind that can't be filled:
-/// one that no free place can reach, or one in a part of what the set leaves that is too small for a place that is not
-/// free. In a plain language no group is left out for that.
+/// Returns whether each group that has all of the set, and otherwise only free places, leaves a part behind that can't
+/// be filled. Either no free place can reach that part, or it lies in a part of what the set leaves that is too small
+/// for a place that isn't free. In a plain language no group is left out for that.
 ///
 /// # Errors
 ///
-/// Where memory was refused.
+/// Returns an error if memory was refused.
 pub fn strands<C: CountySet>(
     graph: &CountyGraph<C>,
     language: Language,
@@ -196,7 +197,7 @@ pub fn strands<C: CountySet>(
     }
 }
 
-/// Whether a group of the rest is live: no connected part of the rest without it is stuck.
+/// Returns whether a group of the rest is live, which means that no connected part of the rest without it is stuck.
 pub fn is_live<C: CountySet>(
     graph: &CountyGraph<C>,
     state: &State<C>,
@@ -216,8 +217,8 @@ pub fn is_live<C: CountySet>(
     Ok(!stuck)
 }
 
-/// Whether a stuck leaf that names the county at the place, one of the rest, is valid: the connected part of the
-/// rest around it is stuck.
+/// Returns whether a stuck leaf is valid that names the county at `place`, which is one of the rest. It is valid if the
+/// connected part of the rest around the county is stuck.
 pub fn is_stuck_at<C: CountySet>(
     graph: &CountyGraph<C>,
     state: &State<C>,

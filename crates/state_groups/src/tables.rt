@@ -1,4 +1,5 @@
-//! The tables that are made once before sets grow: places by people, windows of seats, and the people of the rest.
+//! The tables that are made once before sets grow: the places by their people, the windows of seats, and the people of
+//! the rest.
 
 ghost use Rattle.std.specs.Prelude.{◌≡◌, ℕ, true, ◌<◌, ◌≤◌, length, IfOk};
 ghost use Rattle.place_laws.specs.PlaceSets.{places_of};
@@ -14,18 +15,19 @@ use county_problem::Ordered;
 use place_sets::CountySet;
 use std::alloc::{AllocError, Global};
 
-/// What is made once for a state and a region of its rest.
+/// The tables that are made once for a state and a region of its rest.
 #[derive(Drop)]
 pub(crate) struct Tables {
-    /// The places of the region, each with its people, the fewest people first.
+    /// The places of the region, each with its people. The places with the fewest people come first.
     pub(crate) by_people: Vec<(u32, u16)>,
-    /// For each number of seats the least and the greatest number of people that suit it.
+    /// For each number of seats, the least and the greatest number of people that suit it.
     pub(crate) windows: Vec<(u64, u64)>,
     /// The people of the rest, if what a group that fits leaves of them has to suit some number of seats.
     pub(crate) rest_people: Option<u64>,
 }
 
-/// The people of the rest, if the language is wide and no group of at most `limit` counties has all of the rest.
+/// Returns the people of the rest if the language is wide and the rest has more than `limit` counties. Otherwise it
+/// returns `None`.
 fn divided_people<C: CountySet>(
     ordered: &Ordered,
     language: Language,
@@ -46,7 +48,7 @@ fn divided_people<C: CountySet>(
     }
 }
 
-/// The tables for a state and a region of its rest.
+/// Builds the tables for a state and a region of its rest.
 pub(crate) fn make_tables<C: CountySet>(
     alloc: Global,
     ordered: &Ordered,

@@ -1,4 +1,4 @@
-//! The windows of people for each number of seats, and the tests whether some people may suit one.
+//! The windows of people for each number of seats, and the tests whether some number of people may suit one.
 
 ghost use Rattle.std.specs.Prelude.{◌≡◌, ℕ, true, ◌-◌, ◌<◌, ◌≤◌, IsTrue, IfOk};
 ghost use Rattle.county_problem.specs.OrderedValue.{problem_at};
@@ -7,8 +7,8 @@ ghost use Rattle.state_groups.specs.People.{HasSeatWindow, AreWindows};
 use county_problem::Ordered;
 use std::alloc::{AllocError, Global};
 
-/// The least and the greatest number of people that suit a number of seats, for each number that at most so many
-/// people may suit.
+/// Returns the least and the greatest number of people that suit a number of seats. There is an entry for each number
+/// of seats that at most this number of `people` may suit.
 pub(crate) fn seat_windows(
     alloc: Global,
     ordered: &Ordered,
@@ -32,7 +32,7 @@ pub(crate) fn seat_windows(
     Ok(windows)
 }
 
-/// Whether some window has a number of people from the least to the greatest.
+/// Returns whether some number of people from `least` to `greatest` is in one of the `windows`.
 pub(crate) fn may_suit(windows: &[(u64, u64)], least: u64, greatest: u64) -> bool
     ensures { (people : ℕ) → least ≤ people → people ≤ greatest → HasSeatWindow windows.now people → IsTrue result }
 {
@@ -41,8 +41,8 @@ pub(crate) fn may_suit(windows: &[(u64, u64)], least: u64, greatest: u64) -> boo
         .any(|window| window.0 <= greatest && least <= window.1)
 }
 
-/// Whether a window has a number of people from the least to the greatest, and some window what that leaves of all
-/// people.
+/// Returns whether some number of people from `least` to `greatest` is in the `window`, and what it leaves of `all`
+/// people is in one of the `windows`.
 fn divides(windows: &[(u64, u64)], window: (u64, u64), all: u64, least: u64, greatest: u64) -> bool
     ensures { (people : ℕ)
         → least ≤ people
@@ -57,8 +57,8 @@ fn divides(windows: &[(u64, u64)], window: (u64, u64), all: u64, least: u64, gre
     low <= high && may_suit(windows, all.saturating_sub(high), all.saturating_sub(low))
 }
 
-/// Whether some window has a number of people from the least to the greatest, and some window what that leaves of
-/// all people.
+/// Returns whether some number of people from `least` to `greatest` is in one of the `windows`, and what it leaves of
+/// `all` people is in one of them too.
 pub(crate) fn may_divide(windows: &[(u64, u64)], all: u64, least: u64, greatest: u64) -> bool
     ensures { (people : ℕ)
         → least ≤ people

@@ -25,17 +25,18 @@ use place_sets::CountySet;
 use state_groups::{State, room};
 use std::alloc::{AllocError, Global};
 
-/// What a line of a bound leaf allows, beside the closed groups, against the target's groups of that size.
+/// What a line of a bound leaf allows besides the closed groups, compared with the target's groups of that size.
 #[derive(Clone, Copy, Debug, PartialEq, Eq)]
 pub enum Allowed {
-    /// Fewer groups than the target has: the lines behind count for nothing.
+    /// Fewer groups than the target has. The lines after this one count for nothing.
     Loss,
-    /// As many, and so many counties are used up by groups of this size or a smaller one.
+    /// As many groups as the target has. The number is that of the counties that groups of this size or smaller ones
+    /// use up.
     Even(u32),
 }
 
-/// How many counties are open to a group of a size, in counties, less those that smaller groups use up; 0 where that
-/// is more. An error comes where memory was refused.
+/// Returns the number of counties that are open to a group of a `size`, in counties, less the `used` ones that smaller
+/// groups use up. Returns 0 if more are used than are open. Returns an error if memory was refused.
 pub fn room_left<C: CountySet>(
     alloc: Global,
     ordered: &Ordered,
@@ -54,7 +55,7 @@ pub fn room_left<C: CountySet>(
     room(alloc, ordered, state, size, used)
 }
 
-/// How many closed groups have so many counties.
+/// Returns the number of closed groups that have `size` counties.
 pub fn closed_of_size<C: CountySet>(ordered: &Ordered, state: &State<C>, size: u16) -> u32
     requires placed { IsPlaced (length ordered.now.order) C.test state.now }
     ensures value { result ≡ counts (state_at ordered.now.order C.test state.now).closed size }
@@ -70,7 +71,7 @@ pub fn closed_of_size<C: CountySet>(ordered: &Ordered, state: &State<C>, size: u
     count
 }
 
-/// The groups that share a weight, each at least the quota, but no more than that many.
+/// Returns how many groups can share a `weight` if each weighs at least the `quota`, but no more than `most`.
 fn shared(most: u32, weight: u64, quota: u32) -> u32
     requires { 1 ≤ quota }
     ensures { result ≡ min most (weight / quota) }
@@ -78,7 +79,7 @@ fn shared(most: u32, weight: u64, quota: u32) -> u32
     u64::from(most).min(weight / u64::from(quota)) as u32
 }
 
-/// How many groups of a size, in counties, the line allows, where smaller groups use up so many counties.
+/// Returns how many groups of a `size`, in counties, the line allows, where smaller groups use up `used` counties.
 fn fair_allowance<C: CountySet>(
     graph: &CountyGraph<C>,
     round: &Round,
@@ -128,17 +129,17 @@ fn fair_allowance<C: CountySet>(
     }
 }
 
-/// Judges the line of a bound leaf for a size, in counties, where the target has so many groups of this size and
-/// smaller groups use up so many counties, at most 256.
+/// Judges the line of a bound leaf for a `size`, in counties. The target has `wanted` groups of this size, and smaller
+/// groups use up `used` counties, at most 256.
 ///
 /// A step is taken for each set that is split.
 ///
 /// # Errors
 ///
-/// `Unspelled` where the quota is 0 or the codes of the weights don't ascend. Else the first fault of
-/// `WrongCounty` (a weight of no county of the problem), `LightGroup` (a group of this size that fits weighs less
-/// than the quota) and `BoundOver` (more groups are allowed than the target has). `StepLimit` where no step was
-/// left, `Memory` where memory was refused.
+/// Returns `Unspelled` if the quota is 0 or the codes of the weights don't ascend. Otherwise it returns the first fault
+/// of `WrongCounty` (a weight of no county of the problem), `LightGroup` (a group of this size that fits weighs less
+/// than the quota) and `BoundOver` (more groups are allowed than the target has). Returns `StepLimit` if no step was
+/// left, and `Memory` if memory was refused.
 pub fn judge_allowance<C: CountySet>(
     graph: &CountyGraph<C>,
     round: &Round,

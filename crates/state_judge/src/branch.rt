@@ -25,7 +25,7 @@ use place_sets::CountySet;
 use state_groups::{State, groups_at, open_places};
 use std::alloc::Global;
 
-/// A branch that can stand: the place of its county, its limit, and the groups that its takes have to be, in their
+/// A branch that can stand: the place of its county, its limit, and the groups that its takes must have, in their
 /// order.
 #[derive(Debug, Drop)]
 pub struct Branching<C> {
@@ -33,12 +33,12 @@ pub struct Branching<C> {
     pub place: u16,
     /// The greatest size of a group that is taken, in counties.
     pub limit: u16,
-    /// The groups that fit, have the county and are within the limit, by size and then by places.
+    /// The groups that fit, have the county and are within the limit. They are ordered by size and then by places.
     pub groups: Vec<C>,
 }
 
-/// The limit of a branch that names this one: the round's in a plain round, its own in a wide one. `None` where a
-/// plain branch names a limit, or a wide one none.
+/// Returns the limit of a branch that names the limit `named`. In a plain round it is the limit of the round, and in a
+/// wide one it is the branch's own. Returns `None` if a plain branch names a limit, or if a wide one names none.
 fn limit_for(round: &Round, named: Option<u16>) -> Option<u16>
     ensures { MatchOption
         result
@@ -53,12 +53,12 @@ fn limit_for(round: &Round, named: Option<u16>) -> Option<u16>
     }
 }
 
-/// The place of the county at which a branch of the limit can stand.
+/// Returns the place of the county at which a branch with this `limit` can stand.
 ///
 /// # Errors
 ///
-/// The fault `NoLeaf` where no county is open to a group within the limit, `WrongCounty` where the branch can't be
-/// at the county; `Memory` where memory was refused.
+/// Returns the fault `NoLeaf` if no county is open to a group within the limit, and `WrongCounty` if the branch can't
+/// be at the county. Returns `Memory` if memory was refused.
 fn branch_place<C: CountySet>(
     alloc: Global,
     ordered: &Ordered,
@@ -104,15 +104,15 @@ fn branch_place<C: CountySet>(
     }
 }
 
-/// Judges the line of a branch at a county, with a limit of its own in a wide round, and lists its groups.
+/// Judges the line of a branch at a county, which has a limit of its own in a wide round, and lists its groups.
 ///
 /// A step is taken for each set that is split.
 ///
 /// # Errors
 ///
-/// `Unspelled` where a plain branch names a limit or a wide one none. Else the fault `NoLeaf` where no county is
-/// open to a group within the limit, `WrongCounty` where the branch can't be at the county. `StepLimit` where no
-/// step was left, `Memory` where memory was refused.
+/// Returns `Unspelled` if a plain branch names a limit or a wide one names none. Otherwise it returns the fault
+/// `NoLeaf` if no county is open to a group within the limit, and `WrongCounty` if the branch can't be at the county.
+/// Returns `StepLimit` if no step was left, and `Memory` if memory was refused.
 pub fn judge_branch<C: CountySet>(
     graph: &CountyGraph<C>,
     round: &Round,
@@ -177,7 +177,7 @@ pub fn judge_branch<C: CountySet>(
     })
 }
 
-/// Whether the set has these codes, in the order of its places.
+/// Returns whether the set has exactly these `codes`, in the order of its places.
 fn has_codes<C: CountySet>(ordered: &Ordered, set: &C, codes: &[CountyCode]) -> bool
     requires { (x : ℕ) → C.test set.now x ≡ true → x < length ordered.now.order }
     ensures { IsTrue result ↔ (codes_of_set ordered.now.order C.test set.now ≡ codes.now) }
@@ -196,7 +196,7 @@ fn has_codes<C: CountySet>(ordered: &Ordered, set: &C, codes: &[CountyCode]) -> 
     set.next(from).is_none()
 }
 
-/// Whether one of the sets has these codes.
+/// Returns whether one of the `sets` has exactly these `codes`.
 fn is_listed<C: CountySet>(ordered: &Ordered, sets: &[C], codes: &[CountyCode]) -> bool
     requires { AreBelow (length ordered.now.order) C.test sets.now }
     ensures { IsTrue result ↔ Contains (codes_of_sets ordered.now.order C.test sets.now) codes.now }
@@ -209,11 +209,11 @@ fn is_listed<C: CountySet>(ordered: &Ordered, sets: &[C], codes: &[CountyCode]) 
     false
 }
 
-/// Judges the line of a take: the first of these groups has to have these codes, in the order of places.
+/// Judges the line of a take. The first of the `groups` must have these `codes`, in the order of places.
 ///
 /// # Errors
 ///
-/// The fault `MissingGroup` where a later group has them, and else `StrayGroup`.
+/// Returns the fault `MissingGroup` if a later group has the codes, and `StrayGroup` otherwise.
 pub fn judge_take<C: CountySet>(
     ordered: &Ordered,
     groups: &[C],

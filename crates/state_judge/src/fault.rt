@@ -1,4 +1,4 @@
-//! What may be wrong with a certificate, and why a line of a tree is not found fine.
+//! What may be wrong with a certificate, and why a line of a tree wasn't accepted.
 
 ghost use Rattle.std.specs.Prelude.{◌≡◌};
 ghost use Rattle.state_judge.specs.LineStops.{line_stop};
@@ -10,16 +10,16 @@ use county_problem::GroupingFault;
 use std::alloc::AllocError;
 use thiserror::Error;
 
-/// Why a text is no certificate, or a tree no proof.
+/// Why a text isn't a certificate, or a tree isn't a proof.
 #[derive(Clone, Copy, Debug, PartialEq, Eq, Error)]
 pub enum CheckFault {
-    /// The text spells no certificate: its first fault. It comes before any other.
+    /// The text isn't a certificate. This is its first fault, and it comes before any other fault.
     #[error("{0}")]
     Text(TextFault),
-    /// The allowance that the text names, or one twentieth if it names none, isn't the problem's.
+    /// The allowance that the text names isn't the problem's. If the text names none, its allowance is one twentieth.
     #[error("the certificate is for another allowance")]
     WrongWindow,
-    /// The order has not each county of the problem once, or another code.
+    /// The order doesn't have each county of the problem once, or it has another code.
     #[error("the order has not each county of the problem once")]
     WrongOrder,
     /// A group of the target has more counties than the limit.
@@ -34,7 +34,7 @@ pub enum CheckFault {
     /// A group that fits is left out.
     #[error("a group that fits is left out")]
     MissingGroup,
-    /// The group is none of those that fit.
+    /// The group isn't one of those that fit.
     #[error("the group is none of those that fit")]
     StrayGroup,
     /// A group that fits weighs less than the quota.
@@ -43,8 +43,7 @@ pub enum CheckFault {
     /// The line allows more groups than the target has.
     #[error("the line allows more groups than the target has")]
     BoundOver,
-    /// The leaf has too many lines or too few, or lines behind one that allows fewer groups than the target
-    /// has.
+    /// The leaf has too many lines or too few, or it has lines after one that allows fewer groups than the target has.
     #[error("the leaf has too many lines or too few")]
     BoundLength,
     /// The part around the county can be filled, as far as this leaf tells.
@@ -61,7 +60,7 @@ pub enum CheckFault {
     NoLeaf,
 }
 
-/// Why a line is not found fine.
+/// Why a line wasn't accepted.
 #[derive(Clone, Copy, Debug, PartialEq, Eq, Error)]
 pub enum LineStop {
     /// The line is at fault.

@@ -6,7 +6,7 @@ ghost use Rattle.state_judge.specs.FaultWords.{check_words};
 use crate::fault::CheckFault;
 use std::alloc::AllocError;
 
-/// The words of a fault: its own, and the one that stands behind it, if there is one.
+/// Returns the words of a fault: its own, and those of the fault that it contains, if there is one.
 fn words_of(fault: CheckFault) -> (&'static [u8], &'static [u8])
     ensures { result.0.now ++ result.1.now ≡ check_words fault }
 {
@@ -29,8 +29,8 @@ fn words_of(fault: CheckFault) -> (&'static [u8], &'static [u8])
     }
 }
 
-/// Appends the words of a fault in the lines of the program, such as `NotStuck`. If the fault is one of the text or of
-/// the target, the word of the latter stands behind. It fails only where a growth was refused.
+/// Appends the words of a fault as they are in the lines of the program, such as `NotStuck`. If the fault is one of the
+/// text or of the target, the word of that fault follows. It fails only if a growth was refused.
 pub fn push_check_fault(out: &mut Vec<u8>, fault: CheckFault) -> Result<(), AllocError>
     ensures { OnOk result (out.new.items ≡ out.old.items ++ check_words fault) }
 {

@@ -26,8 +26,8 @@ use place_sets::CountySet;
 use state_groups::{State, all_groups_of_size, open_places, weigh_enough, weight_in};
 use std::alloc::{AllocError, Global};
 
-/// What the counties that are open to a group of a size, in counties, weigh together. The table has the weight of
-/// each county of the order.
+/// Returns the total weight of the counties that are open to a group of a `size`, in counties. The `table` has the
+/// weight of each county of the order.
 fn open_weight<C: CountySet>(
     alloc: Global,
     ordered: &Ordered,
@@ -50,8 +50,8 @@ fn open_weight<C: CountySet>(
     Ok(weight_in(table, &region))
 }
 
-/// Judges the weights of a line for a size, in counties: they have to be those of counties, and each group of the
-/// size that fits has to weigh at least the quota. Gives what the counties that are open to such a group weigh.
+/// Judges the weights of a line for a `size`, in counties. They must be weights of counties, and each group of the size
+/// that fits must weigh at least the `quota`. Returns the total weight of the counties that are open to such a group.
 pub(crate) fn judge_weights<C: CountySet>(
     graph: &CountyGraph<C>,
     round: &Round,

@@ -1,4 +1,4 @@
-//! The verdict on the line of a stuck leaf and of a seats leaf.
+//! The verdict on the line of a stuck leaf and on that of a seats leaf.
 
 ghost use Rattle.std.specs.Prelude.{◌<◌, IfOk, MatchOption};
 ghost use Rattle.connected_sets.specs.Graphs.{graph_problem, graph_order, graph_places, IsGraph};
@@ -14,10 +14,11 @@ use place_sets::CountySet;
 use state_groups::{State, is_off_seats, is_stuck_at};
 use std::alloc::AllocError;
 
-/// The fault of a stuck leaf around the county, `None` where the leaf is valid: `WrongCounty` where the county is
-/// none of the rest, else `NotStuck` where the part of the rest around it can be filled.
+/// Returns the fault of a stuck leaf around the `county`, or `None` if the leaf is valid. The fault is `WrongCounty` if
+/// the county isn't one of the rest. Otherwise it is `NotStuck` if the part of the rest around the county can be
+/// filled.
 ///
-/// An error comes where memory was refused.
+/// Returns an error if memory was refused.
 pub fn judge_stuck<C: CountySet>(
     graph: &CountyGraph<C>,
     state: &State<C>,
@@ -44,10 +45,10 @@ pub fn judge_stuck<C: CountySet>(
     Ok(Some(CheckFault::NotStuck))
 }
 
-/// The fault of a seats leaf, `None` where the leaf is valid: `SeatsOpen` where a part of the rest suits no seats,
-/// or the seats may add up to those left.
+/// Returns the fault of a seats leaf, or `None` if the leaf is valid. The fault is `SeatsOpen` if a part of the rest
+/// suits no number of seats, or if the seats may add up to those left.
 ///
-/// An error comes where memory was refused.
+/// Returns an error if memory was refused.
 pub fn judge_seats<C: CountySet>(
     graph: &CountyGraph<C>,
     state: &State<C>,

@@ -1,9 +1,9 @@
-//! What one line of a certificate is worth at a state: fine, or its fault.
+//! The verdict on one line of a certificate at a state: the line is fine, or it has a fault.
 //!
 //! The lines are those of a stuck leaf, a seats leaf, a branch, a take and a bound leaf. A line of a bound leaf allows
-//! fewer groups than the target has, or as many, or is at fault. Any bound goes by the room for groups of a size and by
-//! the closed groups of that size, which are counted here. A state is told by the places of an order, and what is said
-//! of it by codes. Any form of sets of places serves.
+//! fewer groups than the target has, or as many, or it is at fault. Any bound depends on the room for groups of a size
+//! and on the closed groups of that size, which are counted here. A state is given by the places of an order, and what
+//! is said of it is said by codes. Any form of sets of places will do.
 #![tactic(auto)]
 
 mod bound;

@@ -11,21 +11,21 @@ use certificate_lines::ascend;
 use county_codes::{CountyCode, has_code};
 use std::alloc::{AllocError, Global};
 
-/// Whether a text may spell the quota and the weights: the quota is no 0, and the codes ascend.
+/// Returns whether a text may spell the `quota` and the `weights`. The quota must not be 0, and the codes must ascend.
 pub(crate) fn is_spelled(quota: u32, weights: &[Weight]) -> bool
     ensures { IsTrue result ↔ ((1 ≤ quota) × (ascend weights.now ≡ true)) }
 {
     quota > 0 && ascend(weights)
 }
 
-/// Whether each weight is that of one of the codes.
+/// Returns whether each weight is that of one of the `codes`.
 pub(crate) fn are_known(codes: &[CountyCode], weights: &[Weight]) -> bool
     ensures { result ≡ list_all (λ w. contains codes.now w.county) weights.now }
 {
     weights.iter().all(|weight| has_code(codes, weight.county))
 }
 
-/// The weight of the county with the code, 0 where there is none.
+/// Returns the weight of the county with this `code`, or 0 if it has none.
 fn weight_at(weights: &[Weight], code: CountyCode) -> u32
     requires { ascend weights.now ≡ true }
     ensures { result ≡ county_weight weights.now code }
@@ -40,7 +40,7 @@ fn weight_at(weights: &[Weight], code: CountyCode) -> u32
     0
 }
 
-/// The weight of each code.
+/// Returns the weight of each of the `codes`, in the same order.
 pub(crate) fn weights_at(
     alloc: Global,
     codes: &[CountyCode],
