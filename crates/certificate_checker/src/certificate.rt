@@ -51,7 +51,7 @@ fn window_line(round: &Round) -> u64
     }
 }
 
-/// Judges the tolerance of a certificate, which is the problem's if the fractions are equal.
+/// Checks that the tolerance of a certificate is the problem's, which it is if the fractions are equal.
 fn judge_window(problem: &Problem, round: &Round) -> Result<(), Halt>
     ensures { MatchResult result (λ _. HasWindow (problem_of problem.now) round.now.window) (StopsAt (IsWindowFault (problem_of problem.now) (round_of round.now)) (window_line round.now.window)) }
 {

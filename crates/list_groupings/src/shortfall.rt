@@ -34,8 +34,8 @@ fn groups_of_size(groups: &[Codes], size: u16) -> usize
     count
 }
 
-/// Returns how many counties lie in the groups that the target has and that aren't closed, of at most `size` counties
-/// each.
+/// Returns how many counties the target's groups of at most `size` counties have together, without those that are
+/// closed.
 fn still_wanted(closed: &[Codes], wanted: &Counts, size: u16) -> usize
     requires small { size ≤ most_counties }
     ensures value { (s : State) → closed.now ≡ s.closed → result ≡ counties_wanted s (count_at wanted.now) size }

@@ -11,8 +11,8 @@ pub fn regions_are_joined()
     ensures least { FirstIsLeast }
 {}
 
-/// States that the people that the text gives for a group of a lawful grouping are the people of the group's codes, as
-/// a report has them. The text gives the people of the problem's counties in the group.
+/// States a law of each group of a lawful grouping. The people that the text gives for the group, those of the
+/// problem's counties in it, are the people of its codes, as a report has them.
 pub fn people_are_of_groups()
     ensures { PeopleAreOfGroups }
 {}

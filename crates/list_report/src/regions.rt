@@ -57,7 +57,7 @@ fn lone_places(alloc: Global, unshared: &[CountyCode]) -> Result<Vec<Place>, All
     Ok(places)
 }
 
-/// Returns the first counties of the regions that `set` meets, one for each county of the set.
+/// Returns the first counties of the regions that `set` meets, one for each of the `places` whose county is in the set.
 fn met_by(
     alloc: Global,
     places: &[Place],
@@ -157,8 +157,8 @@ fn place_regions(alloc: Global, places: &[Place]) -> Result<Vec<Codes>, AllocErr
     Ok(regions)
 }
 
-/// Returns the regions of the counties that no shared set has, in the order of their least counties. The `sets` join
-/// the counties.
+/// Returns the regions of the counties that no shared set has. The region of the least county comes first. The `sets`
+/// join the counties.
 pub(crate) fn regions_between(
     alloc: Global,
     counties: &[County],
