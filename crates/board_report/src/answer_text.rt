@@ -1,4 +1,4 @@
-//! What is printed of the answer of a desk.
+//! What is printed of a solver's answer.
 
 ghost use Rattle.std.specs.Prelude.{◌≡◌, ◌≤◌, ℕ, [], ◌∷◌, IfOk, IfSome, option_map};
 ghost use Rattle.certificate_lines.specs.Lines.{most};
@@ -13,7 +13,7 @@ use certificate_lines::WriteFault;
 use share_board::Event;
 use std::alloc::{AllocError, Global};
 
-/// The event that gives the answer to a board, if there is one.
+/// Returns the event that gives the answer to a board, if there is one.
 fn answer_event(piece: &Piece, round: u32, number: u32) -> Result<Option<Event>, AllocError>
     ensures { IfOk result (λ event. option_map event_of event ≡ event_in round number piece.now) }
 {
@@ -31,7 +31,7 @@ fn answer_event(piece: &Piece, round: u32, number: u32) -> Result<Option<Event>,
     }
 }
 
-/// The text of an event that has one.
+/// Returns the text of an event that has one.
 fn event_lines(
     alloc: Global,
     event: &Event,
@@ -50,12 +50,12 @@ fn event_lines(
     }
 }
 
-/// What is printed of the answer of a desk, for a round of this number: the text of the event that gives the answer to
-/// a board, or `open` if no branch is proposed.
+/// Returns what is printed of a solver's answer `piece` in the round with the number `round`. It is the text of the
+/// event that gives the answer to a board, or `open` if no branch is proposed.
 ///
 /// # Errors
 ///
-/// Where memory was refused.
+/// Returns `AllocError` if memory was refused.
 pub fn piece_text(
     alloc: Global,
     piece: &Piece,

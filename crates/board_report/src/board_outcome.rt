@@ -3,8 +3,8 @@
 /// What a board came to when all events were taken.
 #[derive(Drop)]
 pub struct Shared {
-    /// A line for each event, and then `joined`, or `left` with the number of pieces that wait and, of a wide board, a
-    /// line for each of these.
+    /// A line for each event, and then `joined`, or `left` with the number of pieces that wait. For a wide board, a
+    /// line for each of these pieces follows `left`.
     pub text: Vec<u8>,
     /// How many pieces wait.
     pub left: usize,

@@ -1,4 +1,4 @@
-//! How a board stands, and the certificate to which its pieces join.
+//! How a board stands, and the certificate that its pieces join to.
 
 ghost use Rattle.std.specs.Prelude.{◌≡◌, ℕ, ◌++◌, List, length, IfOk, OnOk};
 ghost use Rattle.std.specs.List.{flat_map};
@@ -36,7 +36,7 @@ fn push_each_open(out: &mut Vec<u8>, number: u32, found: &[u32]) -> Result<(), A
     Ok(())
 }
 
-/// Appends which pieces wait, where the round is a wide one.
+/// Appends which pieces wait, if the round is a wide one.
 fn push_which(
     out: &mut Vec<u8>,
     language: Language,
@@ -65,7 +65,7 @@ fn push_left(
     push_which(out, language, number, found)
 }
 
-/// The text of a certificate that has one.
+/// Returns the text of a certificate that has one.
 fn certificate_lines(alloc: Global, certificate: &Certificate) -> Result<Vec<u8>, AllocError>
     requires { (text : List ℕ) × IsSpelling text (certificate_of certificate.now) }
     ensures { IfOk result (λ v. IsSpelling v.items (certificate_of certificate.now)) }
@@ -77,7 +77,7 @@ fn certificate_lines(alloc: Global, certificate: &Certificate) -> Result<Vec<u8>
     }
 }
 
-/// How the board stands, behind a text.
+/// Returns how `board` stands, with the lines for it appended to `text`.
 pub(crate) fn ended<C: CountySet>(
     alloc: Global,
     board: &Board<C>,

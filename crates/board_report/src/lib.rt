@@ -1,4 +1,4 @@
-//! What a board of pieces comes to by a list of events, and what a desk answers of one of its pieces, as texts.
+//! What a board of pieces comes to by a list of events, and what a solver answers for one of its pieces, as texts.
 //!
 //! ```
 //! let shared = share(alloc, &problem, &grouping, shape, events, 10_000_000)?;   // accepted, left 2, ..

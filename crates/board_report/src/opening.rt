@@ -14,7 +14,7 @@ use place_sets::CountySet;
 use share_board::{Board, BoardFault};
 use std::alloc::Global;
 
-/// A board that no event has come to yet, whose order is that of ascending codes.
+/// Creates a board that no event has come to yet, with the order of ascending codes.
 pub(crate) fn opened_board<C: CountySet>(
     alloc: Global,
     problem: &Problem,

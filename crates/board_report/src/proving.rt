@@ -1,4 +1,4 @@
-//! What a desk answers of a piece that waits.
+//! What a solver answers for a piece that waits.
 
 ghost use Rattle.std.specs.Prelude.{◌≡◌, ℕ, ◌≤◌, length, map, IfOk, IfSome, MatchResult};
 ghost use Rattle.county_problem.specs.ProblemValue.{problem_of};
@@ -23,10 +23,10 @@ use share_board::{Board, BoardFault, Event, Reply};
 use state_groups::State;
 use std::alloc::{AllocError, Global};
 
-/// How much an event may cost on the board of a piece.
+/// The steps that an event may cost on the board of a piece.
 const PIECE_BUDGET: u64 = 10_000_000;
 
-/// The state of the piece of this number, if it waits.
+/// Returns the state of the piece with this `number`, if it waits.
 fn waiting_state<C: CountySet>(
     alloc: Global,
     board: &Board<C>,
@@ -47,7 +47,8 @@ fn waiting_state<C: CountySet>(
     }
 }
 
-/// What a desk answers of the piece at this state, with so many steps.
+/// Returns what a solver answers for the piece with this `number`, within `steps` steps. Returns `None` if the piece
+/// doesn't wait.
 fn answer_at<C: CountySet>(
     alloc: Global,
     problem: &Problem,
@@ -70,7 +71,7 @@ fn answer_at<C: CountySet>(
     Ok(Some(piece))
 }
 
-/// What a desk answers of a piece, by any form of sets of places that has room for the counties.
+/// Returns what `prove_waiting` returns, with any form of sets of places that has room for the counties.
 fn prove_over<C: CountySet>(
     alloc: Global,
     problem: &Problem,
@@ -94,14 +95,16 @@ fn prove_over<C: CountySet>(
     Ok(answer_at(alloc, problem, &board, number, steps)?)
 }
 
-/// What a desk answers of the piece of this number, with so many steps, once a board has taken the events in turn:
-/// none, if that piece doesn't wait.
+/// Returns what a solver answers, within `steps` steps, for the piece with this `number`, once a board has taken the
+/// `events` in turn. Returns `None` if that piece doesn't wait.
 ///
-/// The board's first target is the grouping, and its order is that of ascending codes. One event may cost 10,000,000.
+/// The board's first target is `grouping`, and its order is that of ascending codes. One event may cost 10,000,000
+/// steps.
 ///
 /// # Errors
 ///
-/// Why there is no board: the first fault that stands. `Memory` if memory was refused, also to an event.
+/// Returns the first fault that applies if there is no board. Returns `Memory` if memory was refused, also if it was
+/// refused to an event.
 pub fn prove_waiting(
     alloc: Global,
     problem: &Problem,

@@ -2,13 +2,13 @@
 
 use certificate_data::Language;
 
-/// How the first round of a board is.
+/// The shape of a board's first round.
 #[derive(Clone, Copy, Debug)]
 pub struct BoardShape {
     /// The language of its certificate.
     pub language: Language,
     /// The greatest size of a group that a branch may close, in counties.
     pub limit: u16,
-    /// How many branchings stand above its pieces, at most.
+    /// The greatest number of branchings that stand above its pieces.
     pub depth: u8,
 }

@@ -19,7 +19,7 @@ use place_sets::{CountySet, MaskSet, Places, fits_mask};
 use share_board::{Board, BoardFault, Event};
 use std::alloc::Global;
 
-/// What a board comes to, by any form of sets of places that has room for the counties.
+/// Returns what `share` returns, with any form of sets of places that has room for the counties.
 fn share_over<C: CountySet>(
     alloc: Global,
     problem: &Problem,
@@ -42,15 +42,15 @@ fn share_over<C: CountySet>(
     Ok(ended(alloc, &board, text)?)
 }
 
-/// What a board comes to by a list of events: the text of its replies and of how it stands then, and the certificate,
-/// if no piece waits.
+/// Returns what a board comes to by a list of `events`: the text of its replies and of how it stands then, and the
+/// certificate if no piece waits.
 ///
-/// The board's first target is the grouping, its order is that of ascending codes, and one event may cost so much. If
-/// memory is refused to an event, its reply says so, and the next event follows.
+/// The board's first target is `grouping`, its order is that of ascending codes, and one event may cost `budget` steps.
+/// If memory is refused to an event, its reply says so, and the next event follows.
 ///
 /// # Errors
 ///
-/// Why there is no board: the first fault that stands. `Memory` may stand in the place of any answer.
+/// Returns the first fault that applies if there is no board. `Memory` may take the place of any answer.
 pub fn share(
     alloc: Global,
     problem: &Problem,

@@ -14,7 +14,7 @@ use place_sets::CountySet;
 use share_board::{Board, Event, Reply};
 use std::alloc::{AllocError, Global};
 
-/// Takes an event, and appends the line of what is replied to it.
+/// Takes `event`, and appends the line of the reply to `text`.
 fn tell_one<C: CountySet>(
     alloc: Global,
     board: &mut Board<C>,
@@ -37,7 +37,7 @@ fn tell_one<C: CountySet>(
     push_reply(text, &reply)
 }
 
-/// Takes events in turn, and appends the line of what is replied to each.
+/// Takes the `events` in turn, and appends the line of each reply to `text`.
 pub(crate) fn take_and_tell<C: CountySet>(
     alloc: Global,
     board: &mut Board<C>,
@@ -56,7 +56,7 @@ pub(crate) fn take_and_tell<C: CountySet>(
     Ok(())
 }
 
-/// Whether memory was refused to the event.
+/// Returns whether memory was refused to the event.
 fn was_refused<C>(reply: &Reply<C>) -> bool
     ensures { (order : List ℕ) (test : C → ℕ → Bool) → result ≡ false → reply_of order test reply.now ≢ Memory }
 {
@@ -66,11 +66,11 @@ fn was_refused<C>(reply: &Reply<C>) -> bool
     }
 }
 
-/// Takes an event.
+/// Takes `event`.
 ///
 /// # Errors
 ///
-/// Where memory was refused.
+/// Returns `AllocError` if memory was refused.
 fn take_one<C: CountySet>(
     alloc: Global,
     board: &mut Board<C>,
@@ -95,11 +95,11 @@ fn take_one<C: CountySet>(
     Ok(())
 }
 
-/// Takes events in turn.
+/// Takes the `events` in turn.
 ///
 /// # Errors
 ///
-/// Where memory was refused to one.
+/// Returns `AllocError` if memory was refused to one of them.
 pub(crate) fn take_all<C: CountySet>(
     alloc: Global,
     board: &mut Board<C>,

@@ -21,7 +21,7 @@ use place_sets::CountySet;
 use state_groups::{State, closed_state};
 use state_judge::{Branching, judge_branch, judge_take};
 
-/// Judges the line of a branch, which was read last: the groups that its takes have to be.
+/// Judges the line of a branch, which was read last. Returns the groups that the takes of the branch have to be.
 pub(crate) fn listed_groups<C: CountySet, S>(
     input: &CheckInput<C>,
     state: &State<C>,
@@ -70,7 +70,8 @@ pub(crate) fn listed_groups<C: CountySet, S>(
     judged_at(judged, feed.line)
 }
 
-/// Judges the line of a take, which was read last, where these groups are left: the state where its group is closed.
+/// Judges the line of a take, which was read last, where the groups in `left` have no take yet. Returns the state where
+/// the group of the take is closed.
 pub(crate) fn taken_state<C: CountySet>(
     input: &CheckInput<C>,
     state: &State<C>,
@@ -106,7 +107,7 @@ pub(crate) fn taken_state<C: CountySet>(
     }
 }
 
-/// The groups behind the first one.
+/// Returns the groups behind the first one.
 pub(crate) fn groups_behind<C>(left: &[C]) -> &[C]
     ensures { (group : C) (others : List C) → left.now ≡ group ∷ others → result.now ≡ others }
 {

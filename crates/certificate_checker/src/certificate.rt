@@ -41,7 +41,7 @@ use state_groups::{State, first_state};
 use state_judge::CheckFault;
 use std::alloc::Global;
 
-/// The line of the allowance: the second, or the head's where none is named.
+/// Returns the line of the tolerance: the second, or the head's if no tolerance is named.
 fn window_line(round: &Round) -> u64
     ensures { result ≡ window_line round.now.window }
 {
@@ -51,7 +51,7 @@ fn window_line(round: &Round) -> u64
     }
 }
 
-/// Judges the allowance of a certificate, which is the problem's where the fractions are equal.
+/// Checks that the tolerance of a certificate is the problem's, which it is if the fractions are equal.
 fn judge_window(problem: &Problem, round: &Round) -> Result<(), Halt>
     ensures { MatchResult result (λ _. HasWindow (problem_of problem.now) round.now.window) (StopsAt (IsWindowFault (problem_of problem.now) (round_of round.now)) (window_line round.now.window)) }
 {
@@ -63,7 +63,7 @@ fn judge_window(problem: &Problem, round: &Round) -> Result<(), Halt>
     }
 }
 
-/// The counties in the order of a certificate, which stands on the line after that of the allowance.
+/// Returns the counties in the order of a certificate. The order stands on the line behind that of the tolerance.
 pub(crate) fn judge_order<'a>(
     alloc: Global,
     problem: &'a Problem,
@@ -81,7 +81,7 @@ pub(crate) fn judge_order<'a>(
     }
 }
 
-/// Whether some group has more counties.
+/// Returns whether some group has more counties than `limit`.
 fn has_larger(groups: &[Group], limit: u16) -> bool
     ensures { result ≡ list_any (λ g. nat_lt limit (length g.codes)) groups.now }
 {
@@ -90,7 +90,7 @@ fn has_larger(groups: &[Group], limit: u16) -> bool
         .any(|group| group.codes.as_slice().len() > usize::from(limit))
 }
 
-/// Judges the limit, which stands behind the order: no group of the target may have more counties.
+/// Judges the limit, which stands behind the order. No group of the target may have more counties.
 fn judge_limit(round: &Round) -> Result<(), Halt>
     ensures { MatchResult result (λ _. IsLargeEnough round.now.limit (target_of round.now.target)) (StopsAt (IsLimitFault round.now.limit (target_of round.now.target)) (window_line round.now.window + 2)) }
 {
@@ -105,7 +105,7 @@ fn judge_limit(round: &Round) -> Result<(), Halt>
     }
 }
 
-/// What the judging of a target stops with, whose first line this is.
+/// Returns the stop for a `fault` of a target whose first line is `line`.
 fn target_stop(fault: GroupingFault, line: u64) -> Halt
     ensures { IsTargetStop fault line result }
 {
@@ -115,7 +115,7 @@ fn target_stop(fault: GroupingFault, line: u64) -> Halt
     }
 }
 
-/// The counts of a round's target, which stands behind the limit: it has to be lawful.
+/// Returns the counts of a round's target, which has to be lawful. The target stands behind the limit.
 pub(crate) fn judge_target(
     alloc: Global,
     problem: &Problem,
@@ -136,7 +136,7 @@ pub(crate) fn judge_target(
     }
 }
 
-/// Judges the tree that begins on the next line, at a state, where order, limit and target are fine.
+/// Judges the tree that begins on the next line, at `state`. Order, limit and target are fine.
 pub(crate) fn judge_placed<C: CountySet, F, S: ItemSource<F>>(
     alloc: Global,
     ordered: &Ordered,
@@ -176,7 +176,7 @@ pub(crate) fn judge_placed<C: CountySet, F, S: ItemSource<F>>(
     judge_tree(&input, state, feed, from)
 }
 
-/// Judges the tree of a certificate, which begins on the next line, where all in front of it is fine.
+/// Judges the tree of a certificate, which begins on the next line. Everything in front of it is fine.
 fn judge_first<C: CountySet, F, S: ItemSource<F>>(
     alloc: Global,
     ordered: &Ordered,
@@ -213,7 +213,7 @@ fn judge_first<C: CountySet, F, S: ItemSource<F>>(
     }
 }
 
-/// Judges a round whose allowance is fine, and the tree that begins on the next line.
+/// Judges a round whose tolerance is fine, and the tree that begins on the next line.
 fn judge_behind<C: CountySet, F, S: ItemSource<F>>(
     alloc: Global,
     problem: &Problem,
@@ -273,7 +273,7 @@ fn judge_round<C: CountySet, F, S: ItemSource<F>>(
     }
 }
 
-/// Judges the certificate whose lines are to come: its target, where it has no fault.
+/// Judges the certificate whose lines are to come, and returns its target if it has no fault.
 pub(crate) fn judge_certificate<C: CountySet, F, S: ItemSource<F>>(
     alloc: Global,
     problem: &Problem,

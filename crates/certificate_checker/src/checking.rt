@@ -1,4 +1,4 @@
-//! The verdict on a text that stands in memory, or is pulled from a source: one body reads both.
+//! The verdict on a text that stands in memory or is pulled from a source. One body reads both.
 
 ghost use Rattle.std.specs.Prelude.{◌≡◌, ℕ, ◌≤◌, false, List, None, length, IfOk};
 ghost use Rattle.grouping_laws.specs.Problem.{Problem as ProblemOf};
@@ -20,7 +20,7 @@ use place_sets::{CountySet, MaskSet, Places, fits_mask};
 use state_judge::CheckFault;
 use std::alloc::{AllocError, Global};
 
-/// Keeps a copy of `bytes` in `line`, which is empty where memory is refused.
+/// Keeps a copy of `bytes` in `line`. `line` is empty if memory is refused.
 fn keep_line(line: &mut Vec<u8>, bytes: &[u8]) {
     line.clear();
     if line.extend_from_slice(bytes).is_err() {
@@ -28,8 +28,8 @@ fn keep_line(line: &mut Vec<u8>, bytes: &[u8]) {
     }
 }
 
-/// Answers what was `found`, unless a fault of the text stands behind it, which comes first. `line` keeps the line of
-/// the fault that is answered.
+/// Returns what was `found`, unless a fault of the text stands behind it. Such a fault comes first. `line` keeps the
+/// line of the fault that is answered.
 fn verdict_after<F, S: ItemSource<F>>(
     found: Verdict,
     feed: &mut Feed<S>,
@@ -60,8 +60,8 @@ fn verdict_after<F, S: ItemSource<F>>(
     }
 }
 
-/// The verdict on the text whose lines are to come. Lines that fit no certificate are met only in front of a fault of
-/// the text. `line` keeps the line of the fault that is answered, as `check_from_keeping` says.
+/// Returns the verdict on the text whose lines are to come. Lines that fit no certificate are met only in front of a
+/// fault of the text. `line` keeps the line of the fault that is answered, as `check_from_keeping` says.
 fn check_source<C: CountySet, F, S: ItemSource<F> + Drop>(
     alloc: Global,
     problem: &Problem,
@@ -98,11 +98,11 @@ fn check_source<C: CountySet, F, S: ItemSource<F> + Drop>(
     }
 }
 
-/// What `check` says, by any form of sets of places that has room for the counties of the problem.
+/// Returns what `check` returns, with any form of sets of places that has room for the counties of the problem.
 ///
 /// # Errors
 ///
-/// Where memory was refused.
+/// Returns `AllocError` if memory was refused.
 pub fn check_over<C: CountySet>(
     alloc: Global,
     problem: &Problem,
@@ -120,18 +120,20 @@ pub fn check_over<C: CountySet>(
     check_source::<C, (), Items>(alloc, problem, items, &mut (), budget, &mut line)
 }
 
-/// The verdict on a text that should be a certificate of the problem, plain or wide.
+/// Returns the verdict on a text that should be a certificate of the problem, plain or wide.
 ///
-/// `Best` names the target of the text: it is lawful, and no lawful grouping has a lexicographically greater list of
+/// `Best` names the target of the text. It is lawful, and no lawful grouping has a lexicographically greater list of
 /// counts by size, as *Stephenson v. Bartlett* asks. `Impossible` says that no grouping is lawful. `No` gives the first
-/// fault with its line, from 1; a fault of the text's words comes before any other. Each line that is read and each set
-/// of counties that is met counts one: `Budget` comes only where the budget is below the cost of the text, three for
-/// each of its lines and for each set of counties that its lines ask to look through. Any other answer comes only where
-/// the lines in front of the text's end, or of the first fault of its words, and one more are no more than `budget`.
+/// fault with its line, from 1. A fault in the text's words comes before any other.
+///
+/// Each line that is read counts one step, and so does each set of counties that is met. `Budget` comes only if
+/// `budget` is below the cost of the text: three for each of its lines, and three for each set of counties that its
+/// lines ask to look through. Take the number of lines in front of the text's end, or of the first fault in its words,
+/// and add one. Any other answer comes only if this sum is no more than `budget`.
 ///
 /// # Errors
 ///
-/// Where memory was refused.
+/// Returns `AllocError` if memory was refused.
 pub fn check(
     alloc: Global,
     problem: &Problem,
@@ -150,12 +152,12 @@ pub fn check(
     }
 }
 
-/// Answers what `check_from_keeping` answers, by any form of sets of places that has room for the counties of the
+/// Returns what `check_from_keeping` returns, with any form of sets of places that has room for the counties of the
 /// problem.
 ///
 /// # Errors
 ///
-/// As `check_from`.
+/// Returns the errors of `check_from`.
 pub fn check_from_over<C: CountySet, S: Source>(
     alloc: Global,
     problem: &Problem,
@@ -183,16 +185,23 @@ pub fn check_from_over<C: CountySet, S: Source>(
     }
 }
 
-/// Answers what `check_from` answers, and keeps a copy of the line at fault in `line`, for whoever shows it to a person.
+/// Returns what `check_from` returns, and keeps a copy of the line at fault in `line`, for whoever shows it to a
+/// person.
 ///
-/// If a fault is answered, `line` has the bytes of its line, without LF and 65,536 at most. `line` is empty if the fault
-/// is that the text ends too early, or if it stands above the last line that was read when it was found: allowance,
-/// order, limit and target are judged behind the last group, and the length of a bound leaf behind its lines. `line` is
-/// also empty if no fault is answered, or if memory for it is refused. No clause speaks of `line`.
+/// If a fault is answered, `line` has the bytes of its line, at most 65,536 of them and without LF. `line` is empty in
+/// these cases:
+///
+/// - The fault is that the text ends too early.
+/// - The fault stands above the last line that was read when it was found. Tolerance, order, limit and target are
+///   judged behind the last group, and the length of a bound leaf behind its lines.
+/// - No fault is answered.
+/// - Memory for `line` is refused.
+///
+/// No clause speaks of `line`.
 ///
 /// # Errors
 ///
-/// As `check_from`.
+/// Returns the errors of `check_from`.
 pub fn check_from_keeping<S: Source>(
     alloc: Global,
     problem: &Problem,
@@ -213,16 +222,16 @@ pub fn check_from_keeping<S: Source>(
     }
 }
 
-/// The verdict on a text that is pulled from a source line by line, as `check` says it of a text in memory.
+/// Returns the verdict on a text that is pulled from a source line by line, as `check` gives it on a text in memory.
 ///
 /// It holds one line, and makes no value of a tree. It reads on behind a fault that it finds, up to the end of the text
-/// or to a fault of the text's words, which comes before any other. So it pulls as many lines as the budget has steps
-/// at most, also from a source that never ends. The bytes that were pulled, with whatever may come later, have the
-/// verdict that is answered.
+/// or to a fault in the text's words, which comes before any other. So it pulls at most as many lines as the budget has
+/// steps, even from a source that never ends. The verdict is that of the bytes that were pulled, with whatever may come
+/// later.
 ///
 /// # Errors
 ///
-/// `ReadFault` where the source could not be read, and `Memory` where memory was refused.
+/// Returns `ReadFault` if the source could not be read, and `Memory` if memory was refused.
 pub fn check_from<S: Source>(
     alloc: Global,
     problem: &Problem,

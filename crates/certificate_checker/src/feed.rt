@@ -11,8 +11,8 @@ use county_problem::Steps;
 use state_judge::CheckFault;
 use std::alloc::{AllocError, AllocFailed};
 
-/// The lines of a certificate or of a tree, with how many were read, and the steps that may be taken: one for each
-/// line, and one for each set that is split.
+/// The lines of a certificate or of a tree, the number of lines read, and the steps that may be taken. Each line counts
+/// one step, and so does each set that is split.
 #[derive(Drop)]
 pub(crate) struct Feed<S> {
     pub(crate) source: S,
@@ -51,7 +51,7 @@ impl<T: Drop> From<AllocFailed<T>> for Halt {
     }
 }
 
-/// What a fault of the source stops with.
+/// Returns the stop for a `fault` of the source.
 fn of_source(fault: TextFault) -> Halt
     ensures { StopsAtText fault result }
 {
@@ -61,7 +61,7 @@ fn of_source(fault: TextFault) -> Halt
     }
 }
 
-/// The next line.
+/// Reads the next line, which counts one step.
 pub(crate) fn next_line<F, S: ItemSource<F>>(feed: &mut Feed<S>, from: &mut F) -> Result<Item, Halt>
     requires { feed.old.line ≤ feed.old.steps.used }
     ensures step { TakesStep feed.old result feed.new }
@@ -83,7 +83,7 @@ pub(crate) fn next_line<F, S: ItemSource<F>>(feed: &mut Feed<S>, from: &mut F) -
     }
 }
 
-/// Passes over the next item: whether there was one.
+/// Passes over the next item, and returns whether there was one.
 fn pass_item<F, S: ItemSource<F>>(source: &mut S, from: &mut F) -> Result<bool, TextFault>
     ensures { ItemsThrough (S.left source.old) (S.given from.old) (S.left source.new) (S.given from.new) (λ a b. Passes a result b) }
 {
@@ -94,7 +94,7 @@ fn pass_item<F, S: ItemSource<F>>(source: &mut S, from: &mut F) -> Result<bool, 
     }
 }
 
-/// Reads the lines that are left, as many as there may be steps.
+/// Reads the lines that are left, up to as many lines in all as there may be steps.
 pub(crate) fn read_rest<F, S: ItemSource<F>>(feed: &mut Feed<S>, from: &mut F) -> Result<(), Halt>
     ensures { FeedsThrough (stream_of S.left S.given feed.old from.old) (stream_of S.left S.given feed.new from.new) (λ a _. IsRestRead a result) }
 {
@@ -111,7 +111,7 @@ pub(crate) fn read_rest<F, S: ItemSource<F>>(feed: &mut Feed<S>, from: &mut F) -
     }
 }
 
-/// The fault that ends the items to come, if there is one.
+/// Returns the fault that ends the items to come, if there is one.
 pub(crate) fn first_fault(items: &mut Items) -> Result<Option<TextFault>, AllocError>
     ensures { IfOk result (λ fault. fault ≡ items.old.fault) }
 {

@@ -1,4 +1,4 @@
-//! Each form of line, taken where a certificate must have it.
+//! Each form of line, read where a certificate must have it.
 
 ghost use Rattle.std.specs.Prelude.{◌≤◌};
 ghost use Rattle.certificate_lines.specs.Items.{taken};
@@ -12,7 +12,7 @@ use certificate_lines::{Item, ItemSource, Opening, Version};
 use county_codes::{Codes, Group, Window};
 use state_judge::LineStop;
 
-/// The next line, which has to open a tree.
+/// Reads the next line, which has to open a tree.
 pub(crate) fn next_opening<F, S: ItemSource<F>>(
     feed: &mut Feed<S>,
     from: &mut F,
@@ -30,7 +30,7 @@ pub(crate) fn next_opening<F, S: ItemSource<F>>(
     }
 }
 
-/// The next line, which has to be a take, or else the mark.
+/// Reads the next line, which has to be a take or the mark. Returns the codes of the take, or `None` for the mark.
 pub(crate) fn next_take<F, S: ItemSource<F>>(
     feed: &mut Feed<S>,
     from: &mut F,
@@ -48,7 +48,7 @@ pub(crate) fn next_take<F, S: ItemSource<F>>(
     }
 }
 
-/// The next line, which has to be one of a bound leaf.
+/// Reads the next line, which has to be a line of a bound leaf.
 pub(crate) fn next_allowance<F, S: ItemSource<F>>(
     feed: &mut Feed<S>,
     from: &mut F,
@@ -64,7 +64,7 @@ pub(crate) fn next_allowance<F, S: ItemSource<F>>(
     }
 }
 
-/// The next line, which has to be the head of a certificate.
+/// Reads the next line, which has to be the head of a certificate.
 pub(crate) fn next_head<F, S: ItemSource<F>>(
     feed: &mut Feed<S>,
     from: &mut F,
@@ -80,7 +80,7 @@ pub(crate) fn next_head<F, S: ItemSource<F>>(
     }
 }
 
-/// The next line, which has to be that of the allowance.
+/// Reads the next line, which has to be that of the tolerance.
 pub(crate) fn next_window<F, S: ItemSource<F>>(
     feed: &mut Feed<S>,
     from: &mut F,
@@ -96,7 +96,7 @@ pub(crate) fn next_window<F, S: ItemSource<F>>(
     }
 }
 
-/// The next line, which has to be the order.
+/// Reads the next line, which has to be the order.
 pub(crate) fn next_order<F, S: ItemSource<F>>(
     feed: &mut Feed<S>,
     from: &mut F,
@@ -112,7 +112,7 @@ pub(crate) fn next_order<F, S: ItemSource<F>>(
     }
 }
 
-/// The next line, which has to be the limit.
+/// Reads the next line, which has to be the limit.
 pub(crate) fn next_limit<F, S: ItemSource<F>>(feed: &mut Feed<S>, from: &mut F) -> Result<u16, Halt>
     requires { feed.old.line ≤ feed.old.steps.used }
     ensures counts { CountsSteps feed.old feed.new }
@@ -125,7 +125,8 @@ pub(crate) fn next_limit<F, S: ItemSource<F>>(feed: &mut Feed<S>, from: &mut F) 
     }
 }
 
-/// The next line, which has to be that of the target: the number of its groups, or that there is none.
+/// Reads the next line, which has to be that of the target. Returns the number of its groups, or `None` if there is no
+/// target.
 pub(crate) fn next_target<F, S: ItemSource<F>>(
     feed: &mut Feed<S>,
     from: &mut F,
@@ -141,7 +142,7 @@ pub(crate) fn next_target<F, S: ItemSource<F>>(
     }
 }
 
-/// The next line, which has to be a group of the target.
+/// Reads the next line, which has to be a group of the target.
 pub(crate) fn next_group<F, S: ItemSource<F>>(
     feed: &mut Feed<S>,
     from: &mut F,
@@ -157,7 +158,7 @@ pub(crate) fn next_group<F, S: ItemSource<F>>(
     }
 }
 
-/// The next line, which has to be the end.
+/// Reads the next line, which has to be the end.
 pub(crate) fn next_end<F, S: ItemSource<F>>(feed: &mut Feed<S>, from: &mut F) -> Result<(), Halt>
     requires { feed.old.line ≤ feed.old.steps.used }
     ensures counts { CountsSteps feed.old feed.new }
@@ -170,7 +171,7 @@ pub(crate) fn next_end<F, S: ItemSource<F>>(feed: &mut Feed<S>, from: &mut F) ->
     }
 }
 
-/// The stop of a line's judging as one of the reading.
+/// Returns the stop of a line's judging as a stop of the reading at `line`.
 fn stop_at(stop: LineStop, line: u64) -> Halt
     ensures { IsStopAt line stop result }
 {
@@ -182,7 +183,7 @@ fn stop_at(stop: LineStop, line: u64) -> Halt
     }
 }
 
-/// What a line's judging gave, its stop as one of the reading.
+/// Returns what the judging of a line gave, with its stop as a stop of the reading at `line`.
 pub(crate) fn judged_at<T>(judged: Result<T, LineStop>, line: u64) -> Result<T, Halt>
     ensures { IsJudgedAt line judged result }
 {

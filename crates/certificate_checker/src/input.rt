@@ -7,7 +7,7 @@ use county_problem::Counts;
 /// What the lines of a tree are judged by: the county graph, the round, and the counts of its target.
 #[derive(Drop)]
 pub(crate) struct CheckInput<'g, 'a, 'b, C> {
-    /// The county graph by the round's order.
+    /// The county graph, in the round's order.
     pub(crate) graph: &'g CountyGraph<'a, 'b, C>,
     /// The round.
     pub(crate) round: &'g Round,

@@ -21,7 +21,7 @@ use place_sets::CountySet;
 use state_groups::State;
 use state_judge::{Allowed, CheckFault, judge_allowance, judge_seats, judge_stuck};
 
-/// What a leaf of one line comes to, with its fault, if there is one, at its line.
+/// Returns the result for a leaf of one line: its `fault` at `line`, if there is one.
 fn found_at(fault: Option<CheckFault>, line: u64) -> Result<(), Halt>
     ensures { IsFoundAt fault line result }
 {
@@ -31,7 +31,7 @@ fn found_at(fault: Option<CheckFault>, line: u64) -> Result<(), Halt>
     }
 }
 
-/// Judges a stuck leaf, whose line was read last.
+/// Judges a stuck leaf whose line was read last.
 pub(crate) fn judge_stuck_leaf<C: CountySet>(
     input: &CheckInput<C>,
     state: &State<C>,
@@ -48,7 +48,7 @@ pub(crate) fn judge_stuck_leaf<C: CountySet>(
     found_at(fault, line)
 }
 
-/// Judges a seats leaf, whose line was read last.
+/// Judges a seats leaf whose line was read last.
 pub(crate) fn judge_seats_leaf<C: CountySet>(
     input: &CheckInput<C>,
     state: &State<C>,
@@ -64,8 +64,9 @@ pub(crate) fn judge_seats_leaf<C: CountySet>(
     found_at(fault, line)
 }
 
-/// What a bound leaf comes to where a line of it allows fewer groups than the target has: more lines are a fault of
-/// its first one.
+/// Returns the result for a bound leaf where its judging ends, as at a line that allows fewer groups than the target
+/// has. If the leaf has to end there (`last`), it has no fault. Otherwise its number of lines is a fault of its first
+/// line, `opened`.
 fn loss_at(last: bool, opened: u64) -> Result<(), Halt>
     ensures { IsEndOf last opened result }
 {
@@ -76,8 +77,8 @@ fn loss_at(last: bool, opened: u64) -> Result<(), Halt>
     }
 }
 
-/// Judges the next line, which has to be the one of a bound leaf for a size, where the target has so many groups of
-/// this size and smaller groups use up so many counties.
+/// Judges the next line, which has to be the line of a bound leaf for groups of `size` counties. The target has
+/// `wanted` groups of this size, and smaller groups use up `used` counties.
 fn judge_line<C: CountySet, F, S: ItemSource<F>>(
     input: &CheckInput<C>,
     state: &State<C>,
@@ -126,7 +127,7 @@ fn judge_line<C: CountySet, F, S: ItemSource<F>>(
     judged_at(judged, feed.line)
 }
 
-/// Judges a bound leaf of so many lines, whose first line was read last.
+/// Judges a bound leaf whose first line was read last and announces `count` more lines.
 pub(crate) fn judge_bound_leaf<C: CountySet, F, S: ItemSource<F>>(
     input: &CheckInput<C>,
     state: &State<C>,

@@ -1,4 +1,4 @@
-//! A checker of certificates: the verdict on any text, plain or wide, and on any tree.
+//! A checker of certificates. It gives a verdict on any text, plain or wide, and on any tree.
 //!
 //! ```
 //! match check(alloc, &problem, text, 10_000_000)? {
@@ -9,11 +9,13 @@
 //! }
 //! ```
 //!
-//! `checking` says the verdict of a text, `tree_checking` that of a tree. `certificate` judges order, limit and target,
-//! whose lines `rounds` reads; `tree` reads the lines of a tree one after the other and judges each at its state:
-//! branches with their takes (`branches`), and leaves (`leaves`). `feed` counts lines and steps, `forms` takes lines of
-//! one form, and `input` is what they are judged by. It makes no value of a tree. Any form of sets of places serves,
-//! and any source of items: `check_from` pulls the text line by line.
+//! `checking` gives the verdict on a text, and `tree_checking` that on a tree. `certificate` judges order, limit and
+//! target, whose lines `rounds` reads. `tree` reads the lines of a tree one after the other and judges each at its
+//! state: branches with their takes (`branches`), and leaves (`leaves`). `feed` counts lines and steps, `forms` takes
+//! lines of one form, and `input` is what they are judged by.
+//!
+//! The checker makes no value of a tree. Any form of sets of places serves, and any source of items: `check_from` pulls
+//! the text line by line.
 //!
 //! A law (`specs/CertificateAnswers.antt`) says that the checker never says No to the text of a certificate. It answers
 //! what the certificate shows, or that the budget is too small.

@@ -20,7 +20,7 @@ use certificate_lines::{ItemSource, Version};
 use county_codes::{Group, Grouping, Window};
 use std::alloc::Global;
 
-/// So many groups of a target.
+/// Reads `count` groups of a target.
 fn read_groups<F, S: ItemSource<F>>(
     alloc: Global,
     feed: &mut Feed<S>,
@@ -45,7 +45,7 @@ fn read_groups<F, S: ItemSource<F>>(
     Ok(groups)
 }
 
-/// The target, where there is one.
+/// Reads the target, if there is one.
 fn read_target<F, S: ItemSource<F>>(
     alloc: Global,
     feed: &mut Feed<S>,
@@ -68,7 +68,7 @@ fn read_target<F, S: ItemSource<F>>(
     }
 }
 
-/// The language of the head, and the allowance on the second line where the head is of version 2.
+/// Reads the language in the head, and the tolerance on the second line if the head is of version 2.
 fn read_head<F, S: ItemSource<F>>(
     feed: &mut Feed<S>,
     from: &mut F,
@@ -90,7 +90,7 @@ fn read_head<F, S: ItemSource<F>>(
     }
 }
 
-/// The round of a certificate.
+/// Reads the round of a certificate.
 pub(crate) fn read_round<F, S: ItemSource<F>>(
     alloc: Global,
     feed: &mut Feed<S>,

@@ -23,7 +23,7 @@ use place_sets::CountySet;
 use state_groups::{State, raise_place};
 use state_judge::CheckFault;
 
-/// Judges the takes of a branch, up to its mark, against these groups.
+/// Judges the takes of a branch, up to its mark, against these `groups`.
 #[cycle(tree_judging)]
 fn judge_takes<C: CountySet, F, S: ItemSource<F>>(
     input: &CheckInput<C>,
@@ -72,8 +72,9 @@ fn judge_takes<C: CountySet, F, S: ItemSource<F>>(
     }
 }
 
-/// Judges the tree that begins on the next line, at a state, which is raised as its branches are passed. It goes as
-/// deep as takes nest.
+/// Judges the tree that begins on the next line, at `state`. The state is raised as branches of the tree are passed.
+///
+/// The recursion goes as deep as takes nest.
 #[cycle(tree_judging)]
 pub(crate) fn judge_tree<C: CountySet, F, S: ItemSource<F>>(
     input: &CheckInput<C>,

@@ -28,7 +28,8 @@ use state_groups::{State, copied_state};
 use state_judge::CheckFault;
 use std::alloc::{AllocError, Global};
 
-/// What is said of a tree whose lines have no fault. The stops that a fault of the text gives never come here.
+/// Returns the verdict on a tree whose lines have no fault, from the result of their judging. The stops that a fault of
+/// the text gives never come here.
 fn said_of(judged: Result<(), Halt>) -> Result<TreeVerdict, AllocError>
     ensures { IsSaid judged result }
 {
@@ -40,7 +41,7 @@ fn said_of(judged: Result<(), Halt>) -> Result<TreeVerdict, AllocError>
     }
 }
 
-/// The fault that ends the lines of a tree, if there is one.
+/// Returns the fault that ends the lines of a tree, if there is one.
 fn fault_in(
     alloc: Global,
     lines: &[u8],
@@ -54,7 +55,7 @@ fn fault_in(
     first_fault(&mut items)
 }
 
-/// The verdict on lines at a state: their first fault, or else what their judging comes to.
+/// Returns the verdict on `lines` at `state`: their first fault, or else what their judging comes to.
 fn check_lines<C: CountySet>(
     alloc: Global,
     ordered: &Ordered,
@@ -100,20 +101,22 @@ fn check_lines<C: CountySet>(
     said_of(judged)
 }
 
-/// The verdict on a tree that should prove a round from a state on.
+/// Returns the verdict on a tree that should prove a round from a state on.
 ///
-/// `Proof` comes only of proof trees. `Fault` names the first fault: that of its lines where no text spells it, else
-/// the first line that may not stand where it stands, so it comes only of trees that are no proof or have no spelling.
-/// Each line that is judged and each set of counties that is met counts one, and `Budget` comes only where the budget
-/// is below the cost of the tree, three for each of its lines and for each set of counties that they ask to look
-/// through. A proof tree with more lines than the budget is never answered with `Proof`.
+/// `Proof` is answered only for proof trees. `Fault` names the first fault: that of the tree's lines if no text spells
+/// it, or else the first line that may not stand where it stands. So it comes only for trees that are no proof or have
+/// no spelling.
 ///
-/// The order has each county of the problem once, the target, if there is one, is lawful, and the limit is at most 256
+/// Each line that is judged counts one step, and so does each set of counties that is met. `Budget` comes only if
+/// `budget` is below the cost of the tree: three for each of its lines, and three for each set of counties that they
+/// ask to look through. A proof tree with more lines than `budget` is never answered with `Proof`.
+///
+/// The order has each county of the problem once. The target, if there is one, is lawful, and the limit is at most 256
 /// counties. The state is by places of the order.
 ///
 /// # Errors
 ///
-/// Where memory was refused.
+/// Returns `AllocError` if memory was refused.
 pub fn check_tree<C: CountySet>(
     alloc: Global,
     problem: &Problem,

@@ -10,7 +10,7 @@ pub enum Verdict {
     Best(Grouping),
     /// The text is a certificate without a target: no grouping is lawful.
     Impossible,
-    /// The text is none: its first fault, and the line, from 1.
+    /// The text isn't a certificate: its first fault, and the fault's line, from 1.
     No(CheckFault, u64),
     /// The budget is below the cost of the text.
     Budget,
@@ -21,7 +21,7 @@ pub enum Verdict {
 pub enum TreeVerdict {
     /// The tree is a proof.
     Proof,
-    /// The tree is none, or no text spells it: its first fault.
+    /// The tree isn't a proof, or no text spells it: its first fault.
     Fault(CheckFault),
     /// The budget is below the cost of the tree.
     Budget,

@@ -19,7 +19,8 @@ use county_codes::Grouping;
 use county_problem::{Counts, Problem, judge};
 use std::alloc::{AllocError, Global};
 
-/// The line behind that of the target, if the target has no group: an allowance that is named has a line of its own.
+/// Returns the number of the line behind that of the target, for a target without groups. A tolerance that is named has
+/// a line of its own.
 fn line_behind(round: &Round) -> u64
     ensures value { result ≡ window_line round.now.window + 4 }
     ensures small { result ≤ 6 }
@@ -30,7 +31,7 @@ fn line_behind(round: &Round) -> u64
     }
 }
 
-/// The listing of the certificate that a text spells, with its target and the counts of the target.
+/// Returns the listing of the certificate that `text` spells, with its `target` and the counts of the target, `wanted`.
 fn listing_of(
     alloc: Global,
     problem: &Problem,
@@ -63,7 +64,7 @@ fn listing_of(
     }
 }
 
-/// The listing of a text that names this target as best.
+/// Returns the listing of a text that names `target` as best.
 fn read_listing(
     alloc: Global,
     problem: &Problem,

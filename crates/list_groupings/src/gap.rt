@@ -1,6 +1,6 @@
 //! Why a certificate doesn't show all best groupings at one of its leaves.
 
-/// Why a bound leaf that doesn't fall short of the target's counts is no best grouping by itself.
+/// Why a bound leaf that doesn't fall short of the target's counts isn't a best grouping by itself.
 #[derive(Clone, Copy, Debug, PartialEq, Eq)]
 pub enum Gap {
     /// A county lies in no closed group.

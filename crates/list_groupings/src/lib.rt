@@ -1,4 +1,4 @@
-//! All best groupings of a problem, by a certificate.
+//! All best groupings of a problem, read from a certificate.
 //!
 //! ```
 //! match all_best(alloc, &problem, text, 10_000_000)? {
@@ -10,12 +10,12 @@
 //! }
 //! ```
 //!
-//! `all_best` asks `check` first, and reads the certificate. `walk` goes through its tree once, from `position` to
-//! `position`: at each bound leaf that doesn't fall short (`shortfall`) it seats the closed groups (`seating`) and
+//! `all_best` asks `check` first, and then reads the certificate. `walk` goes through its tree once, from `position` to
+//! `position`. At each bound leaf that doesn't fall short (`shortfall`) it seats the closed groups (`seating`) and
 //! finds a grouping, or stops at the first gap. `sorting` puts groups and groupings in order.
 //!
 //! Two lists of all best groupings have the same sets in the same order, and the text of a list speaks of sets alone.
-//! So the text is a fact of the problem, and not of the certificate (`specs/ListLaws.antt`).
+//! So the text depends on the problem, and not on the certificate (`specs/ListLaws.antt`).
 #![tactic(auto)]
 
 mod answering;

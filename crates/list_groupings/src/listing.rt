@@ -9,12 +9,12 @@ use state_judge::CheckFault;
 pub enum Listing {
     /// The text is a certificate, and these are all best groupings, in order.
     All(Vec<Grouping>),
-    /// The text is a certificate whose target is best, but it doesn't show which others are: the first leaf at which it
-    /// doesn't, and the leaf's line, from 1.
+    /// The text is a certificate whose target is best, but it doesn't show which other groupings are. The gap is that
+    /// of the first leaf where it doesn't, and the line is the leaf's, from 1.
     Open(Gap, u64),
     /// The text is a certificate without a target: no grouping is lawful.
     Impossible,
-    /// The text is no certificate: its first fault, and the line, from 1.
+    /// The text is no certificate: its first fault, and the fault's line, from 1.
     No(CheckFault, u64),
     /// The budget is below the cost of the text.
     Budget,

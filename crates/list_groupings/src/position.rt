@@ -23,15 +23,15 @@ pub(crate) struct Waiting {
     pub(crate) least: u32,
 }
 
-/// Where the walk stands: the groups that are closed, in the order in which they were closed, and the other counties
-/// in the order of the problem.
+/// Where the walk stands: the groups that are closed, in the order in which they were closed, and the other counties in
+/// the order of the problem.
 #[derive(Debug, Drop)]
 pub(crate) struct Position {
     pub(crate) closed: Vec<Codes>,
     pub(crate) rest: Vec<Waiting>,
 }
 
-/// All counties, each in a group of any size.
+/// Returns all `counties`, each in a group of any size.
 fn all_waiting(alloc: Global, counties: &[County]) -> Result<Vec<Waiting>, AllocError>
     ensures { IfOk result (λ v. v.items ≡ map (λ c. waiting (λ x. 0) c.code) counties.now) }
 {
@@ -44,7 +44,7 @@ fn all_waiting(alloc: Global, counties: &[County]) -> Result<Vec<Waiting>, Alloc
         .collect(alloc)
 }
 
-/// The counties that aren't in a group.
+/// Returns the counties of `rest` that aren't in the group with these `codes`.
 fn outside(
     alloc: Global,
     rest: &[Waiting],
@@ -58,7 +58,7 @@ fn outside(
         .collect(alloc)
 }
 
-/// The counties, with one that lies in a group of more counties than a limit from now on.
+/// Returns the counties of `rest`, where `county` lies in a group of more than `limit` counties from now on.
 fn with_raised(
     alloc: Global,
     rest: &[Waiting],
@@ -82,7 +82,7 @@ fn with_raised(
         .collect(alloc)
 }
 
-/// Equal groups.
+/// Returns a copy of `groups`.
 fn copied_groups(alloc: Global, groups: &[Codes]) -> Result<Vec<Codes>, AllocError>
     ensures { IfOk result (λ v. v.items ≡ groups.now) }
 {
@@ -93,7 +93,7 @@ fn copied_groups(alloc: Global, groups: &[Codes]) -> Result<Vec<Codes>, AllocErr
     Ok(copies)
 }
 
-/// The weight of the county with the code, 0 where there is none.
+/// Returns the weight of the county with this `code`, or 0 if there is none.
 fn weight_of(weights: &[Weight], code: CountyCode) -> u32
     requires { ascend weights.now ≡ true }
     ensures { result ≡ county_weight weights.now code }
@@ -109,7 +109,7 @@ fn weight_of(weights: &[Weight], code: CountyCode) -> u32
 }
 
 impl Position {
-    /// The position at which a tree of a certificate begins, or an error where memory was refused.
+    /// Creates the position at which the tree of a certificate begins. Returns an error if memory was refused.
     pub(crate) fn first(alloc: Global, problem: &Problem) -> Result<Position, AllocError>
         ensures { IfOk result (IsPosition (problem_of problem.now) (empty_state (problem_of problem.now))) }
     {
@@ -119,7 +119,7 @@ impl Position {
         })
     }
 
-    /// The position where one more group is closed, or an error where memory was refused.
+    /// Returns the position where one more group is closed, or an error if memory was refused.
     pub(crate) fn with_closed(&self, alloc: Global, codes: &Codes) -> Result<Position, AllocError>
         ensures { (p : ProblemOf) (s : State) → IsPosition p s self.now
             → IfOk result (IsPosition p (close codes.now s)) }
@@ -130,7 +130,7 @@ impl Position {
         Ok(Position { closed, rest })
     }
 
-    /// The position where the county is raised past the limit, or an error where memory was refused.
+    /// Returns the position where `county` is raised past `limit`, or an error if memory was refused.
     pub(crate) fn raised(
         self,
         alloc: Global,
@@ -146,7 +146,7 @@ impl Position {
         })
     }
 
-    /// How many counties are open to a group of so many.
+    /// Returns how many counties are open to a group of `size` counties.
     pub(crate) fn open_counties(&self, size: u32) -> u32
         requires few { length self.now.rest.items ≤ most_counties }
         ensures { (p : ProblemOf) (s : State) → IsPosition p s self.now → result ≡ length (listed p (open_to s size)) }
@@ -160,7 +160,7 @@ impl Position {
         count
     }
 
-    /// What the counties weigh together that are open to a group of so many.
+    /// Returns the total weight of the counties that are open to a group of `size` counties.
     pub(crate) fn open_weight(&self, size: u32, weights: &[Weight]) -> u64
         requires few { length self.now.rest.items ≤ most_counties }
         requires ascend { ascend weights.now ≡ true }

@@ -15,7 +15,7 @@ use county_codes::{Codes, CountyCode, Group, Grouping, has_code};
 use county_problem::{Problem, allot};
 use std::alloc::{AllocError, Global};
 
-/// The counties of the problem that are in a group, in the order of the problem.
+/// Returns the counties of the problem that are in the group with these `codes`, in the order of the problem.
 fn ascending(
     alloc: Global,
     problem: &Problem,
@@ -32,7 +32,7 @@ fn ascending(
     Ok(found)
 }
 
-/// The groups with their codes in the order of the problem.
+/// Returns the `closed` groups in turn, each with its codes in the order of the problem.
 fn ascending_sets(
     alloc: Global,
     problem: &Problem,
@@ -47,7 +47,7 @@ fn ascending_sets(
     Ok(sets)
 }
 
-/// The people of each set.
+/// Returns the people of each set, in turn.
 fn people_of_sets(alloc: Global, problem: &Problem, sets: &[Codes]) -> Result<Vec<u64>, AllocError>
     requires once { All (λ g. (c : ℕ) → count c g ≤ 1) sets.now }
     ensures { IfOk result (λ v. v.items ≡ map (people_of (problem_of problem.now)) sets.now) }
@@ -59,7 +59,7 @@ fn people_of_sets(alloc: Global, problem: &Problem, sets: &[Codes]) -> Result<Ve
     Ok(people)
 }
 
-/// The groups of the sets, with these seats, in turn.
+/// Returns the groups of these `sets` with these `seats`, in turn.
 fn seated_groups(alloc: Global, sets: &[Codes], seats: &[u16]) -> Result<Vec<Group>, AllocError>
     requires each { length seats.now ≡ length sets.now }
     ensures { IfOk result (λ v. v.items ≡ seated sets.now seats.now) }
@@ -74,8 +74,10 @@ fn seated_groups(alloc: Global, sets: &[Codes], seats: &[u16]) -> Result<Vec<Gro
     Ok(groups)
 }
 
-/// The grouping of closed groups that have each county once, its codes and its groups ascending, and seats by `allot`;
-/// `None` where no numbers of seats that suit the groups add up to the seats left.
+/// Returns the grouping of `closed` groups that have each county once. Its codes and its groups ascend, and its seats
+/// are those of `allot`.
+///
+/// Returns `None` if no numbers of seats that suit the groups add up to the seats left.
 pub(crate) fn seated_grouping(
     alloc: Global,
     problem: &Problem,

@@ -20,7 +20,7 @@ use certificate_data::Allowance;
 use county_codes::Codes;
 use county_problem::Counts;
 
-/// How many of the groups have so many counties.
+/// Counts the groups that have `size` counties.
 fn groups_of_size(groups: &[Codes], size: u16) -> usize
     ensures value { result ≡ counts groups.now size }
     ensures few { result ≤ length groups.now }
@@ -34,7 +34,8 @@ fn groups_of_size(groups: &[Codes], size: u16) -> usize
     count
 }
 
-/// How many counties the groups of at most so many counties have that the target has and that aren't closed.
+/// Returns how many counties the target's groups of at most `size` counties have together, without those that are
+/// closed.
 fn still_wanted(closed: &[Codes], wanted: &Counts, size: u16) -> usize
     requires small { size ≤ most_counties }
     ensures value { (s : State) → closed.now ≡ s.closed → result ≡ counties_wanted s (count_at wanted.now) size }
@@ -48,7 +49,7 @@ fn still_wanted(closed: &[Codes], wanted: &Counts, size: u16) -> usize
     counties
 }
 
-/// How many groups of so many counties a line allows where smaller groups use up so many counties.
+/// Returns how many groups of `size` counties `line` allows, where smaller groups use up `used` counties.
 fn allowance(position: &Position, line: &Allowance, size: u16, used: usize) -> u64
     requires few { length position.now.rest.items ≤ most_counties }
     requires some { 1 ≤ size }
@@ -67,7 +68,7 @@ fn allowance(position: &Position, line: &Allowance, size: u16, used: usize) -> u
     }
 }
 
-/// Whether the last line, for groups of so many counties, gives fewer groups than the target has.
+/// Returns whether the last line, for groups of `size` counties, gives fewer groups than the target has.
 fn gives_fewer(position: &Position, wanted: &Counts, line: &Allowance, size: u16) -> bool
     requires few { length position.now.rest.items ≤ most_counties }
     requires some { 1 ≤ size }
@@ -84,8 +85,8 @@ fn gives_fewer(position: &Position, wanted: &Counts, line: &Allowance, size: u16
     u64::from(wanted.of(size)).saturating_sub(closed) > allowed
 }
 
-/// Whether a valid bound leaf falls short of the target's counts: if it has fewer lines than the limit, or its last
-/// line gives fewer groups than the target has.
+/// Returns whether a valid bound leaf falls short of the target's counts. It does if it has fewer lines than `limit`,
+/// or if its last line gives fewer groups than the target has.
 pub(crate) fn falls_short(
     position: &Position,
     wanted: &Counts,

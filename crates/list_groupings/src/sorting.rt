@@ -11,7 +11,7 @@ use county_codes::{Codes, CountyCode, Group, Grouping};
 use std::alloc::AllocError;
 use std::cmp::Ordering;
 
-/// The order of sets of counties by size, and of sets of one size by their codes.
+/// Compares sets of counties by size, and sets of one size by their codes.
 fn by_size_and_codes(a: &[CountyCode], b: &[CountyCode]) -> Ordering
     ensures { result ≡ set_order a.now b.now }
 {
@@ -21,7 +21,7 @@ fn by_size_and_codes(a: &[CountyCode], b: &[CountyCode]) -> Ordering
     }
 }
 
-/// The order of lists of groups: that of the first sets in which they differ.
+/// Compares lists of groups by the first sets in which they differ.
 fn by_groups(a: &[Group], b: &[Group]) -> Ordering
     ensures { result ≡ slice_cmp set_order (sets_of a.now) (sets_of b.now) }
 {
@@ -37,7 +37,7 @@ fn by_groups(a: &[Group], b: &[Group]) -> Ordering
     a.len().cmp(&b.len())
 }
 
-/// The sets by size, and sets of one size by their codes.
+/// Returns the sets sorted by size, and sets of one size by their codes.
 pub(crate) fn sorted_sets(sets: Vec<Codes>) -> Result<Vec<Codes>, AllocError>
     ensures same { IfOk result (λ v. IsPermutation sets.items v.items) }
     ensures sorted { IfOk result (λ v. IsSortedBy (λ g h. is_lt (set_order g h)) v.items) }
@@ -47,7 +47,7 @@ pub(crate) fn sorted_sets(sets: Vec<Codes>) -> Result<Vec<Codes>, AllocError>
     Ok(sets)
 }
 
-/// The groupings by their lists of groups.
+/// Returns the groupings sorted by their lists of groups.
 pub(crate) fn sorted_groupings(list: Vec<Grouping>) -> Result<Vec<Grouping>, AllocError>
     ensures same { IfOk result (λ v. IsPermutation list.items v.items) }
     ensures sorted { IfOk

@@ -1,4 +1,4 @@
-//! The walk through the tree of a certificate: it finds the groupings at its ends, up to the first gap.
+//! The walk through the tree of a certificate. It finds the groupings at the ends of the tree, up to the first gap.
 
 ghost use Rattle.std.specs.Prelude.{◌≡◌, ℕ, ◌+◌, ◌<◌, ◌^◌, map, length};
 ghost use Rattle.certificate_laws.specs.State.{State};
@@ -18,7 +18,8 @@ use county_codes::Grouping;
 use county_problem::{Counts, Problem};
 use std::alloc::Global;
 
-/// What the walk goes by: the problem, the round of the certificate, and how many groups of each size its target has.
+/// What the walk works from: the problem, the round of the certificate, and how many groups of each size its target
+/// has.
 #[derive(Drop)]
 pub(crate) struct WalkInput<'a> {
     pub(crate) alloc: Global,
@@ -43,7 +44,7 @@ pub(crate) enum WalkStop {
     Memory,
 }
 
-/// The limit of a branch that names this one: its own, or the round's.
+/// Returns the limit of a branch: the one that it names (`named`), or else the round's.
 fn limit_for(round: &Round, named: Option<u16>) -> u16
     ensures { result ≡ limit_of (round_of round.now) named }
 {
@@ -53,7 +54,7 @@ fn limit_for(round: &Round, named: Option<u16>) -> u16
     }
 }
 
-/// Adds the grouping of a bound leaf, if the leaf doesn't fall short.
+/// Appends the grouping of a bound leaf to the list of `found`, if the leaf doesn't fall short.
 fn add_end(
     input: &WalkInput,
     position: &Position,
@@ -104,7 +105,7 @@ fn put_leaf(
 {
     match leaf {
         Leaf::Bound(lines) => add_end(input, position, lines, found),
-        // Each other leaf has one line, and no end of a grouping.
+        // Every other leaf has one line, and no grouping ends there.
         _ => {
             found.line += 1;
             Ok(())
@@ -141,7 +142,7 @@ fn put_takes(
     Ok(())
 }
 
-/// Goes through a tree from a position on.
+/// Goes through `tree` from `position` on.
 #[cycle(walk)]
 pub(crate) fn put_tree(
     input: &WalkInput,

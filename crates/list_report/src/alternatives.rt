@@ -28,7 +28,7 @@ impl Model for Alternatives {
 }
 
 impl Alternatives {
-    /// The alternatives as a slice.
+    /// Returns the alternatives as a slice.
     pub(crate) fn as_slice(&self) -> &[Sets]
         ensures { result.now ≡ self.now }
     {
@@ -45,14 +45,14 @@ pub(crate) struct Region {
     pub(crate) alternatives: Alternatives,
 }
 
-/// Whether all codes stand in the list.
+/// Returns whether `counties` has all of the `codes`.
 fn has_all(counties: &[CountyCode], codes: &[CountyCode]) -> bool
     ensures { result ≡ list_all (contains counties.now) codes.now }
 {
     codes.iter().all(|code| has_code(counties, *code))
 }
 
-/// The sets whose counties all lie in the region.
+/// Returns those of the `sets` whose counties all lie in the region with these `counties`.
 pub(crate) fn inside(
     alloc: Global,
     counties: &[CountyCode],
@@ -69,14 +69,14 @@ pub(crate) fn inside(
     Ok(Sets::new(found))
 }
 
-/// Whether one of the choices has the same sets.
+/// Returns whether one of the `choices` has the same sets as `choice`.
 fn has_choice(choices: &[Sets], choice: &Sets) -> bool
     ensures { result ≡ list_any (λ x. same_sets x choice.now) choices.now }
 {
     choices.iter().any(|other| other.is_same(choice))
 }
 
-/// Adds the choice behind the others, if it isn't among them.
+/// Appends `choice` to `choices`, if it isn't among them.
 fn push_choice(choices: &mut Vec<Sets>, choice: Sets) -> Result<(), AllocError>
     ensures { OnOk result (choices.new.items ≡ add_choice choices.old.items choice) }
 {
@@ -86,7 +86,7 @@ fn push_choice(choices: &mut Vec<Sets>, choice: Sets) -> Result<(), AllocError>
     Ok(())
 }
 
-/// The different choices of the listed groupings in the region.
+/// Returns the different choices of the listed groupings in the region with these `counties`.
 fn choices_in(
     alloc: Global,
     listed: &[Sets],
@@ -101,7 +101,7 @@ fn choices_in(
     Ok(Alternatives { list })
 }
 
-/// The regions with their alternatives.
+/// Returns the regions whose counties are these `parts`, with their alternatives.
 pub(crate) fn regions_with(
     alloc: Global,
     listed: &[Sets],
@@ -119,7 +119,7 @@ pub(crate) fn regions_with(
     Ok(regions)
 }
 
-/// The number, from 1, of the first alternative that has the same sets.
+/// Returns the number, from 1, of the first of the `choices` that has the same sets as `choice`.
 pub(crate) fn alternative_number(choices: &[Sets], choice: &Sets) -> usize
     ensures { result ≡ number_of_alternative choices.now choice.now }
 {
@@ -131,7 +131,7 @@ pub(crate) fn alternative_number(choices: &[Sets], choice: &Sets) -> usize
     choices.len() + 1
 }
 
-/// Whether the numbers of alternatives have the product, which is not 0.
+/// Returns whether the product of the regions' numbers of alternatives is `number`, which is not 0.
 pub(crate) fn has_product(regions: &[Region], number: usize) -> bool
     requires { 1 ≤ number }
     ensures { result ≡ (product regions.now == number) }

@@ -1,5 +1,5 @@
-//! What a list of groupings says: the sets that all groupings share, and in each region of the other counties the
-//! alternatives.
+//! What a list of groupings says: the sets that all groupings share, and the alternatives in each region of the other
+//! counties.
 //!
 //! ```
 //! let text = listing(alloc, &problem, &groupings)?;   // people .., answer all, best groupings 8, ..

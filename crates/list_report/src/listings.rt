@@ -15,7 +15,7 @@ use county_problem::Problem;
 use grouping_report::{push_answer, push_counts, push_head};
 use std::alloc::{AllocError, Global};
 
-/// The regions of the counties that no shared set has, with their alternatives.
+/// Returns the regions of the counties that no shared set has, with their alternatives.
 fn found_regions(
     alloc: Global,
     counties: &[County],
@@ -30,7 +30,7 @@ fn found_regions(
     regions_with(alloc, listed, &parts)
 }
 
-/// Appends what stands behind the counts.
+/// Appends the part of the text that stands behind the counts.
 fn push_body(
     alloc: Global,
     out: &mut Vec<u8>,
@@ -47,18 +47,21 @@ fn push_body(
     push_choices(alloc, out, &regions, listed)
 }
 
-/// The text of a list of groupings, at least one: the problem's people, chamber, seats left and counties, `answer all`,
-/// and the counts of the first grouping. Then it says how many groupings are listed, and the groups that all of them
-/// share. The counties of no shared group fall into regions, which chains of the other groups join; for each, the
-/// different choices of the listed groupings follow. The last line says that each combination of alternatives is
-/// listed, or a line for each grouping says which alternatives it has.
+/// Returns the text of a list of groupings, of which there is at least one.
 ///
-/// The groups of each grouping stand in the same order, so that equal groups have equal lists of codes; that the
+/// The text begins with the problem's people, chamber, seats left and counties, `answer all`, and the counts of the
+/// first grouping. Then it says how many groupings are listed, and gives the groups that all of them share.
+///
+/// The counties of no shared group fall into regions, which chains of the other groups join. For each region, the
+/// different choices of the listed groupings follow. The last line says that each combination of alternatives is
+/// listed, or else a line for each grouping says which alternatives it has.
+///
+/// The groups of each grouping stand in the same order, so that equal groups have equal lists of codes. Whether the
 /// groupings are best, or all that are best, is reported as the caller says it.
 ///
 /// # Errors
 ///
-/// `AllocError` where memory was refused.
+/// Returns `AllocError` if memory was refused.
 pub fn listing(
     alloc: Global,
     problem: &Problem,

@@ -19,14 +19,14 @@ pub(crate) struct Place {
     pub(crate) first: CountyCode,
 }
 
-/// Whether some set has the code.
+/// Returns whether one of the `sets` has the `code`.
 fn is_taken(sets: &[Codes], code: CountyCode) -> bool
     ensures { result ≡ list_any (λ s. contains s code) sets.now }
 {
     sets.iter().any(|set| has_code(set.as_slice(), code))
 }
 
-/// The codes of the counties that no shared set has.
+/// Returns the codes of the counties that no shared set has, in their order.
 fn unshared_codes(
     alloc: Global,
     counties: &[County],
@@ -43,7 +43,7 @@ fn unshared_codes(
     Ok(unshared)
 }
 
-/// Each county as a region of its own.
+/// Returns the places where each county is a region of its own.
 fn lone_places(alloc: Global, unshared: &[CountyCode]) -> Result<Vec<Place>, AllocError>
     ensures { IfOk result (λ v. v.items ≡ places_at (λ c. c) unshared.now) }
 {
@@ -57,7 +57,7 @@ fn lone_places(alloc: Global, unshared: &[CountyCode]) -> Result<Vec<Place>, All
     Ok(places)
 }
 
-/// The first counties of the regions that the set meets.
+/// Returns the first counties of the regions that `set` meets, one for each of the `places` whose county is in the set.
 fn met_by(
     alloc: Global,
     places: &[Place],
@@ -74,7 +74,7 @@ fn met_by(
     Ok(met)
 }
 
-/// The least of the codes and the start.
+/// Returns the least of `start` and the `codes`.
 fn least(start: CountyCode, codes: &[CountyCode]) -> CountyCode
     ensures { result ≡ fold min start codes.now }
 {
@@ -87,7 +87,8 @@ fn least(start: CountyCode, codes: &[CountyCode]) -> CountyCode
     least
 }
 
-/// The first county of a region, once those regions are one that have their first counties in the list.
+/// Returns the first county of a region whose first county was `first`, once the regions with their first counties in
+/// `met` are one region.
 fn first_now(met: &[CountyCode], first: CountyCode) -> CountyCode
     ensures { result ≡ moved met.now first }
 {
@@ -98,7 +99,7 @@ fn first_now(met: &[CountyCode], first: CountyCode) -> CountyCode
     }
 }
 
-/// The places once the set has joined the regions that it meets.
+/// Returns the places once `set` has joined the regions that it meets.
 fn after_join(alloc: Global, places: &[Place], set: &[CountyCode]) -> Result<Vec<Place>, AllocError>
     ensures { IfOk result (λ v. v.items
         ≡ map (λ p. record { county = p.county; first = moved (places_met places.now set.now) p.first }) places.now) }
@@ -114,7 +115,7 @@ fn after_join(alloc: Global, places: &[Place], set: &[CountyCode]) -> Result<Vec
     Ok(joined)
 }
 
-/// The places once all sets have joined regions.
+/// Returns the places once all `sets` have joined regions.
 fn joined_places(
     alloc: Global,
     unshared: &[CountyCode],
@@ -129,7 +130,7 @@ fn joined_places(
     Ok(places)
 }
 
-/// The counties of the region that has this first county.
+/// Returns the counties of the region whose first county is `first`.
 fn region_of(alloc: Global, places: &[Place], first: CountyCode) -> Result<Codes, AllocError>
     ensures { IfOk result (λ v. v ≡ map (λ p. p.county) (filter (λ p. p.first == first) places.now)) }
 {
@@ -142,7 +143,7 @@ fn region_of(alloc: Global, places: &[Place], first: CountyCode) -> Result<Codes
     Ok(Codes::new(counties))
 }
 
-/// The regions of the places, each where its first county stands.
+/// Returns the regions of the `places`, each where its first county stands.
 fn place_regions(alloc: Global, places: &[Place]) -> Result<Vec<Codes>, AllocError>
     ensures { IfOk result (λ v. v.items
         ≡ map (λ q. map (λ p. p.county) (filter (λ p. p.first == q.county) places.now)) (filter (λ q. q.first == q.county) places.now)) }
@@ -156,7 +157,8 @@ fn place_regions(alloc: Global, places: &[Place]) -> Result<Vec<Codes>, AllocErr
     Ok(regions)
 }
 
-/// The regions of the counties that no shared set has, the least county's first; the sets join them.
+/// Returns the regions of the counties that no shared set has. The region of the least county comes first. The `sets`
+/// join the counties.
 pub(crate) fn regions_between(
     alloc: Global,
     counties: &[County],

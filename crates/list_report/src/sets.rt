@@ -24,21 +24,21 @@ impl Model for Sets {
 }
 
 impl Sets {
-    /// The list of these sets. It takes no memory.
+    /// Creates the list of these `sets`. It takes no memory.
     pub(crate) fn new(sets: Vec<Codes>) -> Self
         ensures { result ≡ sets.items }
     {
         Sets { sets }
     }
 
-    /// The sets as a slice.
+    /// Returns the sets as a slice.
     pub(crate) fn as_slice(&self) -> &[Codes]
         ensures { result.now ≡ self.now }
     {
         self.sets.as_slice()
     }
 
-    /// Whether the lists have the same sets in the same order.
+    /// Returns whether both lists have the same sets in the same order.
     pub(crate) fn is_same(&self, other: &Sets) -> bool
         ensures { result ≡ same_sets self.now other.now }
     {
@@ -46,7 +46,7 @@ impl Sets {
     }
 }
 
-/// The sets of the groups.
+/// Returns the sets of the `groups`, in their order.
 fn group_sets(alloc: Global, groups: &[Group]) -> Result<Sets, AllocError>
     ensures { IfOk result (λ v. v ≡ sets_of groups.now) }
 {
@@ -57,7 +57,7 @@ fn group_sets(alloc: Global, groups: &[Group]) -> Result<Sets, AllocError>
     Ok(Sets::new(sets))
 }
 
-/// The sets of each grouping.
+/// Returns the sets of each grouping, in turn.
 pub(crate) fn listed_sets(alloc: Global, groupings: &[Grouping]) -> Result<Vec<Sets>, AllocError>
     ensures { IfOk result (λ v. v.items ≡ map sets_of (map (λ g. g.groups.items) groupings.now)) }
 {

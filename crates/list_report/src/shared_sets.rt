@@ -8,21 +8,21 @@ use crate::sets::Sets;
 use county_codes::Codes;
 use std::alloc::{AllocError, Global};
 
-/// Whether the set stands in the list.
+/// Returns whether `set` is one of the `sets`.
 fn has(sets: &[Codes], set: &Codes) -> bool
     ensures { result ≡ has_set sets.now set.now }
 {
     sets.iter().any(|other| other == set)
 }
 
-/// Whether each listed grouping has the set.
+/// Returns whether each listed grouping has `set`.
 fn all_have(listed: &[Sets], set: &Codes) -> bool
     ensures { result ≡ list_all (λ g. has_set g set.now) listed.now }
 {
     listed.iter().all(|sets| has(sets.as_slice(), set))
 }
 
-/// The sets that each listed grouping has.
+/// Returns those of the `sets` that each listed grouping has, in their order.
 fn kept_by_all(alloc: Global, listed: &[Sets], sets: &[Codes]) -> Result<Vec<Codes>, AllocError>
     ensures { IfOk result (λ v. v.items ≡ filter (λ s. list_all (λ g. has_set g s) listed.now) sets.now) }
 {
@@ -35,7 +35,7 @@ fn kept_by_all(alloc: Global, listed: &[Sets], sets: &[Codes]) -> Result<Vec<Cod
     Ok(shared)
 }
 
-/// The sets of the first listed grouping that all of them have.
+/// Returns the sets of the first listed grouping that all of them have.
 pub(crate) fn shared_by_all(alloc: Global, listed: &[Sets]) -> Result<Vec<Codes>, AllocError>
     ensures { IfOk result (λ v. v.items ≡ shared_sets listed.now) }
 {
@@ -45,7 +45,7 @@ pub(crate) fn shared_by_all(alloc: Global, listed: &[Sets]) -> Result<Vec<Codes>
     }
 }
 
-/// Appends the sets that are not shared.
+/// Appends those of the `sets` that aren't shared.
 fn push_unshared(out: &mut Vec<Codes>, shared: &[Codes], sets: &[Codes]) -> Result<(), AllocError>
     ensures { OnOk result (out.new.items ≡ out.old.items ++ filter (λ s. not (has_set shared.now s)) sets.now) }
 {
@@ -57,7 +57,7 @@ fn push_unshared(out: &mut Vec<Codes>, shared: &[Codes], sets: &[Codes]) -> Resu
     Ok(())
 }
 
-/// The sets of all listed groupings that are not shared, one grouping after the other.
+/// Returns the sets of all listed groupings that aren't shared, one grouping after the other.
 pub(crate) fn not_shared(
     alloc: Global,
     shared: &[Codes],

@@ -16,7 +16,7 @@ use field_lines::push_number;
 use grouping_report::push_words_number;
 use std::alloc::{AllocError, Global};
 
-/// The people of the problem's counties in a set.
+/// Returns the people of the problem's counties in `set`.
 fn people_of(problem: &Problem, set: &[CountyCode]) -> u64
     ensures value { result ≡ people_inside problem.now set.now }
     ensures bound { result ≤ problem.now.total_people }
@@ -31,7 +31,7 @@ fn people_of(problem: &Problem, set: &[CountyCode]) -> u64
     people
 }
 
-/// Appends the number of seats, or the least and the greatest.
+/// Appends the number of seats, or the least and the greatest number, or `none`.
 fn push_seats(out: &mut Vec<u8>, run: Option<(u16, u16)>) -> Result<(), AllocError>
     ensures { OnOk result (out.new.items ≡ out.old.items ++ seats_words run) }
 {
@@ -75,7 +75,7 @@ fn push_lines(out: &mut Vec<u8>, problem: &Problem, sets: &[Codes]) -> Result<()
     Ok(())
 }
 
-/// Appends how many groupings are listed, how many sets they share, and these.
+/// Appends how many groupings are listed, how many sets they share, and the lines of these sets.
 pub(crate) fn push_shared(
     out: &mut Vec<u8>,
     problem: &Problem,

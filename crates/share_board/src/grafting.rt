@@ -11,7 +11,10 @@ use crate::piece::Fate;
 use certificate_data::{Branch, Take, Tree};
 use std::alloc::{AllocError, Global};
 
-/// The takes of a branch above the pieces, and the place behind their pieces; or none where one of these waits.
+/// Returns the takes of `branch`, which stands above the pieces, and the place behind their pieces. Returns `None` if
+/// one of these pieces waits.
+///
+/// The first of their pieces is at the place `at`.
 #[cycle(grafting)]
 fn grafted_takes(
     alloc: Global,
@@ -41,9 +44,10 @@ fn grafted_takes(
     Ok(Some((takes, at)))
 }
 
-/// The tree of branches above pieces, and the place behind these pieces; or none where one of them waits.
+/// Returns the tree of the branches `above` pieces from the place `at` on, and the place behind these pieces. Returns
+/// `None` if one of them waits.
 ///
-/// It goes as deep as takes nest.
+/// The recursion goes as deep as takes nest.
 #[cycle(grafting)]
 pub(crate) fn grafted_tree(
     alloc: Global,

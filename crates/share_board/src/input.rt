@@ -1,15 +1,15 @@
-//! What the opening of a round goes by: the county graph, the round, and the budget of a branch.
+//! What the opening of a round works from: the county graph, the round, and the budget of a branch.
 
 use certificate_data::Round;
 use connected_sets::CountyGraph;
 
-/// What the opening of a round goes by: the county graph, the round, and what each of its branches may cost.
+/// What the opening of a round works from: the county graph, the round, and what each of its branches may cost.
 #[derive(Drop)]
 pub(crate) struct OpeningInput<'g, 'a, 'b, C> {
-    /// The county graph by the round's order.
+    /// The county graph, in the round's order.
     pub(crate) graph: &'g CountyGraph<'a, 'b, C>,
     /// The round.
     pub(crate) round: &'g Round,
-    /// What each of its branches may cost.
+    /// The steps that each branch of the opening may cost.
     pub(crate) share: u64,
 }

@@ -1,10 +1,12 @@
-//! The law of openings: the function does nothing, and its contract is the law.
+//! The law of openings. The function does nothing; its contract is the law.
 
 ghost use Rattle.share_board.specs.Laws.{RoundsOpen};
 
-/// A plain round opens at each of its states to each depth, and any round to depth 0, in one way. So either the opening
-/// has no more pieces than a round may begin with, or each opening has more, and there is one. If a board may begin
-/// with a round, there is a content to begin with.
+/// States that a plain round opens in exactly one way at each of its states, to each depth. Any round opens in exactly
+/// one way to depth 0.
+///
+/// So either the opening has no more pieces than a round may begin with, or every opening has more and there is one. If
+/// a board may begin with a round, there is a content to begin with.
 pub fn rounds_open()
     ensures { RoundsOpen }
 {}

@@ -17,7 +17,7 @@ use certificate_data::Round;
 use place_sets::CountySet;
 use std::alloc::{AllocError, Global};
 
-/// The numbers of the pieces that wait, in the order of the list.
+/// Returns the numbers of the pieces that wait, in the order of the list.
 fn open_numbers(alloc: Global, fates: &[Fate]) -> Result<Vec<u32>, AllocError>
     requires { length fates.now < 4294967296 }
     ensures { IfOk result (λ v. v.items ≡ numbers_of 1 fates.now) }
@@ -32,11 +32,11 @@ fn open_numbers(alloc: Global, fates: &[Fate]) -> Result<Vec<u32>, AllocError>
 }
 
 impl<C: CountySet> Board<C> {
-    /// The numbers of the pieces that wait, ascending.
+    /// Returns the numbers of the pieces that wait, in ascending order.
     ///
     /// # Errors
     ///
-    /// Where memory was refused.
+    /// Returns `AllocError` if memory was refused.
     pub fn open_pieces(&self, alloc: Global) -> Result<Vec<u32>, AllocError>
         requires { (b : Content) × IsOf C.test self.now b }
         ensures { (b : Content) → IsOf C.test self.now b → IfOk result (λ v. AreOpen b.skeleton v.items) }
@@ -44,8 +44,8 @@ impl<C: CountySet> Board<C> {
         open_numbers(alloc, &self.fates)
     }
 
-    /// The round in which the pieces are proved: its order names each county of the problem once, and each piece stands
-    /// at one of its states.
+    /// Returns the round in which the pieces are proved. Its order names each county of the problem once, and each
+    /// piece stands at one of its states.
     pub fn proof_round(&self) -> &Round
         ensures round { (b : Content) → IsOf C.test self.now b → round_of result.now ≡ b.round }
         ensures same_order { result.now.order ≡ self.now.round.order }

@@ -1,4 +1,4 @@
-//! How a round begins: the branches above its pieces, and the states at which these stand.
+//! How a round begins: the branches above its pieces, and the states where the pieces stand.
 
 ghost use Rattle.std.specs.Prelude.{◌≡◌, ◌-◌, ◌≤◌, All, length, IfOk, IfErr};
 ghost use Rattle.county_codes.specs.Limits.{most_counties};
@@ -27,7 +27,8 @@ use state_groups::{State, closed_state, first_state, raise_place};
 use state_judge::Branching;
 use std::alloc::Global;
 
-/// What a round begins with: the branches above its pieces, which all wait, and the states at which the pieces stand.
+/// What a round begins with: the branches above its pieces, the pieces, which all wait, and the states where they
+/// stand.
 #[derive(Drop)]
 pub(crate) struct Opening<C> {
     pub(crate) above: Tree,
@@ -35,7 +36,7 @@ pub(crate) struct Opening<C> {
     pub(crate) states: Vec<State<C>>,
 }
 
-/// The takes of a branch: for each group the tree where it is closed.
+/// Returns the takes of a branch: for each of the `groups`, the tree for the state where it is closed.
 #[cycle(opening)]
 fn open_takes<C: CountySet>(
     input: &OpeningInput<C>,
@@ -70,7 +71,7 @@ fn open_takes<C: CountySet>(
     Ok(takes)
 }
 
-/// The tree of a branch: its takes, and then the tree where its county is raised.
+/// Returns the tree of a branch: its takes, and then the tree for the state where its county is raised.
 #[cycle(opening)]
 fn open_branch<C: CountySet>(
     input: &OpeningInput<C>,
@@ -112,10 +113,10 @@ fn open_branch<C: CountySet>(
     Ok(branched(input, branching.place, takes, raised)?)
 }
 
-/// The tree of so many branchings at the state, or of fewer where no county is open any more; its pieces stand behind
-/// the others.
+/// Returns the tree of `depth` branchings at `state`, or of fewer where no county is open any more. The pieces of the
+/// tree stand behind the others.
 ///
-/// It goes as deep as twice the branchings.
+/// The recursion goes as deep as twice the branchings.
 #[cycle(opening)]
 fn open_tree<C: CountySet>(
     input: &OpeningInput<C>,
@@ -146,13 +147,13 @@ fn open_tree<C: CountySet>(
     }
 }
 
-/// How the round begins: with the states after so many branchings from the empty one, or earlier where no county is
-/// open.
+/// Returns how `round` begins: with the states after `depth` branchings from the empty state, or earlier where no
+/// county is open.
 ///
 /// # Errors
 ///
-/// `TooManyPieces` where there would be more than 4,096, `Budget` where a branch costs more than its share of the
-/// budget, `Memory` where memory was refused.
+/// Returns `TooManyPieces` if there would be more than 4,096 pieces, `Budget` if a branch costs more than its share of
+/// `budget`, and `Memory` if memory was refused.
 pub(crate) fn opened<C: CountySet>(
     alloc: Global,
     ordered: &Ordered,

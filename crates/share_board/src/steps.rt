@@ -1,4 +1,4 @@
-//! The steps of an opening: its share of the budget, a piece, the branch at a state, and what is put together of them.
+//! The parts of an opening: the share of the budget, a piece, the branch at a state, and the tree built from them.
 
 ghost use Rattle.std.specs.Prelude.{◌≡◌, ℕ, ◌*◌, ◌+◌, ◌++◌, ◌∷◌, [], ◌<◌, ◌≤◌, ◌⊎◌, None, length, IfOk, IfErr, OnOk};
 ghost use Rattle.std.specs.Prelude.{IsErrOf, MatchOption};
@@ -25,8 +25,8 @@ use state_groups::{State, open_places};
 use state_judge::{Branching, LineStop, judge_branch};
 use std::alloc::{AllocError, Global};
 
-/// Returns what each branch of an opening may cost, so that all of them together don't cost more than one event may:
-/// the greatest number of steps that is right.
+/// Returns how many steps each branch of an opening of `depth` branchings may cost. It is the greatest number with
+/// which all the branches together cost at most `budget`, the steps that one event may cost.
 pub(crate) fn share_of(budget: u64, depth: u8) -> u64
     ensures greatest { (k : ℕ) → 1 ≤ depth → result < k → budget < k * (depth * (most_opening + 1)) }
     ensures within { result * (depth * (most_opening + 1)) ≤ budget }
@@ -34,7 +34,7 @@ pub(crate) fn share_of(budget: u64, depth: u8) -> u64
     budget / (u64::from(depth).max(1) * 4_097)
 }
 
-/// No branch: the place of one piece.
+/// Returns a tree without branches, which is the place of one piece.
 fn one_place(alloc: Global) -> Tree
     ensures { tree_of result ≡ leaf seats }
 {
@@ -44,7 +44,7 @@ fn one_place(alloc: Global) -> Tree
     }
 }
 
-/// Puts a state behind others.
+/// Appends `state` to `states`.
 fn keep_state<C: CountySet>(state: State<C>, states: &mut Vec<State<C>>) -> Result<(), AllocError>
     ensures { OnOk result (states.new.items ≡ states.old.items ++ state ∷ []) }
 {
@@ -52,7 +52,7 @@ fn keep_state<C: CountySet>(state: State<C>, states: &mut Vec<State<C>>) -> Resu
     Ok(())
 }
 
-/// A piece stands at the state, behind the others.
+/// Puts a piece at `state`, behind the others, and returns the tree that is its place.
 pub(crate) fn place_piece<C: CountySet>(
     input: &OpeningInput<C>,
     depth: u8,
@@ -78,13 +78,13 @@ pub(crate) fn place_piece<C: CountySet>(
     Ok(one_place(input.graph.alloc))
 }
 
-/// The branch of a plain round at the state, or none where no county is open.
+/// Returns the branch of a plain round at `state`, or `None` if no county is open.
 ///
-/// At the first county that is open no branch is at fault.
+/// The branch stands at the first open county, where no branch is at fault.
 ///
 /// # Errors
 ///
-/// `StepLimit` where its share is below what it costs, `Memory` where memory was refused.
+/// Returns `StepLimit` if the share of the branch is below what it costs, and `Memory` if memory was refused.
 pub(crate) fn next_branch<C: CountySet>(
     input: &OpeningInput<C>,
     state: &State<C>,
@@ -119,7 +119,7 @@ pub(crate) fn next_branch<C: CountySet>(
     }
 }
 
-/// Puts the take of a group behind others.
+/// Appends the take of `group`, with its `tree`, to `takes`.
 pub(crate) fn put_take<C: CountySet>(
     input: &OpeningInput<C>,
     group: &C,
@@ -136,7 +136,8 @@ pub(crate) fn put_take<C: CountySet>(
     Ok(())
 }
 
-/// The branch at the county at the place, in front of the tree where that is raised.
+/// Returns the branch with these `takes` at the county at `place`, in front of `raised`, the tree for the state where
+/// that county is raised.
 pub(crate) fn branched<C: CountySet>(
     input: &OpeningInput<C>,
     place: u16,
