@@ -23,8 +23,8 @@ use state_groups::State;
 use state_judge::{closed_of_size, room_left};
 use std::alloc::{AllocError, Global};
 
-/// How many groups of a size, in counties, the count line for it allows, where smaller groups use up so many counties,
-/// at most 256, and these are the groups of the size that fit.
+/// Returns how many groups of a `size`, in counties, the count line for that size allows. Smaller groups use up `used`
+/// counties, at most 256. The `groups` are those of the size that fit.
 fn count_allowance<C: CountySet>(
     alloc: Global,
     ordered: &Ordered,
@@ -55,8 +55,8 @@ fn count_allowance<C: CountySet>(
     Ok((room / u32::from(size)).min(counted.size() / u32::from(size)))
 }
 
-/// How many count lines make a bound leaf that is valid, where the target is this one and these are the groups of the
-/// sizes from 1 on that fit; `None` where no more lines than lists do.
+/// Returns how many count lines make a valid bound leaf for this `target`. Returns `None` if no number of them up to
+/// that of the `lists` does. The `lists` are those of the groups of the sizes from 1 on that fit.
 fn lines_to_bound<C: CountySet>(
     alloc: Global,
     ordered: &Ordered,
@@ -117,8 +117,8 @@ fn lines_to_bound<C: CountySet>(
     Ok(Some(size))
 }
 
-/// The lines of a bound leaf of count lines that is valid, `None` where no such leaf of at most as many lines as
-/// there are lists is. The lists are those of the groups of the sizes from 1 on that fit.
+/// Returns the lines of a valid bound leaf of count lines. Returns `None` if no bound leaf of at most as many count
+/// lines as there are `lists` is valid. The `lists` are those of the groups of the sizes from 1 on that fit.
 pub(crate) fn bounding_lines<C: CountySet>(
     alloc: Global,
     ordered: &Ordered,

@@ -19,13 +19,14 @@ use state_groups::State;
 use state_judge::judge_seats;
 use std::alloc::AllocError;
 
-/// A leaf that is valid at the state: a stuck one, where there is one, else the seats leaf, where it is valid, else a
-/// bound leaf of count lines. `None` where no stuck leaf, no seats leaf and no bound leaf of at most as many count
-/// lines as there are lists is valid.
+/// Returns a leaf that is valid at the `state`: a stuck leaf if there is one, else the seats leaf if it is valid, else
+/// a bound leaf of count lines. Returns `None` if no stuck leaf is valid, nor the seats leaf, nor a bound leaf of at
+/// most as many count lines as there are `lists`.
 ///
-/// The lists are those of the groups of 1 county, of 2 and so on that fit the state. A count line is for a size: its
-/// quota is the size, and its weights are 1 for each county of a group of the size that fits. An error comes where
-/// memory was refused.
+/// The `lists` are those of the groups of 1 county, of 2 and so on that fit the state. A count line is for one size.
+/// Its quota is the size, and its weights are 1 for each county of a group of that size that fits.
+///
+/// Returns an error if memory was refused.
 pub fn find_leaf<C: CountySet>(
     graph: &CountyGraph<C>,
     round: &Round,

@@ -1,4 +1,4 @@
-//! Count lines: the quota is the size of a group, and each county of a group that fits has weight 1.
+//! Count lines. The quota of one is the size of a group, and each county of a group that fits has weight 1.
 
 ghost use Rattle.std.specs.Prelude.{◌≡◌, ℕ, ◌≤◌, map, length, IfOk};
 ghost use Rattle.std.specs.Vec.{vec_items};
@@ -16,7 +16,7 @@ use county_problem::Ordered;
 use place_sets::CountySet;
 use std::alloc::{AllocError, Global};
 
-/// The places of all groups.
+/// Returns the set of the places of all `groups`.
 pub(crate) fn places_in<C: CountySet>(alloc: Global, groups: &[C]) -> Result<C, AllocError>
     ensures { IfOk result (λ s. (x : ℕ) → C.test s x ≡ list_any (λ g. C.test g x) groups.now) }
 {
@@ -27,7 +27,7 @@ pub(crate) fn places_in<C: CountySet>(alloc: Global, groups: &[C]) -> Result<C, 
     Ok(places)
 }
 
-/// Whether the set has the place of the county with the code.
+/// Returns whether the `set` has the place of the county with this `code`. A code that the order lacks has no place.
 fn is_among<C: CountySet>(ordered: &Ordered, set: &C, code: CountyCode) -> bool
     requires { length ordered.now.order ≤ C.PLACES }
     ensures { result ≡ has_county ordered.now.order C.test set.now code }
@@ -39,8 +39,8 @@ fn is_among<C: CountySet>(ordered: &Ordered, set: &C, code: CountyCode) -> bool
     }
 }
 
-/// The count line for a size, in counties, of which these are the groups that fit: the quota is the size, and each
-/// county of a group has weight 1.
+/// Builds the count line for a `size`, in counties, from the `groups` of that size that fit. Its quota is the size, and
+/// each county of a group has weight 1.
 fn count_line<C: CountySet>(
     alloc: Global,
     ordered: &Ordered,
@@ -73,7 +73,8 @@ fn count_line<C: CountySet>(
     })
 }
 
-/// The count lines for the sizes from 1 on, of which these are the lists of the groups that fit.
+/// Builds the count lines for the sizes from 1 on. The `lists` are those of the groups of these sizes that fit, and
+/// each gives one line.
 pub(crate) fn count_lines<C: CountySet>(
     alloc: Global,
     ordered: &Ordered,

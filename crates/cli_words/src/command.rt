@@ -174,7 +174,7 @@ Exit status:
   4  a file, the problem or the board was refused, or no piece waits under the number
   5  a file could not be read or stored, memory was refused, or the answer could not be written";
 
-/// An option `--name VALUE`.
+/// Creates an option `--name VALUE`, where VALUE is `value_name`.
 fn text_option<'a>(alloc: Global, name: &'a str, value_name: &'a str, help: &'a str) -> Arg<'a>
     ensures rule { rule_of result ≡ text_option name.entry.now }
     ensures local { result.global ≡ false }
@@ -186,7 +186,7 @@ fn text_option<'a>(alloc: Global, name: &'a str, value_name: &'a str, help: &'a 
         .help(help)
 }
 
-/// A required option `--name FILE`.
+/// Creates a required option `--name FILE`.
 fn file_option<'a>(alloc: Global, name: &'a str, help: &'a str) -> Arg<'a>
     ensures rule { rule_of result ≡ required (text_option name.entry.now) }
     ensures local { result.global ≡ false }
@@ -194,7 +194,7 @@ fn file_option<'a>(alloc: Global, name: &'a str, help: &'a str) -> Arg<'a>
     text_option(alloc, name, "FILE", help).required(true)
 }
 
-/// `--chamber SEATS`, from 1 to 1000.
+/// Creates the required option `--chamber SEATS`, from 1 to 1000.
 fn chamber_option<'a>(alloc: Global) -> Arg<'a>
     ensures rule { rule_of result ≡ of_number 1 1000 (required (text_option (codes "chamber"))) }
     ensures local { result.global ≡ false }
@@ -204,7 +204,7 @@ fn chamber_option<'a>(alloc: Global) -> Arg<'a>
         .value_parser(value_parser!(u16).range(1..=1000))
 }
 
-/// `--state CODE`, from 0 to 99, by default North Carolina's 37.
+/// Creates the option `--state CODE`, from 0 to 99. The default is North Carolina's 37.
 fn state_option<'a>(alloc: Global) -> Arg<'a>
     ensures rule { rule_of result ≡ with_default (codes "37") (of_number 0 99 (text_option (codes "state"))) }
     ensures local { result.global ≡ false }
@@ -214,7 +214,7 @@ fn state_option<'a>(alloc: Global) -> Arg<'a>
         .default_value("37")
 }
 
-/// `--part PART`, the part of the allowance: from 0 to 500, by default 1.
+/// Creates the option `--part PART`, the part of the allowance, from 0 to 500. The default is 1.
 fn part_option<'a>(alloc: Global) -> Arg<'a>
     ensures rule { rule_of result ≡ with_default (codes "1") (of_number 0 500 (text_option (codes "part"))) }
     ensures local { result.global ≡ false }
@@ -226,7 +226,7 @@ fn part_option<'a>(alloc: Global) -> Arg<'a>
         .default_value("1")
 }
 
-/// `--of OF`, the whole of the allowance: from 1 to 1000, by default 20.
+/// Creates the option `--of OF`, the whole of the allowance, from 1 to 1000. The default is 20.
 fn whole_option<'a>(alloc: Global) -> Arg<'a>
     ensures rule { rule_of result ≡ with_default (codes "20") (of_number 1 1000 (text_option (codes "of"))) }
     ensures local { result.global ≡ false }
@@ -238,7 +238,7 @@ fn whole_option<'a>(alloc: Global) -> Arg<'a>
         .default_value("20")
 }
 
-/// An option `--name STEPS`, from 0 to 18,446,744,073,709,551,615, by default 10,000,000.
+/// Creates an option `--name STEPS`, from 0 to 18,446,744,073,709,551,615. The default is 10,000,000.
 fn steps_option<'a>(alloc: Global, name: &'a str, help: &'a str) -> Arg<'a>
     ensures rule { rule_of result ≡ of_steps (text_option name.entry.now) }
     ensures local { result.global ≡ false }
@@ -248,7 +248,7 @@ fn steps_option<'a>(alloc: Global, name: &'a str, help: &'a str) -> Arg<'a>
         .default_value("10000000")
 }
 
-/// A command that was made, with one more option.
+/// Returns the command that was `made`, with one more `option`. If none was made, that error is returned.
 fn with_option<'a>(
     made: Result<Command<'a>, AllocError>,
     option: Arg<'a>,
@@ -259,7 +259,7 @@ fn with_option<'a>(
     command.arg(option)
 }
 
-/// `--record FILE`.
+/// Creates the option `--record FILE`.
 fn record_option<'a>(alloc: Global) -> Arg<'a>
     ensures rule { rule_of result ≡ text_option (codes "record") }
     ensures local { result.global ≡ false }
@@ -269,7 +269,7 @@ fn record_option<'a>(alloc: Global) -> Arg<'a>
     text_option(alloc, "record", "FILE", help)
 }
 
-/// `--table FILE`.
+/// Creates the option `--table FILE`.
 fn table_option<'a>(alloc: Global) -> Arg<'a>
     ensures rule { rule_of result ≡ text_option (codes "table") }
     ensures local { result.global ≡ false }
@@ -278,7 +278,7 @@ fn table_option<'a>(alloc: Global) -> Arg<'a>
     text_option(alloc, "table", "FILE", help)
 }
 
-/// The command with the options that each subcommand has.
+/// Returns the `command` with the options that each subcommand has.
 fn with_common_options<'a>(alloc: Global, command: Command<'a>) -> Result<Command<'a>, AllocError>
     ensures { IfOk result (HasMore command.entry common_options) }
 {
@@ -293,7 +293,7 @@ fn with_common_options<'a>(alloc: Global, command: Command<'a>) -> Result<Comman
     with_option(made, record_option(alloc))
 }
 
-/// The command with the options that give a problem.
+/// Returns the `command` with the options that give a problem.
 fn with_problem_options<'a>(alloc: Global, command: Command<'a>) -> Result<Command<'a>, AllocError>
     ensures { IfOk result (HasMore command.entry problem_options) }
 {
@@ -306,7 +306,7 @@ fn with_problem_options<'a>(alloc: Global, command: Command<'a>) -> Result<Comma
     with_option(made, withdrawn)
 }
 
-/// The subcommand `size`.
+/// Builds the subcommand `size`.
 fn size_command<'a>(alloc: Global) -> Result<Command<'a>, AllocError>
     ensures { IfOk result (λ c. HasShape c (subcommand (codes "size") common_options)) }
 {
@@ -316,7 +316,7 @@ fn size_command<'a>(alloc: Global) -> Result<Command<'a>, AllocError>
     with_common_options(alloc, size)
 }
 
-/// The subcommand `judge`.
+/// Builds the subcommand `judge`.
 fn judge_command<'a>(alloc: Global) -> Result<Command<'a>, AllocError>
     ensures { IfOk result (λ c. HasShape c (subcommand (codes "judge") judge_options)) }
 {
@@ -342,7 +342,7 @@ fn judge_command<'a>(alloc: Global) -> Result<Command<'a>, AllocError>
     with_option(made, table_option(alloc))
 }
 
-/// The subcommand `solve`.
+/// Builds the subcommand `solve`.
 fn solve_command<'a>(alloc: Global) -> Result<Command<'a>, AllocError>
     ensures { IfOk result (λ c. HasShape c (subcommand (codes "solve") solve_options)) }
 {
@@ -364,7 +364,8 @@ fn solve_command<'a>(alloc: Global) -> Result<Command<'a>, AllocError>
     with_option(made, table_option(alloc))
 }
 
-/// The command with the options that give a certificate: those that give a problem, the certificate and the budget.
+/// Returns the `command` with the options that give a certificate: those that give a problem, the certificate and the
+/// budget.
 fn with_certificate_options<'a>(
     alloc: Global,
     command: Command<'a>,
@@ -378,7 +379,7 @@ fn with_certificate_options<'a>(
     with_option(made, budget)
 }
 
-/// The subcommand `check`.
+/// Builds the subcommand `check`.
 fn check_command<'a>(alloc: Global) -> Result<Command<'a>, AllocError>
     ensures { IfOk result (λ c. HasShape c (subcommand (codes "check") check_options)) }
 {
@@ -389,7 +390,7 @@ fn check_command<'a>(alloc: Global) -> Result<Command<'a>, AllocError>
     with_option(made, table_option(alloc))
 }
 
-/// An option `--name NUMBER`, from 0 to 4,294,967,295.
+/// Creates an option `--name NUMBER`, from 0 to 4,294,967,295.
 fn number_option<'a>(alloc: Global, name: &'a str, help: &'a str) -> Arg<'a>
     ensures rule { rule_of result ≡ of_number 0 4294967295 (text_option name.entry.now) }
     ensures local { result.global ≡ false }
@@ -397,7 +398,7 @@ fn number_option<'a>(alloc: Global, name: &'a str, help: &'a str) -> Arg<'a>
     text_option(alloc, name, "NUMBER", help).value_parser(value_parser!(u32).range(0..=4294967295))
 }
 
-/// The subcommand `list`.
+/// Builds the subcommand `list`.
 fn list_command<'a>(alloc: Global) -> Result<Command<'a>, AllocError>
     ensures { IfOk result (λ c. HasShape c (subcommand (codes "list") list_options)) }
 {
@@ -434,7 +435,7 @@ fn list_command<'a>(alloc: Global) -> Result<Command<'a>, AllocError>
     with_option(made, groupings)
 }
 
-/// The subcommand `audit`.
+/// Builds the subcommand `audit`.
 fn audit_command<'a>(alloc: Global) -> Result<Command<'a>, AllocError>
     ensures { IfOk result (λ c. HasShape c (subcommand (codes "audit") audit_options)) }
 {
@@ -457,7 +458,7 @@ fn audit_command<'a>(alloc: Global) -> Result<Command<'a>, AllocError>
     with_option(made, districts)
 }
 
-/// `--limit COUNTIES`, from 0 to 65,535.
+/// Creates the option `--limit COUNTIES`, from 0 to 65,535.
 fn limit_option<'a>(alloc: Global) -> Arg<'a>
     ensures rule { rule_of result ≡ of_number 0 65535 (text_option (codes "limit")) }
     ensures local { result.global ≡ false }
@@ -466,7 +467,7 @@ fn limit_option<'a>(alloc: Global) -> Arg<'a>
     text_option(alloc, "limit", "COUNTIES", help).value_parser(value_parser!(u16).range(0..=65535))
 }
 
-/// `--depth BRANCHINGS`, from 0 to 255.
+/// Creates the option `--depth BRANCHINGS`, from 0 to 255.
 fn depth_option<'a>(alloc: Global) -> Arg<'a>
     ensures rule { rule_of result ≡ of_number 0 255 (text_option (codes "depth")) }
     ensures local { result.global ≡ false }
@@ -475,7 +476,7 @@ fn depth_option<'a>(alloc: Global) -> Arg<'a>
     text_option(alloc, "depth", "BRANCHINGS", help).value_parser(value_parser!(u8).range(0..=255))
 }
 
-/// The command with the options that give a board.
+/// Returns the `command` with the options that give a board.
 fn with_board_options<'a>(alloc: Global, command: Command<'a>) -> Result<Command<'a>, AllocError>
     ensures { IfOk result (HasMore command.entry board_options) }
 {
@@ -486,7 +487,7 @@ fn with_board_options<'a>(alloc: Global, command: Command<'a>) -> Result<Command
     with_option(made, depth_option(alloc))
 }
 
-/// The subcommand `share`.
+/// Builds the subcommand `share`.
 fn share_command<'a>(alloc: Global) -> Result<Command<'a>, AllocError>
     ensures { IfOk result (λ c. HasShape c (subcommand (codes "share") share_options)) }
 {
@@ -507,7 +508,7 @@ fn share_command<'a>(alloc: Global) -> Result<Command<'a>, AllocError>
     with_option(made, certificate)
 }
 
-/// A required option `--name NUMBER`, from 0 to 4,294,967,295.
+/// Creates a required option `--name NUMBER`, from 0 to 4,294,967,295.
 fn required_number_option<'a>(alloc: Global, name: &'a str, help: &'a str) -> Arg<'a>
     ensures rule { rule_of result ≡ of_number 0 4294967295 (required (text_option name.entry.now)) }
     ensures local { result.global ≡ false }
@@ -515,7 +516,7 @@ fn required_number_option<'a>(alloc: Global, name: &'a str, help: &'a str) -> Ar
     number_option(alloc, name, help).required(true)
 }
 
-/// The subcommand `piece`.
+/// Builds the subcommand `piece`.
 fn piece_command<'a>(alloc: Global) -> Result<Command<'a>, AllocError>
     ensures { IfOk result (λ c. HasShape c (subcommand (codes "piece") piece_options)) }
 {
@@ -538,7 +539,7 @@ fn piece_command<'a>(alloc: Global) -> Result<Command<'a>, AllocError>
     with_option(made, steps)
 }
 
-/// The command of the program without its subcommands.
+/// Builds the command of the program without its subcommands.
 fn program_alone<'a>(alloc: Global) -> Result<Command<'a>, AllocError>
     ensures { IfOk result (λ c. app_of c ≡ countygroups_alone) }
 {
@@ -552,7 +553,7 @@ fn program_alone<'a>(alloc: Global) -> Result<Command<'a>, AllocError>
         .bin_name("countygroups")
 }
 
-/// A program that was made, with one more subcommand that was made.
+/// Returns the `program` with one more subcommand, the `command`. If either of them wasn't made, its error is returned.
 fn with_command<'a>(
     program: Result<Command<'a>, AllocError>,
     command: Result<Command<'a>, AllocError>,
@@ -563,7 +564,7 @@ fn with_command<'a>(
     program?.subcommand(command)
 }
 
-/// The command of the whole program.
+/// Builds the command of the whole program.
 pub(crate) fn program<'a>(alloc: Global) -> Result<Command<'a>, AllocError>
     ensures { IfOk result (λ c. app_of c ≡ countygroups) }
 {

@@ -8,7 +8,7 @@ use clap::error::ErrorKind;
 use std::alloc::Global;
 use thiserror::Error;
 
-/// Why the words gave no command. The texts are `clap`'s.
+/// Why the words gave no command. The texts are `clap`'s, except for `Memory` and for options that don't go together.
 #[derive(Debug, Drop, Error)]
 pub enum WordsEnd {
     /// Help was asked for, and this is its text; the program exits with 0.
@@ -25,7 +25,7 @@ pub enum WordsEnd {
     Memory,
 }
 
-/// What is wrong with options that clap takes one by one.
+/// A fault of options that `clap` accepts one by one, but that don't go together.
 #[derive(Clone, Copy, Debug)]
 pub(crate) enum OptionsFault {
     /// One of `--number` and `--out` of `list` is given without the other.
@@ -58,7 +58,7 @@ For more information, try '--help'.
 ";
 
 impl WordsEnd {
-    /// Returns usage, with what is wrong with the options. The end is `Memory` if a growth was refused.
+    /// Returns `Usage` with the text of this `fault` of the options, or `Memory` if memory was refused.
     pub(crate) fn of_options(alloc: Global, fault: OptionsFault) -> WordsEnd
         ensures { (result ≡ Memory) ⊎ IsUsage result }
     {
@@ -73,7 +73,7 @@ impl WordsEnd {
         }
     }
 
-    /// The exit status of the program: 0 for help and the version, 2 for usage and 5 for memory.
+    /// Returns the exit status of the program: 0 for help and the version, 2 for usage and 5 for memory.
     pub fn status(&self) -> u8
         ensures value { result ≡ status_of self.now }
         ensures success { (result ≡ 0) ↔ IsHelpOrVersion self.now }
@@ -86,7 +86,8 @@ impl WordsEnd {
         }
     }
 
-    /// The end of a parse that gave this error.
+    /// Returns the end of a parse that gave this `error`. Any error ends in `Memory` if memory was refused for its
+    /// text.
     pub(crate) fn of_error(alloc: Global, error: &clap::Error) -> WordsEnd
         ensures { EndsAs (kind_of error.now) result }
     {

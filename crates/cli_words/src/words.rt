@@ -36,7 +36,7 @@ pub enum CommandWords<'a> {
     Audit(AuditWords<'a>),
     /// The list of all best groupings.
     List(ListWords<'a>),
-    /// The test of what several desks proved, joined to one certificate.
+    /// The test of what several solvers proved, joined to one certificate.
     Share(ShareWords<'a>),
     /// The proof of one piece of a board.
     Piece(PieceWords<'a>),
@@ -160,14 +160,14 @@ pub struct ListWords<'a> {
     pub groupings: Option<&'a str>,
 }
 
-/// How the rounds of a board are.
+/// The kind of a board's rounds, and what its options say of them.
 #[derive(Clone, Copy, Debug)]
 pub enum RoundWords {
     /// Plain rounds.
     Plain {
         /// The limit of the first round, in counties.
         limit: u16,
-        /// How many branchings stand above the pieces, at most.
+        /// The most branchings above a piece.
         depth: u8,
     },
     /// Wide rounds.
@@ -184,7 +184,7 @@ pub struct BoardWords<'a> {
     pub problem: ProblemWords<'a>,
     /// The name of the file of the grouping that is the board's target.
     pub grouping: &'a str,
-    /// How its rounds are.
+    /// The kind of the board's rounds.
     pub round: RoundWords,
 }
 
@@ -216,7 +216,7 @@ pub struct PieceWords<'a> {
     pub steps: u64,
 }
 
-/// The allowance that the values of the options say.
+/// Reads the allowance from the values of the options.
 fn window_words<'a>(found: &ArgMatches<'a>) -> Window
     requires { HasValues common_options (rows_of (found_of found.now)) }
     ensures { SaysWindow (rows_of (found_of found.now)) result }
@@ -227,7 +227,7 @@ fn window_words<'a>(found: &ArgMatches<'a>) -> Window
     }
 }
 
-/// What the values of the options say that each subcommand has.
+/// Reads the values of the options that each subcommand has.
 fn common_words<'a>(found: &ArgMatches<'a>) -> CommonWords<'a>
     requires { HasValues common_options (rows_of (found_of found.now)) }
     ensures { SaysCommon (rows_of (found_of found.now)) result }
@@ -242,7 +242,7 @@ fn common_words<'a>(found: &ArgMatches<'a>) -> CommonWords<'a>
     }
 }
 
-/// What the values of the options say that give a problem.
+/// Reads the values of the options that give a problem.
 fn problem_words<'a>(found: &ArgMatches<'a>) -> ProblemWords<'a>
     requires { HasValues problem_options (rows_of (found_of found.now)) }
     ensures { SaysProblem (rows_of (found_of found.now)) result }
@@ -255,7 +255,7 @@ fn problem_words<'a>(found: &ArgMatches<'a>) -> ProblemWords<'a>
     }
 }
 
-/// The problem that the values of the options say, and the name of the file of the grouping.
+/// Reads the values of the options that give a problem, and the name of the file of the grouping.
 fn grouping_words<'a>(found: &ArgMatches<'a>) -> (ProblemWords<'a>, &'a str)
     requires { HasValues grouping_options (rows_of (found_of found.now)) }
     ensures problem { SaysProblem (rows_of (found_of found.now)) result.0 }
@@ -265,7 +265,7 @@ fn grouping_words<'a>(found: &ArgMatches<'a>) -> (ProblemWords<'a>, &'a str)
     (problem, found.get_str("grouping").unwrap())
 }
 
-/// What the values of the options of `judge` say.
+/// Reads the values of the options of `judge`.
 fn judge_words<'a>(found: &ArgMatches<'a>) -> JudgeWords<'a>
     requires { HasValues judge_options (rows_of (found_of found.now)) }
     ensures { SaysJudge (rows_of (found_of found.now)) result }
@@ -281,7 +281,7 @@ fn judge_words<'a>(found: &ArgMatches<'a>) -> JudgeWords<'a>
     }
 }
 
-/// What the values of the options of `solve` say.
+/// Reads the values of the options of `solve`.
 fn solve_words<'a>(found: &ArgMatches<'a>) -> SolveWords<'a>
     requires { HasValues solve_options (rows_of (found_of found.now)) }
     ensures { SaysSolve (rows_of (found_of found.now)) result }
@@ -295,7 +295,7 @@ fn solve_words<'a>(found: &ArgMatches<'a>) -> SolveWords<'a>
     }
 }
 
-/// What the values of the options say that give a certificate.
+/// Reads the values of the options that give a certificate.
 fn certificate_words<'a>(found: &ArgMatches<'a>) -> CertificateWords<'a>
     requires { HasValues certificate_options (rows_of (found_of found.now)) }
     ensures { SaysCertificate (rows_of (found_of found.now)) result }
@@ -307,7 +307,7 @@ fn certificate_words<'a>(found: &ArgMatches<'a>) -> CertificateWords<'a>
     }
 }
 
-/// What the values of the options of `check` say.
+/// Reads the values of the options of `check`.
 fn check_words<'a>(found: &ArgMatches<'a>) -> CheckWords<'a>
     requires { HasValues check_options (rows_of (found_of found.now)) }
     ensures { SaysCheck (rows_of (found_of found.now)) result }
@@ -318,7 +318,7 @@ fn check_words<'a>(found: &ArgMatches<'a>) -> CheckWords<'a>
     }
 }
 
-/// What the values of the options of `audit` say.
+/// Reads the values of the options of `audit`.
 fn audit_words<'a>(found: &ArgMatches<'a>) -> AuditWords<'a>
     requires { HasValues audit_options (rows_of (found_of found.now)) }
     ensures { SaysAudit (rows_of (found_of found.now)) result }
@@ -331,7 +331,8 @@ fn audit_words<'a>(found: &ArgMatches<'a>) -> AuditWords<'a>
     }
 }
 
-/// Which listed grouping is stored and where, by the values of the options of `list`.
+/// Reads which listed grouping is stored, and where, from the values of the options of `list`. Returns the fault
+/// `NumberOrOut` if one of `--number` and `--out` is given without the other.
 fn stored_words<'a>(found: &ArgMatches<'a>) -> Result<Option<StoredWords<'a>>, OptionsFault>
     requires { HasValues list_options (rows_of (found_of found.now)) }
     ensures { MatchResult
@@ -353,7 +354,9 @@ fn stored_words<'a>(found: &ArgMatches<'a>) -> Result<Option<StoredWords<'a>>, O
     }
 }
 
-/// Returns what the values of the options of `list` say: which listed grouping is stored, or whose number is asked for.
+/// Returns the words of `list`. `stored` tells which listed grouping is stored, and `which` names the file of a
+/// grouping whose number is asked for. At least one of these two is `None`. The other words are read from the values of
+/// the options.
 fn list_words_with<'a>(
     found: &ArgMatches<'a>,
     stored: Option<StoredWords<'a>>,
@@ -373,7 +376,8 @@ fn list_words_with<'a>(
     }
 }
 
-/// What the values of the options of `list` say.
+/// Reads the values of the options of `list`. Returns a fault if one of `--number` and `--out` is given without the
+/// other, or `--which` beside both.
 fn list_words<'a>(found: &ArgMatches<'a>) -> Result<ListWords<'a>, OptionsFault>
     requires { HasValues list_options (rows_of (found_of found.now)) }
     ensures { MatchResult
@@ -392,7 +396,8 @@ fn list_words<'a>(found: &ArgMatches<'a>) -> Result<ListWords<'a>, OptionsFault>
     }
 }
 
-/// How the rounds of a board are, by the values of its options.
+/// Reads how the rounds of a board are from the values of its options. Returns the fault `Depth` if `--depth` is given
+/// without `--limit`.
 fn round_words<'a>(found: &ArgMatches<'a>) -> Result<RoundWords, OptionsFault>
     requires { HasValues board_options (rows_of (found_of found.now)) }
     ensures { MatchResult
@@ -411,7 +416,8 @@ fn round_words<'a>(found: &ArgMatches<'a>) -> Result<RoundWords, OptionsFault>
     }
 }
 
-/// What the values of the options say that give a board.
+/// Reads the values of the options that give a board. Returns the fault `Depth` if `--depth` is given without
+/// `--limit`.
 fn board_words<'a>(found: &ArgMatches<'a>) -> Result<BoardWords<'a>, OptionsFault>
     requires { HasValues board_options (rows_of (found_of found.now)) }
     ensures { MatchResult
@@ -428,7 +434,7 @@ fn board_words<'a>(found: &ArgMatches<'a>) -> Result<BoardWords<'a>, OptionsFaul
     })
 }
 
-/// What the values of the options of `share` say.
+/// Reads the values of the options of `share`. Returns the fault `Depth` if `--depth` is given without `--limit`.
 fn share_words<'a>(found: &ArgMatches<'a>) -> Result<ShareWords<'a>, OptionsFault>
     requires { HasValues share_options (rows_of (found_of found.now)) }
     ensures { MatchResult
@@ -446,7 +452,7 @@ fn share_words<'a>(found: &ArgMatches<'a>) -> Result<ShareWords<'a>, OptionsFaul
     })
 }
 
-/// What the values of the options of `piece` say.
+/// Reads the values of the options of `piece`. Returns the fault `Depth` if `--depth` is given without `--limit`.
 fn piece_words<'a>(found: &ArgMatches<'a>) -> Result<PieceWords<'a>, OptionsFault>
     requires { HasValues piece_options (rows_of (found_of found.now)) }
     ensures { MatchResult
@@ -464,7 +470,8 @@ fn piece_words<'a>(found: &ArgMatches<'a>) -> Result<PieceWords<'a>, OptionsFaul
     })
 }
 
-/// What the subcommand of this name says, by the values of its options.
+/// Reads the command of the subcommand called `name` from the values of its options. Returns a fault if they don't go
+/// together.
 fn command_words<'a>(name: &str, found: &ArgMatches<'a>) -> Result<CommandWords<'a>, OptionsFault>
     requires { HasCommand (name.now, rows_of (found_of found.now)) }
     ensures { MatchResult result (SaysCommand (name.now, rows_of (found_of found.now))) (IsOptionsFault (name.now, rows_of (found_of found.now))) }
@@ -482,7 +489,7 @@ fn command_words<'a>(name: &str, found: &ArgMatches<'a>) -> Result<CommandWords<
     }
 }
 
-/// What the subcommand that was found says.
+/// Reads the command of the subcommand that was found. Returns a fault if its options don't go together.
 fn command_in<'a>(matches: &ArgMatches<'a>) -> Result<CommandWords<'a>, OptionsFault>
     requires { IsSomeAnd (subcommand_rows_of matches.now) HasCommand }
     ensures { MatchResult
@@ -496,7 +503,7 @@ fn command_in<'a>(matches: &ArgMatches<'a>) -> Result<CommandWords<'a>, OptionsF
     }
 }
 
-/// What `clap` finds in the words.
+/// Returns what `clap` finds in the `words`.
 fn matches_in<'a>(alloc: Global, words: &'a [&'a str]) -> Result<ArgMatches<'a>, Error>
     ensures found { IfOk result (λ m. subcommand_rows_of m ≡ subcommand_in (texts words.now)) }
     ensures taken { IfErr result (λ e. takes_words (texts words.now) ≡ true → kind_of e ≡ ErrorKind.OutOfMemory) }
@@ -506,20 +513,20 @@ fn matches_in<'a>(alloc: Global, words: &'a [&'a str]) -> Result<ArgMatches<'a>,
     program.try_get_matches_from(words)
 }
 
-/// The command that the words after the program's name say.
+/// Parses the words after the program's name into the command that they say.
 ///
-/// Words that `clap` does not take end in `Help` where they ask for help before anything is wrong,
-/// and else in `Usage`. Words of `list` that give one of `--number` and `--out` without the other, or `--which` beside
-/// both, end in `Usage` too, and words of `share` and `piece` that give `--depth` without `--limit`.
-/// `Memory` may come for any words.
+/// Words that `clap` doesn't take end in `Help` or `Version` if they ask for that before anything is wrong, and else in
+/// `Usage`. Words of `list` end in `Usage` too if they give one of `--number` and `--out` without the other, or
+/// `--which` beside both. So do words of `share` and `piece` that give `--depth` without `--limit`. `Memory` may come
+/// for any words.
 pub fn parse<'a>(alloc: Global, words: &'a [&'a str]) -> Result<CommandWords<'a>, WordsEnd>
     // The command is what the words mean.
     ensures said { IfOk result (Means (texts words.now)) }
 
-    // Words that `clap` takes end in no usage and no help, but for those whose options don't go together.
+    // Words that `clap` takes end neither in usage nor in help, unless their options don't go together.
     ensures taken { IfErr result (λ end. takes_words (texts words.now) ≡ true → EndsTaken (texts words.now) end) }
 
-    // A command comes only of words without a fault, and each end only of its faults, or of options that don't go
+    // Only words without a fault give a command. Each end comes only of its own faults, or of options that don't go
     // together.
     ensures ends { MatchResult result (λ _. faults_of (texts words.now) ≡ []) (EndsFor (texts words.now)) }
 {

@@ -10,15 +10,15 @@ use county_problem::Ordered;
 use place_sets::CountySet;
 use std::alloc::AllocError;
 
-/// The test of seats: the fewest people that suit a seat, and at least as many people as any place has that may join a
-/// set.
+/// The test of seats. `least` is the fewest people that suit a seat. `most` is at least as many people as any place has
+/// that may join a set.
 #[derive(Drop)]
 pub(crate) struct SeatTest {
     pub(crate) least: u64,
     pub(crate) most: u32,
 }
 
-/// Whether the set has too few people for a seat, whatever free places join it.
+/// Returns whether a `set` with these `people` has too few of them for a seat, whatever free places join it.
 fn stays_small<C: CountySet>(input: &GrowthInput<C>, test: &SeatTest, set: &C, people: u64) -> bool
     requires growth { size_in input.now (C.test set.now) ≤ input.now.limit }
     requires below { (x : ℕ) → C.test set.now x ≡ true → x < places_in input.now }
@@ -33,7 +33,7 @@ fn stays_small<C: CountySet>(input: &GrowthInput<C>, test: &SeatTest, set: &C, p
     people + room * most < test.least
 }
 
-/// Whether the people suit some number of seats.
+/// Returns whether these `people` suit some number of seats.
 fn suits(ordered: &Ordered, people: u64) -> bool
     requires { people ≤ ordered.now.problem.total_people }
     ensures { result ≡ is_some (seat_run (problem_at ordered.now) people) }

@@ -7,7 +7,7 @@ use county_problem::Ordered;
 use place_sets::CountySet;
 use std::alloc::{AllocError, Global};
 
-/// The places after one.
+/// Returns the set of the places after `place` that are below `places`.
 pub(crate) fn later_places<C: CountySet>(
     alloc: Global,
     places: u16,
@@ -25,7 +25,7 @@ pub(crate) fn later_places<C: CountySet>(
     Ok(free)
 }
 
-/// The greatest people of a place after the given one; 0 where there is none.
+/// Returns the most people that any place after `place` has, or 0 if there is no such place.
 pub(crate) fn most_after(ordered: &Ordered, place: u16) -> u32
     ensures { HasMost (problem_at ordered.now) (later (length ordered.now.order) place) result }
 {

@@ -1,5 +1,6 @@
-//! The counties of North Carolina 2020: the adjacent pairs, and how many lawful groups of at most four counties Senate
-//! and House have. Each form of sets counts the groups, and the connected sets among which they are found.
+//! The counties of North Carolina 2020: the adjacent pairs, and the numbers of lawful groups of at most four counties
+//! for the Senate and the House. The groups, and the connected sets among which they are found, are counted with each
+//! form of sets.
 
 ghost use Rattle.std.specs.Prelude.{◌≤◌};
 
@@ -18,7 +19,7 @@ use std::fs;
 /// The state's FIPS code.
 const STATE: u8 = 37;
 
-/// The most counties of a group that is counted where no word says it.
+/// The most counties of a group that is counted, if no word says another limit.
 const LIMIT: u16 = 4;
 
 /// The counties of the state, and the pairs of those that are adjacent.
@@ -28,7 +29,8 @@ struct State {
     pairs: Vec<(CountyCode, CountyCode)>,
 }
 
-/// The counties with one person each: in a chamber of as many seats every set of them suits its own number.
+/// Returns the counties with one person each. In a chamber with as many seats as counties, each set of them suits as
+/// many seats as it has counties.
 fn of_one_person(alloc: Global, counties: &[County]) -> Result<Vec<County>, AllocError> {
     let mut alike = Vec::new(alloc);
     for county in counties {
@@ -40,14 +42,14 @@ fn of_one_person(alloc: Global, counties: &[County]) -> Result<Vec<County>, Allo
     Ok(alike)
 }
 
-/// The counties of the files.
+/// Reads the counties of the state from the two census files.
 fn load_counties(rt: &HostRuntime) -> Result<Vec<County>> {
     let geo = fs::read(rt, "nc2020geo.pl")?;
     let segment = fs::read(rt, "nc000012020.pl")?;
     Ok(read_counties(rt.alloc(), &geo, &segment, STATE)?)
 }
 
-/// The pairs of counties that are adjacent, of the file.
+/// Reads the pairs of adjacent `counties` from the file of borders.
 fn load_pairs(rt: &HostRuntime, counties: &[County]) -> Result<Vec<(CountyCode, CountyCode)>> {
     let adjacency = fs::read(rt, "county_borders.txt")?;
     let listed = listed_codes(rt.alloc(), counties)?;
@@ -55,26 +57,27 @@ fn load_pairs(rt: &HostRuntime, counties: &[County]) -> Result<Vec<(CountyCode, 
 }
 
 impl State {
-    /// The state of the files.
+    /// Reads the state from the files.
     fn load(rt: &HostRuntime) -> Result<Self> {
         let counties = load_counties(rt)?;
         let pairs = load_pairs(rt, &counties)?;
         Ok(State { counties, pairs })
     }
 
-    /// The problem of a chamber.
+    /// Builds the problem for a chamber of `chamber` seats.
     fn problem(&self, alloc: Global, chamber: u16) -> Result<Problem> {
         Ok(Problem::build(alloc, &self.counties, &self.pairs, &[], chamber)?)
     }
 
-    /// The problem of as many seats as counties, each of one person.
+    /// Builds the problem of 100 seats, as many as there are counties, with one person in each county.
     fn equal_problem(&self, alloc: Global) -> Result<Problem> {
         let counties = of_one_person(alloc, &self.counties)?;
         Ok(Problem::build(alloc, &counties, &self.pairs, &[], 100)?)
     }
 }
 
-/// How many lawful groups there are of an order, and the steps that they took.
+/// Counts the lawful groups of an order that have at most `limit` counties. Returns how many they are, and how many
+/// steps they took.
 fn count_over<C: CountySet>(alloc: Global, ordered: &Ordered, limit: u16) -> Result<(usize, u64)>
     requires { 128 ≤ C.PLACES }
 {
@@ -90,7 +93,8 @@ fn count_over<C: CountySet>(alloc: Global, ordered: &Ordered, limit: u16) -> Res
     Ok((groups, steps.used()))
 }
 
-/// How many lawful groups a problem has, and the steps that they took.
+/// Counts the lawful groups of a problem that have at most `limit` counties. Returns how many they are, and how many
+/// steps they took.
 fn count<C: CountySet>(alloc: Global, problem: &Problem, limit: u16) -> Result<(usize, u64)>
     requires { 128 ≤ C.PLACES }
 {
@@ -99,7 +103,7 @@ fn count<C: CountySet>(alloc: Global, problem: &Problem, limit: u16) -> Result<(
     count_over::<C>(alloc, &ordered, limit)
 }
 
-/// Prints how many lawful groups a chamber has, and the steps.
+/// Prints how many lawful groups of at most `limit` counties a `chamber` has, and how many steps they took.
 fn show_chamber<C: CountySet>(
     rt: &HostRuntime,
     state: &State,
@@ -113,7 +117,7 @@ fn show_chamber<C: CountySet>(
     Ok(())
 }
 
-/// Prints how many lawful groups and connected sets there are of at most so many counties.
+/// Prints how many lawful groups and connected sets there are of at most `limit` counties.
 fn show_counts<C: CountySet>(rt: &HostRuntime, state: &State, limit: u16) -> Result<()>
     requires { 128 ≤ C.PLACES }
 {
@@ -124,7 +128,8 @@ fn show_counts<C: CountySet>(rt: &HostRuntime, state: &State, limit: u16) -> Res
     Ok(())
 }
 
-/// Prints the counts in sets of a form.
+/// Prints the counts for at most `limit` counties, by sets of a `form`: `lists`, `masks` or `wide`. Returns an error
+/// for any other form.
 fn show_in(rt: &HostRuntime, state: &State, limit: u16, form: &str) -> Result<()> {
     println!(rt; "-- carolina by {form}")?;
     match form {
@@ -135,12 +140,13 @@ fn show_in(rt: &HostRuntime, state: &State, limit: u16, form: &str) -> Result<()
     }
 }
 
-/// Prints the counts of at most so many counties, in sets of a form.
+/// Prints the counts for at most `limit` counties, by sets of a `form`: `lists`, `masks` or `wide`. Returns an error
+/// for any other form.
 pub(crate) fn show_form(rt: &HostRuntime, limit: u16, form: &str) -> Result<()> {
     show_in(rt, &State::load(rt)?, limit, form)
 }
 
-/// Prints the adjacent pairs.
+/// Prints the pairs of adjacent counties.
 fn show_pairs(rt: &HostRuntime, state: &State) -> Result<()> {
     println!(rt; "-- carolina")?;
     for (a, b) in &state.pairs {
@@ -149,7 +155,7 @@ fn show_pairs(rt: &HostRuntime, state: &State) -> Result<()> {
     Ok(())
 }
 
-/// Prints the pairs, and the counts in each form of sets.
+/// Prints the pairs of adjacent counties, and the counts by each form of sets.
 pub(crate) fn show(rt: &HostRuntime) -> Result<()> {
     let state = State::load(rt)?;
     show_pairs(rt, &state)?;

@@ -8,32 +8,33 @@ use std::alloc::Global;
 /// Sets with their seats.
 type Sets<'a> = &'a [(u16, &'a [u32])];
 
-/// One county and five, of the three pairs.
+/// The counties of the three pairs as one county and five.
 const ONE_AND_FIVE_SETS: Sets = &[(1, &[1]), (2, &[3, 5, 7, 9, 11])];
 
 /// The three pairs.
 const PAIRS: Sets = &[(1, &[1, 3]), (1, &[5, 7]), (1, &[9, 11])];
 
-/// The three pairs, of which the first has two seats.
+/// The three pairs, the first of which has two seats.
 const TWO_SEATS: Sets = &[(2, &[1, 3]), (1, &[5, 7]), (1, &[9, 11])];
 
-/// The three pairs, of which the first has its counties the other way round.
+/// The three pairs, with the counties of the first the other way round.
 const TURNED: Sets = &[(1, &[3, 1]), (1, &[5, 7]), (1, &[9, 11])];
 
-/// The three pairs, of which the first stands last.
+/// The three pairs, with the first in the last place.
 const MOVED: Sets = &[(1, &[5, 7]), (1, &[9, 11]), (1, &[1, 3])];
 
-/// Three pairs with a group that has no county.
+/// The first of the three pairs, and a group that has no county.
 const EMPTY_GROUP: Sets = &[(1, &[1, 3]), (1, &[])];
 
-/// The counts of a lawful grouping of the three pairs, judged from its copy.
+/// Returns the counts of the grouping of `sets`, which is judged from its copy over the three pairs. Returns an error
+/// if the grouping isn't lawful.
 fn counts_of(alloc: Global, sets: Sets) -> Result<Counts> {
     let path = THREE_PAIRS.problem(alloc)?;
     let grouping = grouping(alloc, sets)?;
     Ok(judge(alloc, &path, &grouping.copy()?)?)
 }
 
-/// Prints counts by size.
+/// Prints the size of the longest group, and how many groups there are of each size up to one more.
 fn show_counts(rt: &HostRuntime, counts: &Counts) -> Result<()> {
     println!(rt; "the longest group has {}", counts.longest())?;
     for size in 0..=counts.longest().saturating_add(1) {
@@ -42,13 +43,13 @@ fn show_counts(rt: &HostRuntime, counts: &Counts) -> Result<()> {
     Ok(())
 }
 
-/// Prints how counts stand to others, and whether they equal them.
+/// Prints how the `first` counts stand to the `second`, and whether the two are equal.
 fn show_order(rt: &HostRuntime, first: &Counts, second: &Counts) -> Result<()> {
     println!(rt; "{:?}, equal {}", compare(first, second), first == second)?;
     Ok(())
 }
 
-/// Prints how the counts of one and five stand to those of three pairs, and to their copy.
+/// Prints the counts of one and five, and how they stand to those of the three pairs and to their own copy.
 fn show_three_pairs(rt: &HostRuntime) -> Result<()> {
     let first = counts_of(rt.alloc(), ONE_AND_FIVE_SETS)?;
     let second = counts_of(rt.alloc(), PAIRS)?;
@@ -67,7 +68,7 @@ fn show_equal(rt: &HostRuntime) -> Result<()> {
     Ok(())
 }
 
-/// Prints the fault of a group without a county.
+/// Prints the fault of a group without a county. Returns an error if memory was refused.
 fn show_empty_group(rt: &HostRuntime) -> Result<()> {
     let path = THREE_PAIRS.problem(rt.alloc())?;
     let grouping = grouping(rt.alloc(), EMPTY_GROUP)?;

@@ -46,7 +46,7 @@ fn show_each<C: CountySet>(rt: &HostRuntime, sets: &[C]) -> Result<()>
     Ok(())
 }
 
-/// Prints the groups that were found, or why the search stopped.
+/// Prints the groups that were `found`, or why the search stopped.
 fn show_found<C: CountySet>(rt: &HostRuntime, found: Result<GroupList<C>, Stop>) -> Result<()>
     requires { 128 ≤ C.PLACES }
 {
@@ -62,14 +62,15 @@ fn show_found<C: CountySet>(rt: &HostRuntime, found: Result<GroupList<C>, Stop>)
 /// A place, the most counties of a group, and the most steps.
 type Search = (u16, u16, u64);
 
-/// Prints a search and the steps that it took.
+/// Prints a `search`, and how many steps it `used`.
 fn show_search(rt: &HostRuntime, search: Search, used: u64) -> Result<()> {
     let (place, limit, most) = search;
     println!(rt; "from {place}, at most {limit}, {used} steps of {most}")?;
     Ok(())
 }
 
-/// Prints the groups from a place of an order, and the steps that they took.
+/// Prints the groups from a place of an order, and how many steps they took. Prints nothing if the order has no such
+/// place. Returns an error if memory was refused.
 fn show_groups<C: CountySet>(rt: &HostRuntime, ordered: &Ordered, search: Search) -> Result<()>
     requires { 128 ≤ C.PLACES }
 {
@@ -87,7 +88,7 @@ fn show_groups<C: CountySet>(rt: &HostRuntime, ordered: &Ordered, search: Search
     show_found(rt, found)
 }
 
-/// Prints the groups of each search.
+/// Prints the groups that each of the `searches` finds.
 fn show_searches<C: CountySet>(
     rt: &HostRuntime,
     ordered: &Ordered,
@@ -101,7 +102,7 @@ fn show_searches<C: CountySet>(
     Ok(())
 }
 
-/// Prints the groups of a problem, in the order of its counties, by some searches.
+/// Prints the groups of a `problem` that each of the `searches` finds. The order is that of its counties.
 fn show_problem<C: CountySet>(
     rt: &HostRuntime,
     problem: &Problem,
@@ -114,7 +115,7 @@ fn show_problem<C: CountySet>(
     show_searches::<C>(rt, &ordered, searches)
 }
 
-/// Prints the groups of a sketched problem by some searches.
+/// Prints the groups of a sketched problem that each of the `searches` finds.
 fn show_sketch<C: CountySet>(rt: &HostRuntime, sketch: Sketch, searches: &[Search]) -> Result<()>
     requires { 128 ≤ C.PLACES }
 {

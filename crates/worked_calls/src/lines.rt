@@ -6,13 +6,13 @@ use field_lines::{Fields, Lines, RawLines, field_at};
 /// More lines and pieces than any text here has.
 const MANY: u32 = 20;
 
-/// Prints a line.
+/// Prints a `line` with its `number`.
 fn show_line(rt: &HostRuntime, number: u32, line: &[u8]) -> Result<()> {
     println!(rt; "{number} {:?}", str::from_utf8(line)?)?;
     Ok(())
 }
 
-/// Prints the lines of a text, and its fault.
+/// Prints the lines of a `text`. Returns an error if a line has a fault.
 fn show_lines(rt: &HostRuntime, text: &str) -> Result<()> {
     println!(rt; "lines of {text:?}")?;
     let mut lines = Lines::new(text.as_bytes());
@@ -25,7 +25,7 @@ fn show_lines(rt: &HostRuntime, text: &str) -> Result<()> {
     Ok(())
 }
 
-/// Prints how long the lines of a text are, and its fault, which stays.
+/// Prints what three calls give of a `text`: the length of a line in bytes, the end, or a fault. A fault stays.
 fn show_lengths(rt: &HostRuntime, text: &str) -> Result<()> {
     println!(rt; "lines of {} bytes", text.len())?;
     let mut lines = Lines::new(text.as_bytes());
@@ -53,7 +53,7 @@ fn show_pieces(rt: &HostRuntime, text: &[u8]) -> Result<()> {
     Ok(())
 }
 
-/// Prints the fields of a line.
+/// Prints the fields of a `line`, which the `delimiter` separates.
 fn show_fields(rt: &HostRuntime, line: &str, delimiter: u8) -> Result<()> {
     println!(rt; "fields of {line:?}")?;
     for field in Fields::new(line.as_bytes(), delimiter) {
@@ -62,7 +62,7 @@ fn show_fields(rt: &HostRuntime, line: &str, delimiter: u8) -> Result<()> {
     Ok(())
 }
 
-/// Prints a field of a line.
+/// Prints the field of a `line` at this `index`, or that there is none.
 fn show_field(rt: &HostRuntime, line: &str, delimiter: u8, index: usize) -> Result<()> {
     match field_at(line.as_bytes(), delimiter, index) {
         Some(field) => println!(rt; "field {index} of {line:?}: {:?}", str::from_utf8(field)?)?,
@@ -89,7 +89,7 @@ fn show_texts(rt: &HostRuntime) -> Result<()> {
     Ok(())
 }
 
-/// Prints how long the lines are of a text with so many letters.
+/// Prints how long the lines are of the text `before`, `count` letters and the text `after`.
 fn show_letters(rt: &HostRuntime, before: &str, count: usize, after: &str) -> Result<()> {
     let letters = "x".repeat(rt.alloc(), count)?;
     let text = format!(in rt.alloc(); "{before}{letters}{after}")?;

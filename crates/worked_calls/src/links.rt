@@ -1,11 +1,11 @@
-//! Links over pairs that stand in any order, each way, and of one county: a file of pairs gives them sorted.
+//! Links over pairs in any order, given each way, and of one county. A file of pairs would give them sorted.
 
 use adjacency_reader::{apply_links, read_links};
 use anyhow::Result;
 use county_codes::CountyCode;
 use std::alloc::{AllocError, Global};
 
-/// Numbers as pairs of codes.
+/// Returns these `numbers` as pairs of codes. A pair is left out if one of its numbers isn't a code.
 fn pairs(
     alloc: Global,
     numbers: &[(u32, u32)],
@@ -19,7 +19,7 @@ fn pairs(
     Ok(pairs)
 }
 
-/// Prints the pairs after the links of a file.
+/// Prints the pairs that come from the pairs `before` by the links of a `text`.
 fn show_linked(rt: &HostRuntime, before: &[(u32, u32)], text: &str) -> Result<()> {
     let links = read_links(rt.alloc(), text.as_bytes())?;
     println!(rt; "{before:?} by {text:?}")?;
@@ -29,7 +29,7 @@ fn show_linked(rt: &HostRuntime, before: &[(u32, u32)], text: &str) -> Result<()
     Ok(())
 }
 
-/// Pairs in any order, each way, and of one county.
+/// Pairs in any order, given each way, and of one county.
 const IN_ANY_ORDER: &[(u32, u32)] = &[
     (37_005, 37_003),
     (37_003, 37_003),

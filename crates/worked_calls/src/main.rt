@@ -1,9 +1,10 @@
 //! Worked calls: what public calls below the command answer where no case of the command reaches them. Lines, numbers,
-//! sources, links, texts and shelves come first, and then small problems whose answers are known.
+//! sources, links, texts and shelves come first. Small problems follow, whose answers are known.
+//!
 //! With the word `carolina` the adjacent pairs and the lawful groups of North Carolina 2020 follow. With the words
 //! LIMIT and FORM (`lists`, `masks` or `wide`) it only counts the lawful groups of at most LIMIT counties, by sets of
-//! that form. The gate runs it with that word, and compares what it prints with `stdout`, which was written by hand
-//! from the rules or by other programs.
+//! that form. The gate runs it with the word `carolina`. It compares what is printed with `stdout`, which was written
+//! by hand from the rules or by other programs.
 #![tactic(auto)]
 
 ghost use Rattle.std.specs.Prelude.{◌≤◌};

@@ -3,14 +3,14 @@
 use anyhow::Result;
 use field_lines::{LineFault, fifteen_digits, five_digits, number_in, three_digits, two_digits};
 
-/// Prints the number that a field spells within a range.
+/// Prints the number from `least` to `greatest` that a `field` spells, if it spells one.
 fn show_number(rt: &HostRuntime, field: &str, least: u32, greatest: u32) -> Result<()> {
     let number = number_in(field.as_bytes(), least, greatest);
     println!(rt; "{field:?} from {least} to {greatest}: {number:?}")?;
     Ok(())
 }
 
-/// Prints the number that each field spells within a range.
+/// Prints the number from `least` to `greatest` that each of the `fields` spells, if it spells one.
 fn show_numbers(rt: &HostRuntime, fields: &[&str], least: u32, greatest: u32) -> Result<()> {
     for field in fields {
         show_number(rt, field, least, greatest)?;
@@ -38,7 +38,7 @@ fn show_ranges(rt: &HostRuntime) -> Result<()> {
     show_numbers(rt, LONG, 0, u32::MAX)
 }
 
-/// Prints what a field of exactly so many digits spells.
+/// Prints what `text` spells as a field of exactly two digits, of three, of five and of fifteen.
 fn show_digits(rt: &HostRuntime, text: &str) -> Result<()> {
     let field = text.as_bytes();
     println!(rt;

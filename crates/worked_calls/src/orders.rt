@@ -4,7 +4,7 @@ use crate::sketch::{STRANDING_PATH, Sketch, THIRTY_NINE_SEATS, codes};
 use anyhow::{Context, Error, Result};
 use county_problem::{OrderFault, Ordered, Problem, Steps, allot};
 
-/// Prints the county at a place.
+/// Prints the county at a `place`. Prints nothing if the order has no such place.
 fn show_place(rt: &HostRuntime, ordered: &Ordered, place: u16) -> Result<()> {
     if place >= ordered.places() {
         return Ok(());
@@ -17,7 +17,7 @@ fn show_place(rt: &HostRuntime, ordered: &Ordered, place: u16) -> Result<()> {
     Ok(())
 }
 
-/// Prints an order as a whole, and its counties by their places.
+/// Prints an order as a whole, and its counties place by place.
 fn show_places(rt: &HostRuntime, ordered: &Ordered) -> Result<()> {
     println!(rt; "{ordered:?}")?;
     println!(rt;
@@ -31,7 +31,8 @@ fn show_places(rt: &HostRuntime, ordered: &Ordered) -> Result<()> {
     Ok(())
 }
 
-/// Prints the counties of an order, by their places, or why it is none.
+/// Prints the counties of an order place by place, or why the `numbers` give no order. Returns an error if memory was
+/// refused.
 fn show_order(rt: &HostRuntime, problem: &Problem, numbers: &[u32]) -> Result<()> {
     let order = codes(rt.alloc(), numbers)?;
     match Ordered::build(rt.alloc(), problem, &order) {
@@ -44,7 +45,8 @@ fn show_order(rt: &HostRuntime, problem: &Problem, numbers: &[u32]) -> Result<()
     }
 }
 
-/// Prints the seats that are allotted to numbers of people.
+/// Prints the seats that a `problem` allots to these numbers of `people`, or that it allots none. More people than the
+/// problem has are too many.
 fn show_seats(rt: &HostRuntime, problem: &Problem, people: &[u64]) -> Result<()> {
     let mut sum = 0_u64;
     for entry in people {
@@ -65,7 +67,7 @@ fn show_seats(rt: &HostRuntime, problem: &Problem, people: &[u64]) -> Result<()>
     Ok(())
 }
 
-/// Prints how steps are taken up to a limit.
+/// Prints how three steps are taken up to a `limit`.
 fn show_steps(rt: &HostRuntime, limit: u64) -> Result<()> {
     let mut steps = Steps::new(limit);
     for _ in 0..3 {
@@ -75,7 +77,7 @@ fn show_steps(rt: &HostRuntime, limit: u64) -> Result<()> {
     Ok(())
 }
 
-/// Orders of the stranding path, of which the first alone names each county once.
+/// Orders of the stranding path. Only the first names each county once.
 const ORDERS: &[&[u32]] = &[&[5, 1, 3], &[1, 3, 3], &[1, 3], &[1, 3, 5, 7]];
 
 /// Prints orders of the stranding path.
@@ -87,13 +89,13 @@ fn show_orders(rt: &HostRuntime) -> Result<()> {
     Ok(())
 }
 
-/// Prints the seats that are allotted to numbers of people of a problem.
+/// Prints the seats that a sketched problem allots to these numbers of `people`.
 fn show_allotted(rt: &HostRuntime, sketch: Sketch, people: &[u64]) -> Result<()> {
     let problem = sketch.problem(rt.alloc())?;
     show_seats(rt, &problem, people)
 }
 
-/// One county, which is withdrawn with a seat.
+/// Returns the sketch of one county, which is withdrawn with one seat of a `chamber`.
 fn withdrawn_alone(chamber: u16) -> Sketch<'static> {
     Sketch {
         people: &[(1, 100)],

@@ -1,4 +1,4 @@
-//! Problems read back, their copies, and the faults that no file of the command gives.
+//! Problems read back, their copies, and faults that no file of the command gives.
 
 use crate::sketch::{Sketch, code};
 use anyhow::{Error, Result};
@@ -23,7 +23,7 @@ fn show_sets(rt: &HostRuntime, problem: &Problem) -> Result<()> {
     Ok(())
 }
 
-/// Prints which counties of a problem are adjacent.
+/// Prints whether some counties of a problem are adjacent.
 fn show_pairs(rt: &HostRuntime, problem: &Problem) -> Result<()> {
     for (a, b) in [(1, 3), (3, 1), (3, 5), (1, 1)] {
         if let (Some(a), Some(b)) = (code(a), code(b)) {
@@ -33,7 +33,7 @@ fn show_pairs(rt: &HostRuntime, problem: &Problem) -> Result<()> {
     Ok(())
 }
 
-/// Prints the people of a listed county, and of a code that is not listed.
+/// Prints the people of a listed county, and of a code that isn't listed.
 fn show_people(rt: &HostRuntime, problem: &Problem) -> Result<()> {
     for number in [3, 9] {
         if let Some(code) = code(number) {
@@ -43,7 +43,7 @@ fn show_people(rt: &HostRuntime, problem: &Problem) -> Result<()> {
     Ok(())
 }
 
-/// Three counties in a path, of which one is withdrawn.
+/// Three counties in a path, one of which is withdrawn.
 const ONE_OF_THREE: Sketch = Sketch {
     people: &[(5, 100), (1, 100), (3, 100)],
     pairs: &[(3, 1), (1, 1), (3, 5)],
@@ -51,7 +51,7 @@ const ONE_OF_THREE: Sketch = Sketch {
     chamber: 3,
 };
 
-/// Prints the copy of a problem with a withdrawn set, and whether the copy's sets are equal.
+/// Prints the copy of a problem with a withdrawn set, and whether the sets of both are equal.
 fn show_copy(rt: &HostRuntime) -> Result<()> {
     let built = ONE_OF_THREE.problem(rt.alloc())?;
     let copy = built.copy()?;
@@ -65,7 +65,8 @@ fn show_copy(rt: &HostRuntime) -> Result<()> {
     Ok(())
 }
 
-/// Prints why there is no problem.
+/// Prints why a `sketch` gives no problem, or how many counties its problem has. Returns an error if memory was
+/// refused.
 fn show_fault(rt: &HostRuntime, sketch: Sketch) -> Result<()> {
     match sketch.problem(rt.alloc()) {
         Ok(problem) => println!(rt; "a problem of {} counties", problem.counties().len())?,
@@ -85,7 +86,7 @@ const FAULTY_SETS: &[(u16, &[u32])] = &[
     (3, &[1]),
 ];
 
-/// Prints the faults of withdrawn sets and pairs, each before those that come after it.
+/// Prints the faults of withdrawn sets and pairs, each ahead of the faults that come after it.
 fn show_withdrawn_faults(rt: &HostRuntime) -> Result<()> {
     for set in FAULTY_SETS {
         let sketch = Sketch {
@@ -99,7 +100,7 @@ fn show_withdrawn_faults(rt: &HostRuntime) -> Result<()> {
     Ok(())
 }
 
-/// Prints why counties make no problem of a chamber.
+/// Prints why counties with these `people` make no problem of a `chamber`.
 fn show_limit(rt: &HostRuntime, people: &[(u32, u32)], chamber: u16) -> Result<()> {
     let sketch = Sketch {
         people,

@@ -11,7 +11,7 @@ use county_codes::listed_codes;
 use county_problem::{Ordered, Problem};
 use place_sets::CountySet;
 
-/// Prints a part, and what is left without it.
+/// Prints a `part`, and what is left without it.
 fn show_cut<C: CountySet>(rt: &HostRuntime, part: &C, rest: &C) -> Result<()>
     requires { 128 ≤ C.PLACES }
 {
@@ -21,7 +21,8 @@ fn show_cut<C: CountySet>(rt: &HostRuntime, part: &C, rest: &C) -> Result<()>
     show_places(rt, rest)
 }
 
-/// Prints the part around place 0 of the ring of four without some places, and what is left.
+/// Prints the connected part around place 0 of the places that aren't in `out`, and the places that are left. Prints
+/// nothing if place 0 isn't among them.
 fn show_part<C: CountySet>(rt: &HostRuntime, ordered: &Ordered, out: &[u16]) -> Result<()>
     requires { 128 ≤ C.PLACES }
 {
@@ -42,10 +43,10 @@ fn show_part<C: CountySet>(rt: &HostRuntime, ordered: &Ordered, out: &[u16]) -> 
     Ok(())
 }
 
-/// Places that are left out of the ring of four.
+/// Lists of places that are left out of the ring of four.
 const TAKEN: &[&[u16]] = &[&[], &[1], &[1, 3]];
 
-/// Prints parts of a problem's counties in their order.
+/// Prints parts of a problem's counties, in the order in which they are listed.
 fn show_parts<C: CountySet>(rt: &HostRuntime, problem: &Problem) -> Result<()>
     requires { 128 ≤ C.PLACES }
 {

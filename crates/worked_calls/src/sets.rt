@@ -7,7 +7,7 @@ use anyhow::Result;
 use place_sets::{CountySet, ListSet, MaskSet, WideSet, by_size_and_places};
 use std::alloc::{AllocError, Global};
 
-/// The set of these places, those below 128.
+/// Returns the set of these `places`. Places from 128 on are left out.
 fn set_of<C: CountySet>(alloc: Global, places: &[u16]) -> Result<C, AllocError>
     requires { 128 ≤ C.PLACES }
 {
@@ -20,7 +20,7 @@ fn set_of<C: CountySet>(alloc: Global, places: &[u16]) -> Result<C, AllocError>
     Ok(set)
 }
 
-/// Prints what is next in sets.
+/// Prints which place of a `set` comes next from some places on.
 fn show_next<C: CountySet>(rt: &HostRuntime, set: &C) -> Result<()> {
     for from in [0, 3, 6, 12] {
         println!(rt; "next from {from}: {:?}", set.next(from))?;
@@ -68,7 +68,7 @@ fn show_union<C: CountySet>(rt: &HostRuntime) -> Result<()>
     show_relations(rt, &both, &odd)
 }
 
-/// Prints a union without one side, and in common with the other.
+/// Prints a union without one of its sides, and what it has in common with the other.
 fn show_parts<C: CountySet>(rt: &HostRuntime) -> Result<()>
     requires { 128 ≤ C.PLACES }
 {
@@ -79,7 +79,7 @@ fn show_parts<C: CountySet>(rt: &HostRuntime) -> Result<()>
     show_places(rt, &both.copy(alloc)?.intersection(&low))
 }
 
-/// Prints a set without a place of it and one that it lacks.
+/// Prints a set without one of its places and without one that it lacks.
 fn show_without<C: CountySet>(rt: &HostRuntime) -> Result<()>
     requires { 128 ≤ C.PLACES }
 {
@@ -90,7 +90,7 @@ fn show_without<C: CountySet>(rt: &HostRuntime) -> Result<()>
     show_relations(rt, &rest, &set_of(alloc, LOW)?)
 }
 
-/// Prints how sets of one size, and no places, stand to others.
+/// Prints how two sets of one size stand to each other, and how the empty set stands to one of them.
 fn show_sizes<C: CountySet>(rt: &HostRuntime) -> Result<()>
     requires { 128 ≤ C.PLACES }
 {
@@ -132,7 +132,7 @@ fn show_last_of_mask(rt: &HostRuntime) -> Result<()> {
     Ok(())
 }
 
-/// The last places of both halves of a wide mask.
+/// Returns the wide mask of the last places of both halves, which are 127 and 255.
 fn wide_ends(alloc: Global) -> Result<WideSet> {
     Ok(WideSet::empty(alloc)?.with(alloc, 255)?.with(alloc, 127)?)
 }
@@ -160,7 +160,7 @@ fn show_half_relations(rt: &HostRuntime) -> Result<()> {
     show_relations(rt, &start, &ends)
 }
 
-/// Prints the last places of each form, and sets with places in both halves of a wide one.
+/// Prints the last places of each form, and wide masks with places in both halves.
 pub(crate) fn show_ends(rt: &HostRuntime) -> Result<()> {
     show_last_of_list(rt)?;
     show_last_of_mask(rt)?;

@@ -4,7 +4,8 @@ use anyhow::{Error, Result};
 use cli_shelves::{FileShelf, MemoryShelf, Shelf, ShelfFault};
 use std::fs;
 
-/// Prints what a name gives, and how often the device has failed.
+/// Prints what the shelf gives for a `name`. For a fault it also prints how often the device has failed. Returns an
+/// error if memory was refused.
 fn show_load<H: Shelf>(rt: &HostRuntime, shelf: &mut H, name: &str) -> Result<()> {
     match shelf.load(rt.alloc(), name) {
         Ok(bytes) => println!(rt; "{name}: {:?}", str::from_utf8(&bytes)?)?,
@@ -14,7 +15,8 @@ fn show_load<H: Shelf>(rt: &HostRuntime, shelf: &mut H, name: &str) -> Result<()
     Ok(())
 }
 
-/// Prints what storing under a name gives, and how often the device has failed.
+/// Prints whether a `text` is stored under a `name`. For a fault it also prints how often the device has failed.
+/// Returns an error if memory was refused.
 fn show_store<H: Shelf>(rt: &HostRuntime, shelf: &mut H, name: &str, text: &str) -> Result<()> {
     match shelf.store(rt.alloc(), name, text.as_bytes()) {
         Ok(()) => println!(rt; "store {name}")?,
@@ -24,7 +26,7 @@ fn show_store<H: Shelf>(rt: &HostRuntime, shelf: &mut H, name: &str, text: &str)
     Ok(())
 }
 
-/// Prints what stores of the machine's files give, and what is left beside them.
+/// Prints what stores of the machine's files give, and which files are left beside them.
 fn show_stored_files(rt: &HostRuntime) -> Result<()> {
     let mut machine = FileShelf::new(rt);
     for (name, text) in [

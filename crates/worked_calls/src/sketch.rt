@@ -25,7 +25,7 @@ pub(crate) const STRANDING_PATH: Sketch = Sketch {
     chamber: 2,
 };
 
-/// One county that is large enough, and five in a path that are so together.
+/// One county that is large enough, and five in a path that are large enough together.
 pub(crate) const ONE_AND_FIVE: Sketch = Sketch {
     people: &[(1, 100), (3, 20), (5, 20), (7, 20), (9, 20), (11, 20)],
     pairs: &[(1, 3), (3, 5), (5, 7), (7, 9), (9, 11)],
@@ -57,12 +57,12 @@ pub(crate) const RING_OF_FOUR: Sketch = Sketch {
     chamber: 2,
 };
 
-/// A code by its last three digits.
+/// Returns the code 37,000 + `number`, or `None` if that isn't a code.
 pub(crate) fn code(number: u32) -> Option<CountyCode> {
     CountyCode::new(number.checked_add(37_000)?)
 }
 
-/// The codes of these numbers.
+/// Returns the codes of these `numbers`. A number without a code is left out.
 pub(crate) fn codes(alloc: Global, numbers: &[u32]) -> Result<Vec<CountyCode>, AllocError> {
     let mut list = Vec::new(alloc);
     for number in numbers {
@@ -73,7 +73,7 @@ pub(crate) fn codes(alloc: Global, numbers: &[u32]) -> Result<Vec<CountyCode>, A
     Ok(list)
 }
 
-/// The counties of these numbers with their people.
+/// Returns the counties of these numbers with their `people`. A number without a code is left out.
 pub(crate) fn counties(alloc: Global, people: &[(u32, u32)]) -> Result<Vec<County>, AllocError> {
     let mut list = Vec::new(alloc);
     for (number, people) in people {
@@ -87,7 +87,7 @@ pub(crate) fn counties(alloc: Global, people: &[(u32, u32)]) -> Result<Vec<Count
     Ok(list)
 }
 
-/// The pairs of these numbers.
+/// Returns the pairs of codes of these `numbers`. A pair is left out if one of its numbers has no code.
 fn pairs(
     alloc: Global,
     numbers: &[(u32, u32)],
@@ -101,7 +101,7 @@ fn pairs(
     Ok(list)
 }
 
-/// The grouping of the sets with their seats.
+/// Builds the grouping of these `sets`, each with its seats.
 pub(crate) fn grouping(alloc: Global, sets: &[(u16, &[u32])]) -> Result<Grouping, AllocError> {
     let mut groups = Vec::new(alloc);
     for (seats, numbers) in sets {
@@ -114,7 +114,7 @@ pub(crate) fn grouping(alloc: Global, sets: &[(u16, &[u32])]) -> Result<Grouping
     Ok(Grouping { groups })
 }
 
-/// The withdrawn sets of a sketch.
+/// Builds the withdrawn sets of a sketch, each with its seats.
 fn withdrawn(alloc: Global, sets: &[(u16, &[u32])]) -> Result<Vec<Withdrawn>, AllocError> {
     let mut list = Vec::new(alloc);
     for (seats, numbers) in sets {
@@ -128,7 +128,7 @@ fn withdrawn(alloc: Global, sets: &[(u16, &[u32])]) -> Result<Vec<Withdrawn>, Al
 }
 
 impl Sketch<'_> {
-    /// The problem, or why there is none.
+    /// Builds the sketched problem, or returns why there is none.
     pub(crate) fn problem(self, alloc: Global) -> Result<Problem, ProblemFault> {
         let counties = counties(alloc, self.people)?;
         let pairs = pairs(alloc, self.pairs)?;

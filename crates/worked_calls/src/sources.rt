@@ -11,7 +11,8 @@ use std::io::{ErrorKind, Read};
 /// What the readers give.
 const TEXT: &[u8] = b"A|37001|B|37003|12";
 
-/// A reader that is interrupted some times, gives its bytes a few at a time, and then fails, if it is to fail.
+/// A reader that is interrupted `interrupted` times, and then gives its bytes a few at a time. At their end it fails if
+/// `fails` is set.
 #[derive(Drop)]
 struct Script<'a> {
     interrupted: u32,
@@ -36,7 +37,8 @@ impl Read for Script<'_> {
     }
 }
 
-/// Prints what five pulls of at most seven bytes give, and whether the source then tells a failure.
+/// Prints what five pulls of at most seven bytes give. Whether the source tells a failure is printed first, and again
+/// for each pull that fails.
 fn show_pulls<S: Source>(rt: &HostRuntime, name: &str, mut source: S) -> Result<()>
 where
     S: Drop,
@@ -52,7 +54,8 @@ where
     Ok(())
 }
 
-/// A reader of the text.
+/// Creates a reader of `TEXT`. It is interrupted `interrupted` times, gives at most `at_a_time` bytes a read, and fails
+/// at the end if `fails` is set.
 fn in_parts(interrupted: u32, at_a_time: usize, fails: bool) -> Script<'static> {
     Script {
         interrupted,
@@ -62,7 +65,7 @@ fn in_parts(interrupted: u32, at_a_time: usize, fails: bool) -> Script<'static> 
     }
 }
 
-/// Prints what a source read whole gives.
+/// Prints what a source gives that is read whole, up to `limit` bytes. Returns an error if memory was refused.
 fn show_whole<S: Source>(rt: &HostRuntime, mut source: S, limit: usize) -> Result<()>
 where
     S: Drop,

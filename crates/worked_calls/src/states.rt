@@ -14,7 +14,7 @@ use place_sets::CountySet;
 use state_groups::{State, closed_state, copied_state, first_state, raise_place};
 use std::alloc::Global;
 
-/// Prints closed groups.
+/// Prints the places of the groups that are `closed`.
 fn show_closed_groups<C: CountySet>(rt: &HostRuntime, closed: &[C]) -> Result<()>
     requires { 128 ≤ C.PLACES }
 {
@@ -25,7 +25,7 @@ fn show_closed_groups<C: CountySet>(rt: &HostRuntime, closed: &[C]) -> Result<()
     Ok(())
 }
 
-/// Prints a state: its rest, what each place asks for, and its closed groups.
+/// Prints a `state`: its rest, what each place asks for, and its closed groups.
 fn show_state<C: CountySet>(rt: &HostRuntime, state: &State<C>) -> Result<()>
     requires { 128 ≤ C.PLACES }
 {
@@ -35,7 +35,7 @@ fn show_state<C: CountySet>(rt: &HostRuntime, state: &State<C>) -> Result<()>
     show_closed_groups(rt, &state.closed)
 }
 
-/// Prints a state with its first county closed alone.
+/// Prints the `state` with its first county closed alone, if that county is in the rest.
 fn show_closed<C: CountySet>(rt: &HostRuntime, ordered: &Ordered, state: &State<C>) -> Result<()>
     requires fits { 128 ≤ C.PLACES }
     requires room { length ordered.now.order ≤ C.PLACES }
@@ -48,7 +48,7 @@ fn show_closed<C: CountySet>(rt: &HostRuntime, ordered: &Ordered, state: &State<
     Ok(())
 }
 
-/// The state with its second county raised past 1.
+/// Returns the `state` with its second county raised past 1. If there is no second county, the state is unchanged.
 fn raised<C: CountySet>(ordered: &Ordered, state: State<C>) -> State<C>
     requires { IsPlaced (length ordered.now.order) C.test state }
     ensures { IsPlaced (length ordered.now.order) C.test result }
@@ -60,7 +60,7 @@ fn raised<C: CountySet>(ordered: &Ordered, state: State<C>) -> State<C>
     state
 }
 
-/// Prints a state with its second county raised past 1.
+/// Prints the `state` with its second county raised past 1, and that state with its first county closed alone.
 fn show_raised<C: CountySet>(rt: &HostRuntime, ordered: &Ordered, state: State<C>) -> Result<()>
     requires fits { 128 ≤ C.PLACES }
     requires room { length ordered.now.order ≤ C.PLACES }
@@ -71,7 +71,7 @@ fn show_raised<C: CountySet>(rt: &HostRuntime, ordered: &Ordered, state: State<C
     show_closed(rt, ordered, &state)
 }
 
-/// Prints the first state of an order, and those that come of it.
+/// Prints the first state of an order, and those that come from it.
 fn show_states<C: CountySet>(rt: &HostRuntime, ordered: &Ordered) -> Result<()>
     requires { 128 ≤ C.PLACES }
 {
@@ -81,7 +81,7 @@ fn show_states<C: CountySet>(rt: &HostRuntime, ordered: &Ordered) -> Result<()>
     show_raised(rt, ordered, state)
 }
 
-/// Prints states of a problem, its counties in their order.
+/// Prints states of a `problem`, with its counties in their order.
 fn show_problem<C: CountySet>(rt: &HostRuntime, problem: &Problem) -> Result<()>
     requires { 128 ≤ C.PLACES }
 {
@@ -90,8 +90,8 @@ fn show_problem<C: CountySet>(rt: &HostRuntime, problem: &Problem) -> Result<()>
     show_states::<C>(rt, &ordered)
 }
 
-/// Prints states of the stranding path: at first, with its middle county raised past 1, and with its first
-/// county closed alone.
+/// Prints states of the stranding path: the first one, the one with its middle county raised past 1, and the one with
+/// its first county closed alone.
 pub(crate) fn show<C: CountySet>(rt: &HostRuntime) -> Result<()>
     requires { 128 ≤ C.PLACES }
 {
@@ -99,7 +99,7 @@ pub(crate) fn show<C: CountySet>(rt: &HostRuntime) -> Result<()>
     show_problem::<C>(rt, &path)
 }
 
-/// The copy of a round with a target, or without one.
+/// Returns the copy of a wide round with this `target`, or without one.
 fn round_copy(alloc: Global, target: Option<Grouping>) -> Result<Round> {
     let round = Round {
         order: Codes::new(codes(alloc, &[1, 3, 5])?),
@@ -111,7 +111,7 @@ fn round_copy(alloc: Global, target: Option<Grouping>) -> Result<Round> {
     Ok(round.copy()?)
 }
 
-/// How many groups a round's target has.
+/// Returns how many groups the target of a `round` has. It is 0 if the round has no target.
 fn groups_in(round: &Round) -> usize {
     match &round.target {
         Some(target) => target.groups.len(),
@@ -119,7 +119,7 @@ fn groups_in(round: &Round) -> usize {
     }
 }
 
-/// Prints a round.
+/// Prints the language, the limit, and how many counties and target groups a `round` has.
 fn show_round(rt: &HostRuntime, round: &Round) -> Result<()> {
     let (language, limit, groups) = (round.language, round.limit, groups_in(round));
     println!(rt;
@@ -129,7 +129,7 @@ fn show_round(rt: &HostRuntime, round: &Round) -> Result<()> {
     Ok(())
 }
 
-/// Prints copies of rounds with a target and without one.
+/// Prints the copies of a round with a target and of a round without one.
 pub(crate) fn show_rounds(rt: &HostRuntime) -> Result<()> {
     let together = grouping(rt.alloc(), &[(2, &[1, 3, 5])])?;
     show_round(rt, &round_copy(rt.alloc(), Some(together))?)?;

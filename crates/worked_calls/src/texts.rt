@@ -6,7 +6,7 @@ use county_problem::GroupingFault;
 use field_lines::push_number;
 use grouping_report::push_grouping_fault;
 
-/// Prints a number and a code.
+/// Prints a `number` and the county code with the number `code`.
 fn show_number(rt: &HostRuntime, number: u64, code: u32) -> Result<()> {
     let mut out = Vec::new(rt.alloc());
     push_number(&mut out, number)?;
@@ -16,7 +16,7 @@ fn show_number(rt: &HostRuntime, number: u64, code: u32) -> Result<()> {
     Ok(())
 }
 
-/// Prints the words of a grouping's fault.
+/// Prints a grouping's `fault` in words.
 fn show_fault(rt: &HostRuntime, fault: GroupingFault) -> Result<()> {
     let mut out = Vec::new(rt.alloc());
     push_grouping_fault(&mut out, fault)?;

@@ -12,17 +12,17 @@ pub(crate) struct Case<'a> {
     pub(crate) kind: &'a str,
     /// What the case is called.
     pub(crate) name: &'a str,
-    /// The bytes.
+    /// The bytes of its lines.
     pub(crate) bytes: Vec<u8>,
 }
 
-/// The kind and the name on the line that begins a case, if it begins one.
+/// Returns the kind and the name of the case that a `line` begins, or `None` if it begins none.
 fn title<'a>(line: &'a [u8]) -> Option<(&'a str, &'a str)> {
     let words = str::from_utf8(line).ok()?;
     words.strip_prefix("== ")?.split_once(": ")
 }
 
-/// The cases of a text. Lines in front of the first are left out.
+/// Returns the cases of a `text`. Lines in front of the first case are left out.
 pub(crate) fn cases_of<'a>(alloc: Global, text: &'a [u8]) -> Result<Vec<Case<'a>>> {
     let mut cases: Vec<Case<'a>> = Vec::new(alloc);
     let mut lines = RawLines::new(text);

@@ -16,7 +16,7 @@ struct Dice {
 }
 
 impl Dice {
-    /// A number below another.
+    /// Returns a number below `below`.
     fn roll(&mut self, below: u32) -> u32
         requires { 0 < below }
         ensures { result < below }
@@ -28,12 +28,12 @@ impl Dice {
         ((self.state >> 33) % u64::from(below)) as u32
     }
 
-    /// A code.
+    /// Returns a code.
     fn code(&mut self) -> Result<CountyCode> {
         CountyCode::new(self.roll(100_000)).context("a code")
     }
 
-    /// One to four codes.
+    /// Returns one to four codes.
     fn codes(&mut self, alloc: Global) -> Result<Codes> {
         let mut codes = Vec::new(alloc);
         for _ in 0..1 + self.roll(4) {
@@ -42,7 +42,7 @@ impl Dice {
         Ok(Codes::new(codes))
     }
 
-    /// Up to nine weights, their codes ascending.
+    /// Returns up to nine weights, with their codes ascending.
     fn weights(&mut self, alloc: Global) -> Result<Weights> {
         let mut weights = Vec::new(alloc);
         for ten in 0..self.roll(10) {
@@ -53,7 +53,7 @@ impl Dice {
         Ok(Weights::new(weights))
     }
 
-    /// A line of a bound leaf.
+    /// Returns a line of a bound leaf.
     fn allowance(&mut self, alloc: Global) -> Result<Allowance> {
         if self.roll(2) == 0 {
             return Ok(Allowance::Room);
@@ -63,7 +63,7 @@ impl Dice {
         Ok(Allowance::Weigh { quota, weights })
     }
 
-    /// A leaf.
+    /// Returns a leaf.
     fn leaf(&mut self, alloc: Global) -> Result<Leaf> {
         match self.roll(3) {
             0 => Ok(Leaf::Stuck(self.code()?)),
@@ -78,7 +78,7 @@ impl Dice {
         }
     }
 
-    /// A branch, whose takes have trees of so many levels.
+    /// Returns a branch. The trees of its takes have at most `levels` levels.
     #[cycle(made)]
     fn branch(&mut self, alloc: Global, language: Language, levels: u16) -> Result<Branch> {
         let county = self.code()?;
@@ -99,7 +99,7 @@ impl Dice {
         })
     }
 
-    /// A tree of so many levels.
+    /// Returns a tree of at most `levels` levels.
     #[cycle(made)]
     fn tree(&mut self, alloc: Global, language: Language, levels: u16) -> Result<Tree> {
         let mut branches = Vec::new(alloc);
@@ -113,7 +113,7 @@ impl Dice {
     }
 }
 
-/// Whether a tree's text is read and written as the same text again.
+/// Returns whether the text of a `tree` is read, and written as the same text again.
 fn comes_back(alloc: Global, tree: &Tree, language: Language, levels: u16) -> Result<bool>
     requires { levels ≤ most_counties }
 {
@@ -123,7 +123,7 @@ fn comes_back(alloc: Global, tree: &Tree, language: Language, levels: u16) -> Re
     Ok(text.as_slice() == second.as_slice())
 }
 
-/// How many trees of so many come back.
+/// Makes as many trees as `trees` says. Returns how many of them come back from their texts.
 pub(crate) fn round_trips(alloc: Global, trees: u32) -> Result<u32> {
     let mut dice = Dice { state: 2026 };
     let mut back = 0_u32;

@@ -1,4 +1,4 @@
-//! The leaf that is found at a state where nothing is closed, and what the checker says of it as a tree.
+//! The leaf that is found at a state where nothing is closed, and what the checker says of this leaf as a tree.
 
 ghost use Rattle.std.specs.Prelude.{◌≡◌, ◌≤◌, map, length, IfOk};
 ghost use Rattle.std.specs.Vec.{vec_items};
@@ -27,7 +27,7 @@ use std::alloc::Global;
 /// More steps than the groups of a worked problem take.
 const ENOUGH: u64 = 100_000;
 
-/// The groups of each size up to the limit that fit the state.
+/// Returns the groups that fit the `state`, as one list for each size from 1 up to the limit of the `round`.
 fn groups_by_size<C: CountySet>(
     graph: &CountyGraph<C>,
     round: &Round,
@@ -57,7 +57,7 @@ fn groups_by_size<C: CountySet>(
     Ok(lists)
 }
 
-/// The leaf that is found at a state.
+/// Returns the leaf that is found at a `state`, or `None` if none is found.
 fn leaf_at<C: CountySet>(
     alloc: Global,
     ordered: &Ordered,
@@ -73,7 +73,8 @@ fn leaf_at<C: CountySet>(
     Ok(find_leaf(&graph, round, state, &lists)?)
 }
 
-/// The lawful target that a grouping text tells; none where it is empty.
+/// Reads the target that the `text` of a grouping tells. Returns `None` if the text is empty, and an error if the
+/// grouping isn't lawful.
 fn target_in(alloc: Global, problem: &Problem, text: &[u8]) -> Result<Option<Grouping>>
     ensures { IfOk result (λ target. IsLawfulTarget (problem_of problem.now) (target_of target)) }
 {
@@ -85,13 +86,14 @@ fn target_in(alloc: Global, problem: &Problem, text: &[u8]) -> Result<Option<Gro
     Ok(Some(target))
 }
 
-/// The first word of the lines of a tree.
+/// Returns the first word of the `lines` of a tree.
 fn first_word(lines: &[u8]) -> Result<&str> {
     let text = str::from_utf8(lines)?;
     Ok(text.split_whitespace().next().unwrap_or(""))
 }
 
-/// A leaf by the first word of its lines, and what the checker says of it as a tree at the state.
+/// Returns in words what kind of leaf this is, and what the checker says of it as a tree at the `state`. The kind is
+/// the first word of its lines.
 fn checked<C: CountySet>(
     alloc: Global,
     problem: &Problem,
@@ -117,7 +119,7 @@ fn checked<C: CountySet>(
     Ok(format!(in alloc; "a {kind} leaf, checked {said}")?)
 }
 
-/// What leaf is found where nothing is closed, and what the checker says of it.
+/// Returns in words which leaf is found where nothing is closed, and what the checker says of it.
 fn first_leaf(alloc: Global, problem: &Problem, ordered: &Ordered, round: &Round) -> Result<String>
     requires few { length ordered.now.order ≤ 128 }
     requires same { ordered.now.order ≡ round.now.order }
@@ -132,8 +134,9 @@ fn first_leaf(alloc: Global, problem: &Problem, ordered: &Ordered, round: &Round
     }
 }
 
-/// What leaf is found where nothing is closed, in a wide round of the limit whose target the text tells, and what the
-/// checker says of it.
+/// Returns in words which leaf is found where nothing is closed, and what the checker says of it. The round is wide,
+/// and has this `limit` and the target that the `text` tells. Returns an error if the limit is more than 256, or if a
+/// mask has no room for the counties.
 pub(crate) fn leaf_said(
     alloc: Global,
     problem: &Problem,

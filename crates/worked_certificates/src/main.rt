@@ -1,12 +1,13 @@
-//! Worked trees and leaves, which no file of the command reaches. From a file of cases come trees alone and in front of
-//! other text, and lines of words. Then come values without a spelling, and ten thousand trees that are made, written
-//! and read. Then comes which leaf is found at the state where nothing is closed, with the checker's verdict on it. The
-//! last are verdicts on texts that are pulled from a source a few bytes at a time, or whose source fails at one pull.
+//! Worked trees and leaves, which no file of the command reaches. From a file of cases come trees, alone and in front
+//! of other text, and lines of words. Then come values without a spelling, and ten thousand trees that are made,
+//! written and read. The next lines tell which leaf is found at the state where nothing is closed, and the checker's
+//! verdict on it. The last lines are verdicts on texts that are pulled from a source a few bytes at a time, or whose
+//! source fails at one pull.
 //!
 //! A case begins with a line `== KIND: NAME`, and its bytes are the lines up to the next such line. In the files
-//! `problems` and `checks` a case of the kind `problem` tells the problem of those behind it. `leaf LIMIT` asks for the
-//! leaf that is found, with the grouping of the case as the target. `check` asks for the verdicts on the bytes of the
-//! case, and `cut` for those on the bytes without the last LF.
+//! `problems` and `checks` a case of the kind `problem` tells the problem of the cases behind it. `leaf LIMIT` asks for
+//! the leaf that is found, with the grouping of the case as the target. `check` asks for the verdicts on the bytes of
+//! the case, and `cut` for those on the bytes without the last LF.
 #![tactic(auto)]
 
 mod cases;
@@ -56,7 +57,7 @@ fn show_unspelled(rt: &HostRuntime) -> Result<()> {
     Ok(())
 }
 
-/// Prints which leaf is found over the problem in front of a case, or keeps the problem that the case tells.
+/// Prints which leaf is found over the problem in front of a `case`. If the case tells a problem, keeps that instead.
 fn show_leaf(rt: &HostRuntime, problem: &mut Option<Problem>, case: &Case) -> Result<()> {
     let Some(limit) = case.kind.strip_prefix("leaf ") else {
         *problem = Some(problem_in(rt.alloc(), &case.bytes)?);
@@ -78,7 +79,8 @@ fn show_leaves(rt: &HostRuntime) -> Result<()> {
     Ok(())
 }
 
-/// Prints the verdicts on the text of a case over the problem in front of it, or keeps the problem that the case tells.
+/// Prints the verdicts on the text of a `case` over the problem in front of it. If the case tells a problem, keeps that
+/// instead.
 fn show_verdicts(rt: &HostRuntime, problem: &mut Option<Problem>, case: &Case) -> Result<()> {
     if case.kind == "problem" {
         *problem = Some(problem_in(rt.alloc(), &case.bytes)?);

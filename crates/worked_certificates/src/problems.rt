@@ -16,20 +16,20 @@ struct Sketch {
     withdrawn: Vec<Withdrawn>,
 }
 
-/// The two numbers that a text spells.
+/// Parses the two numbers that a `text` spells, with a blank between them.
 fn two_numbers(text: &str) -> Result<(u32, u32)> {
     let (first, second) = text.split_once(' ').context("a number is missing")?;
     Ok((first.parse::<u32>()?, second.parse::<u32>()?))
 }
 
-/// The county that a text spells: its code and its people.
+/// Parses the county that a `text` spells: its code and its people.
 fn county(text: &str) -> Result<County> {
     let (code, people) = two_numbers(text)?;
     let code = CountyCode::new(code).context("no code")?;
     Ok(County { code, people })
 }
 
-/// The pair that a text spells.
+/// Parses the pair of codes that a `text` spells.
 fn pair(text: &str) -> Result<(CountyCode, CountyCode)> {
     let (first, second) = two_numbers(text)?;
     let first = CountyCode::new(first).context("no code")?;
@@ -37,7 +37,7 @@ fn pair(text: &str) -> Result<(CountyCode, CountyCode)> {
     Ok((first, second))
 }
 
-/// The withdrawn set of one county that a text spells: its seats and its county.
+/// Parses the withdrawn set of one county that a `text` spells: its seats and its county.
 fn withdrawn(alloc: Global, text: &str) -> Result<Withdrawn> {
     let (seats, code) = text.split_once(' ').context("a number is missing")?;
     let code = CountyCode::new(code.parse::<u32>()?).context("no code")?;
@@ -51,7 +51,7 @@ fn withdrawn(alloc: Global, text: &str) -> Result<Withdrawn> {
 }
 
 impl Sketch {
-    /// Adds what a line tells.
+    /// Adds what a `line` tells. A line that tells nothing of a problem adds nothing.
     fn add(&mut self, alloc: Global, line: &str) -> Result<()> {
         match line.split_once(' ') {
             Some(("chamber", text)) => self.chamber = text.parse::<u16>()?,
@@ -64,7 +64,7 @@ impl Sketch {
     }
 }
 
-/// The problem that the lines tell.
+/// Builds the problem that the lines of a `text` tell.
 pub(crate) fn problem_in(alloc: Global, text: &[u8]) -> Result<Problem> {
     let mut sketch = Sketch {
         chamber: 0,

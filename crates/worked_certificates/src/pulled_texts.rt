@@ -14,10 +14,10 @@ const ENOUGH: u64 = 100_000;
 /// More pulls than a text here takes.
 const MOST_PULLS: u32 = 1_000;
 
-/// How many bytes come at a time, in words. The last is more than any text here has.
+/// Numbers of bytes that come at a time, each with its words. The last number is more than any text here has.
 const WAYS: &[(usize, &str)] = &[(1, "by 1"), (2, "by 2"), (7, "by 7"), (100_000, "at once")];
 
-/// A group: its seats and its codes, with a pipe before each code.
+/// Returns a `group` in words: its seats and its codes, with a pipe before each code.
 fn group_said(alloc: Global, group: &Group) -> Result<String> {
     let mut said = format!(in alloc; "{}", group.seats)?;
     for code in group.codes.as_slice() {
@@ -26,7 +26,7 @@ fn group_said(alloc: Global, group: &Group) -> Result<String> {
     Ok(said)
 }
 
-/// The groups of a grouping, with a blank before each.
+/// Returns the groups of a `grouping` in words, with a blank before each.
 fn grouping_said(alloc: Global, grouping: &Grouping) -> Result<String> {
     let mut said = String::new(alloc);
     for group in &grouping.groups {
@@ -36,7 +36,7 @@ fn grouping_said(alloc: Global, grouping: &Grouping) -> Result<String> {
     Ok(said)
 }
 
-/// A verdict in words.
+/// Returns a `verdict` in words.
 fn verdict_said(alloc: Global, verdict: Verdict) -> Result<String> {
     match verdict {
         Verdict::Best(target) => {
@@ -52,12 +52,13 @@ fn verdict_said(alloc: Global, verdict: Verdict) -> Result<String> {
     }
 }
 
-/// What is said of a text in memory.
+/// Returns what is said of a `text` in memory.
 fn whole(alloc: Global, problem: &Problem, text: &[u8]) -> Result<String> {
     verdict_said(alloc, check(alloc, problem, text, ENOUGH)?)
 }
 
-/// What is said of a text that comes so many bytes at a time, and of which one pull may fail.
+/// Returns what is said of a `text` that comes `at_a_time` bytes at a time. The pull with the number `failing` fails,
+/// counted from 1. At 0 none fails.
 fn pulled(
     alloc: Global,
     problem: &Problem,
@@ -73,8 +74,9 @@ fn pulled(
     }
 }
 
-/// Prints what is said of a text where the first pull fails, then where the second does, up to the first pull that
-/// isn't made any more: then it is what is said of the text in memory. What is said again isn't printed again.
+/// Prints what is said of a `text` if its first pull fails, then if its second does, and so on. It ends with the first
+/// pull that isn't made any more: there the same is said as of the text in memory. What is the same as for the pull
+/// before isn't printed again.
 fn show_failing(
     rt: &HostRuntime,
     problem: &Problem,
@@ -98,7 +100,8 @@ fn show_failing(
     Ok(())
 }
 
-/// Prints what is said of a text in memory, of the text as it comes a few bytes at a time, and where its pulls fail.
+/// Prints what is said of a `text` in memory, and of the text as it comes a few bytes at a time. Then it prints what is
+/// said if one of the pulls fails.
 pub(crate) fn show_check(
     rt: &HostRuntime,
     problem: &Problem,

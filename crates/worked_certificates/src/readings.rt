@@ -6,17 +6,17 @@ use certificate_lines::{ItemSource, Items, TextFault, TextKind, Words};
 use certificate_text::{front_tree, read_tree, write_tree};
 use std::alloc::Global;
 
-/// What a comparison showed.
+/// Returns the word for what a comparison showed.
 fn outcome(equal: bool) -> &'static str {
     if equal { "equal" } else { "DIFFERENT" }
 }
 
-/// Whether an item comes, or the fault that ends them.
+/// Returns whether one more item comes, or the fault that ends the items.
 fn comes<S: ItemSource<()>>(items: &mut S) -> std::result::Result<bool, TextFault> {
     Ok(items.next_item(&mut ())?.is_some())
 }
 
-/// A fault of the text. An error where memory was refused.
+/// Returns a `fault` of the text as it is. Returns an error if the fault is that memory was refused.
 fn of_text(fault: TextFault) -> Result<TextFault> {
     match fault.kind {
         TextKind::Memory => Err(Error::from(fault)),
@@ -24,7 +24,7 @@ fn of_text(fault: TextFault) -> Result<TextFault> {
     }
 }
 
-/// How many items come, and the fault that ends them.
+/// Counts the items that come. Returns how many they are, and the fault that ends them, if there is one.
 fn count_items<S: ItemSource<()>>(items: &mut S) -> Result<(u64, Option<TextFault>)> {
     for count in 0..u64::MAX {
         match comes(items) {
@@ -36,7 +36,8 @@ fn count_items<S: ItemSource<()>>(items: &mut S) -> Result<(u64, Option<TextFaul
     Ok((u64::MAX, None))
 }
 
-/// A fault, where it is also met item by item.
+/// Returns a `fault` in words. If `met`, the fault that is met item by item, isn't the same, the words say so. Returns
+/// an error if memory was refused.
 fn fault_said(alloc: Global, fault: TextFault, met: Option<TextFault>) -> Result<String> {
     let TextFault { kind, line } = of_text(fault)?;
     if met == Some(fault) {
@@ -46,7 +47,8 @@ fn fault_said(alloc: Global, fault: TextFault, met: Option<TextFault>) -> Result
     }
 }
 
-/// A tree, read, copied and written, for an order of three counties.
+/// Reads a tree, for an order of three counties. Returns in words how many lines it has and whether its copy is written
+/// back as the same bytes, or its fault.
 fn tree(alloc: Global, bytes: &[u8], language: Language) -> Result<String> {
     let (lines, met) = count_items(&mut Items::of_tree(alloc, bytes, language, 3))?;
     match read_tree(alloc, bytes, language, 3) {
@@ -59,7 +61,8 @@ fn tree(alloc: Global, bytes: &[u8], language: Language) -> Result<String> {
     }
 }
 
-/// A tree in front of other bytes, for an order of three counties.
+/// Reads a tree in front of other bytes, for an order of three counties. Returns in words how many bytes are left and
+/// whether the tree is written back as the same bytes, or its fault.
 fn front(alloc: Global, bytes: &[u8], language: Language) -> Result<String> {
     match front_tree(alloc, bytes, language, 3) {
         Ok((tree, place)) => {
@@ -76,7 +79,8 @@ fn front(alloc: Global, bytes: &[u8], language: Language) -> Result<String> {
     }
 }
 
-/// The words of a line: a name, a number up to 128, and codes.
+/// Reads the words of a line: the name `line`, a number up to 128, and codes. Returns the number and how many codes
+/// there are.
 fn line_of(alloc: Global, bytes: &[u8]) -> std::result::Result<(u32, usize), TextKind> {
     let mut words = Words::new(bytes, true)?;
     words.named(b"line")?;
@@ -86,7 +90,7 @@ fn line_of(alloc: Global, bytes: &[u8]) -> std::result::Result<(u32, usize), Tex
     Ok((number, codes.as_slice().len()))
 }
 
-/// A line of words.
+/// Reads a line of words. Returns in words its number and how many codes it has, or its fault.
 fn words(alloc: Global, bytes: &[u8]) -> Result<String> {
     let line = bytes.strip_suffix(b"\n").unwrap_or(bytes);
     match line_of(alloc, line) {
@@ -96,7 +100,7 @@ fn words(alloc: Global, bytes: &[u8]) -> Result<String> {
     }
 }
 
-/// What is said of the bytes of a case.
+/// Returns what is said of the `bytes` of a case of this `kind`.
 pub(crate) fn reading(alloc: Global, kind: &str, bytes: &[u8]) -> Result<String> {
     match kind {
         "plain tree" => tree(alloc, bytes, Language::Plain),

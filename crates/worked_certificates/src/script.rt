@@ -6,8 +6,8 @@ use field_lines::{Reading, Source};
 use std::io;
 use std::io::{ErrorKind, Read};
 
-/// A reader that gives a text a few bytes at a time. The read that fails, counted from 1, loses no byte. At 0 none
-/// fails.
+/// A reader that gives a text a few bytes at a time. The read with the number `failing`, counted from 1, fails and
+/// loses no byte. At 0 none fails.
 #[derive(Drop)]
 pub(crate) struct Script<'a> {
     left: &'a [u8],
@@ -29,7 +29,8 @@ impl Read for Script<'_> {
     }
 }
 
-/// A source of a text. Each pull is one read.
+/// Creates a source of a `text`, which gives at most `at_a_time` bytes a pull. Each pull is one read, and the one with
+/// the number `failing` fails.
 pub(crate) fn source_of<'a>(text: &'a [u8], at_a_time: usize, failing: u32) -> Reading<Script<'a>>
     ensures { ⟦<Reading<Script<'a>> as Source>⟧.is_failed result ≡ false }
 {

@@ -13,16 +13,17 @@ use county_codes::{Codes, CountyCode, Group, Window};
 use std::alloc::Global;
 use std::fmt::Display;
 
-/// A certificate that has a text.
+/// The text of a certificate.
 const TEXT: &[u8] =
     b"county-groups certificate 1\norder 37001\nlimit 1\ntarget 1\ngroup 1 37001\nbound 1\nroom\nend\n";
 
-/// A name, and what is said of it.
+/// Returns a `name`, and what is `said` of it.
 fn named<D: Display>(alloc: Global, name: &str, said: &D) -> Result<String> {
     Ok(format!(in alloc; "{name}: {said}")?)
 }
 
-/// What is said of a value that was to be written.
+/// Returns what is said of a value that was to be `written`: how many bytes its text has, or the fault. Returns an
+/// error if memory was refused.
 fn said(
     alloc: Global,
     name: &str,
@@ -38,12 +39,12 @@ fn said(
     }
 }
 
-/// A county's code.
+/// Returns the county code with the number `code`.
 fn county(code: u32) -> Result<CountyCode> {
     CountyCode::new(code).context("a code")
 }
 
-/// So many codes.
+/// Returns `count` codes, which are the numbers from 0 on.
 fn codes(alloc: Global, count: u32) -> Result<Codes> {
     let mut codes = Vec::new(alloc);
     for code in 0..count {
@@ -52,13 +53,13 @@ fn codes(alloc: Global, count: u32) -> Result<Codes> {
     Ok(Codes::new(codes))
 }
 
-/// A leaf alone.
+/// Builds a tree of a `leaf` alone.
 fn lone(alloc: Global, leaf: Leaf) -> Tree {
     let branches = Vec::new(alloc);
     Tree { branches, leaf }
 }
 
-/// A branch with a limit, with a take of so many codes, and a leaf.
+/// Builds a tree of one branch and a leaf. The branch has this `limit`, and one take of `count` codes.
 fn branched(alloc: Global, limit: Option<u16>, count: u32) -> Result<Tree> {
     let mut takes = Vec::new(alloc);
     takes.push(Take {
@@ -77,7 +78,8 @@ fn branched(alloc: Global, limit: Option<u16>, count: u32) -> Result<Tree> {
     })
 }
 
-/// A line of weights, each weighing the same, their codes from one on by a step.
+/// Builds a bound leaf of one line of weights. The line has this `quota`, and each county of `places` has this
+/// `weight`.
 fn weighed(alloc: Global, quota: u32, weight: u32, places: &[u32]) -> Result<Tree> {
     let mut weights = Vec::new(alloc);
     for place in places {
@@ -94,7 +96,7 @@ fn weighed(alloc: Global, quota: u32, weight: u32, places: &[u32]) -> Result<Tre
     Ok(lone(alloc, Leaf::Bound(lines)))
 }
 
-/// A bound leaf of so many lines.
+/// Builds a bound leaf of `count` lines.
 fn bound(alloc: Global, count: u32) -> Result<Tree> {
     let mut lines = Vec::new(alloc);
     for _ in 0..count {
@@ -103,7 +105,7 @@ fn bound(alloc: Global, count: u32) -> Result<Tree> {
     Ok(lone(alloc, Leaf::Bound(lines)))
 }
 
-/// A certificate whose limit is this.
+/// Returns what is said of a certificate with this `limit`.
 fn limited(alloc: Global, limit: u16) -> Result<String> {
     let mut certificate = read(alloc, TEXT)?.copy()?;
     certificate.round.limit = limit;
@@ -111,7 +113,7 @@ fn limited(alloc: Global, limit: u16) -> Result<String> {
     said(alloc, &name, write(alloc, &certificate))
 }
 
-/// A certificate that names this allowance.
+/// Returns what is said of a certificate that names the allowance `window`.
 fn allowing(alloc: Global, window: Window) -> Result<String> {
     let mut certificate = read(alloc, TEXT)?;
     certificate.round.window = Some(window);
@@ -119,7 +121,7 @@ fn allowing(alloc: Global, window: Window) -> Result<String> {
     said(alloc, &name, write(alloc, &certificate))
 }
 
-/// A certificate whose order has so many codes.
+/// Returns what is said of a certificate whose order has `count` codes.
 fn ordered(alloc: Global, count: u32) -> Result<String> {
     let mut certificate = read(alloc, TEXT)?;
     certificate.round.order = codes(alloc, count)?;
@@ -127,7 +129,7 @@ fn ordered(alloc: Global, count: u32) -> Result<String> {
     said(alloc, &name, write(alloc, &certificate))
 }
 
-/// A certificate whose target has one more group, of so many codes.
+/// Returns what is said of a certificate whose target has one more group, of `count` codes.
 fn grouped(alloc: Global, count: u32) -> Result<String> {
     let mut certificate: Certificate = read(alloc, TEXT)?;
     if let Some(target) = &mut certificate.round.target {
@@ -140,7 +142,7 @@ fn grouped(alloc: Global, count: u32) -> Result<String> {
     said(alloc, &name, write(alloc, &certificate))
 }
 
-/// Certificates that name an allowance: at the ends of its range, and past them.
+/// Appends what is said of certificates that name an allowance: at the ends of its range, and past them.
 fn allowances(alloc: Global, lines: &mut Vec<String>) -> Result<()> {
     for (part, whole) in [
         (1, 20),
@@ -156,7 +158,7 @@ fn allowances(alloc: Global, lines: &mut Vec<String>) -> Result<()> {
     Ok(())
 }
 
-/// Certificates at a limit and one past it.
+/// Appends what is said of certificates at a limit and one past it, and of those that name an allowance.
 fn certificates(alloc: Global, lines: &mut Vec<String>) -> Result<()> {
     allowances(alloc, lines)?;
     for limit in [256, 257] {
@@ -171,7 +173,7 @@ fn certificates(alloc: Global, lines: &mut Vec<String>) -> Result<()> {
     Ok(())
 }
 
-/// A tree in a language with so many levels.
+/// Returns what is said of a `tree` in a `language`, with `levels` levels.
 fn tree_said(
     alloc: Global,
     name: &str,
@@ -184,7 +186,7 @@ fn tree_said(
     said(alloc, name, write_tree(alloc, tree, language, levels))
 }
 
-/// A branch with a limit, or without one.
+/// Returns what is said of a branch with a limit, or without one. The `language` and the `limit` come with their words.
 fn branch_said(
     alloc: Global,
     language: (Language, &str),
@@ -194,7 +196,7 @@ fn branch_said(
     tree_said(alloc, &name, &branched(alloc, limit.0, 1)?, language.0, 1)
 }
 
-/// A take of so many codes, in a tree of one level or none.
+/// Returns what is said of a take of `count` codes, in a tree of `levels` levels.
 fn take_said(alloc: Global, levels: u16, count: u32) -> Result<String>
     requires { levels ≤ most_counties }
 {
@@ -208,7 +210,7 @@ fn take_said(alloc: Global, levels: u16, count: u32) -> Result<String>
     )
 }
 
-/// Branches at a limit and one past it.
+/// Appends what is said of branches and takes at a limit and one past it, and of takes that no text spells.
 fn branches(alloc: Global, lines: &mut Vec<String>) -> Result<()> {
     for language in [(Language::Plain, "plain"), (Language::Wide, "wide")] {
         for limit in [
@@ -226,13 +228,13 @@ fn branches(alloc: Global, lines: &mut Vec<String>) -> Result<()> {
     Ok(())
 }
 
-/// A bound leaf of so many lines.
+/// Returns what is said of a bound leaf of `count` lines.
 fn bound_said(alloc: Global, count: u32) -> Result<String> {
     let name = format!(in alloc; "bound of {count} lines")?;
     tree_said(alloc, &name, &bound(alloc, count)?, Language::Plain, 0)
 }
 
-/// A line of weights.
+/// Returns what is said of a line of weights.
 fn weights_said(
     alloc: Global,
     name: &str,
@@ -244,7 +246,7 @@ fn weights_said(
     tree_said(alloc, name, &tree, Language::Plain, 0)
 }
 
-/// Lines of a bound leaf at a limit and one past it.
+/// Appends what is said of bound leaves, and of their lines, at a limit and one past it.
 fn bounds(alloc: Global, lines: &mut Vec<String>) -> Result<()> {
     for count in [256, 257] {
         lines.push(bound_said(alloc, count)?)?;
@@ -263,7 +265,7 @@ fn bounds(alloc: Global, lines: &mut Vec<String>) -> Result<()> {
     Ok(())
 }
 
-/// A line of 65,536 bytes, and longer ones.
+/// Appends what is said of lines of 65,535, 65,536 and 65,537 bytes.
 fn long_lines(alloc: Global, lines: &mut Vec<String>) -> Result<()> {
     let mut places = Vec::new(alloc);
     for place in 0..8_191 {
@@ -279,7 +281,7 @@ fn long_lines(alloc: Global, lines: &mut Vec<String>) -> Result<()> {
     Ok(())
 }
 
-/// What is said of each value.
+/// Returns what is said of each value.
 pub(crate) fn without_spelling(alloc: Global) -> Result<Vec<String>> {
     let mut lines = Vec::new(alloc);
     certificates(alloc, &mut lines)?;

@@ -5,10 +5,10 @@ use std::alloc::Global;
 use std::str;
 
 /// How many calls of a reader are made. They are more than the lines of any text here, so that the last calls come
-/// behind the end or the fault.
+/// after the end or the fault.
 pub(crate) const CALLS: u32 = 12;
 
-/// More bytes than a line has that is printed whole.
+/// The fewest bytes of a line that isn't printed whole.
 const LONG: usize = 40;
 
 /// The answers of calls in a row. An answer that repeats the one before isn't written again.
@@ -19,7 +19,7 @@ pub(crate) struct Answers {
 }
 
 impl Answers {
-    /// No answer so far.
+    /// Creates a row of no answers.
     pub(crate) fn new(alloc: Global) -> Self {
         Answers {
             text: String::new(alloc),
@@ -27,7 +27,7 @@ impl Answers {
         }
     }
 
-    /// Adds the answer of a call.
+    /// Adds the `answer` of a call, unless it repeats the one before.
     pub(crate) fn add(&mut self, answer: String) -> Result<()> {
         if answer == self.last {
             return Ok(());
@@ -40,14 +40,14 @@ impl Answers {
         Ok(())
     }
 
-    /// The answers, with a semicolon and a blank between two.
+    /// Returns the answers, with a semicolon and a blank between two.
     pub(crate) fn text(self) -> String {
         let Answers { text, last: _ } = self;
         text
     }
 }
 
-/// Bytes as they are printed: how many, if they are many, and else in quotes.
+/// Returns `bytes` as they are printed: how many they are if they are many, and else the bytes in quotes.
 pub(crate) fn shown(alloc: Global, bytes: &[u8]) -> Result<String> {
     if bytes.len() < LONG {
         Ok(format!(in alloc; "{:?}", str::from_utf8(bytes)?)?)

@@ -7,19 +7,19 @@ use std::alloc::Global;
 /// More pulls than any call here makes.
 const MOST_PULLS: u32 = 1_000;
 
-/// How many bytes come at a time, in words. The last is more than any text here has.
+/// Numbers of bytes that come at a time, each with its words. The last number is more than any text here has.
 const WAYS: &[(usize, &str)] = &[(1, "by 1"), (2, "by 2"), (7, "by 7"), (100_000, "at once")];
 
 /// A call that reads what sources give.
 pub(crate) trait Call {
-    /// What is answered for the bytes in memory.
+    /// Returns what is answered for the bytes in memory.
     fn whole(&self, alloc: Global) -> Result<String>;
 
-    /// What is answered for the bytes that a source gives in this manner.
+    /// Returns what is answered for the bytes that a source gives in this `manner`.
     fn pulled(&self, alloc: Global, manner: Manner) -> Result<String>;
 }
 
-/// Prints what is answered for bytes in memory, and what is answered where they come a few at a time.
+/// Prints what a `call` answers for bytes in memory, and what it answers if they come a few at a time.
 pub(crate) fn show_parts<C: Call>(rt: &HostRuntime, name: &str, call: &C) -> Result<()> {
     let whole = call.whole(rt.alloc())?;
     println!(rt; "{name}: {whole}")?;
@@ -34,8 +34,9 @@ pub(crate) fn show_parts<C: Call>(rt: &HostRuntime, name: &str, call: &C) -> Res
     Ok(())
 }
 
-/// Prints what is answered where the first pull fails, then where the second does, up to the first pull that isn't made
-/// any more: then the answer is that of the bytes in memory. An answer that is the one before isn't printed again.
+/// Prints what a `call` answers if its first pull fails, then if its second does, and so on. It ends with the first
+/// pull that isn't made any more: there the answer is that for the bytes in memory. An answer that is the same as the
+/// one before isn't printed again.
 fn show_failing_at<C: Call>(rt: &HostRuntime, at_a_time: usize, call: &C) -> Result<()> {
     let whole = call.whole(rt.alloc())?;
     let mut before = String::new(rt.alloc());
@@ -53,7 +54,7 @@ fn show_failing_at<C: Call>(rt: &HostRuntime, at_a_time: usize, call: &C) -> Res
     Ok(())
 }
 
-/// Prints what is answered where one pull fails, for bytes that come 1, 2 and 7 at a time, and all at once.
+/// Prints what a `call` answers if one pull fails, for bytes that come 1, 2 and 7 at a time, and all at once.
 pub(crate) fn show_failing<C: Call>(rt: &HostRuntime, name: &str, call: &C) -> Result<()> {
     for (at_a_time, way) in WAYS {
         println!(rt; "{name}, {way}, one pull fails")?;

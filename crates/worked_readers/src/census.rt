@@ -27,7 +27,7 @@ const SHORT_CODE: &str =
 /// A header whose last line, without LF, has three fields.
 const FEW_FIELDS: &str = "||050||00|||1||x|||37||001\r\n||050";
 
-/// Records of which the third has the number of the first.
+/// Records, the third of which has the number of the first.
 const DOUBLE_RECORD: &str = "||||1|94\n||||2|60\n||||01|7\n||||4|40\n";
 
 /// What is read of the files.
@@ -46,7 +46,7 @@ struct Census<'a> {
     failing: File,
 }
 
-/// A fault in words.
+/// Returns a `fault` in words. Returns an error if memory was refused.
 fn fault_said(alloc: Global, fault: Pl94Fault) -> Result<String> {
     if fault.kind == Pl94Kind::Memory {
         return Err(Error::from(fault));
@@ -54,7 +54,7 @@ fn fault_said(alloc: Global, fault: Pl94Fault) -> Result<String> {
     Ok(format!(in alloc; "{fault}")?)
 }
 
-/// The counties with their people.
+/// Returns in words the counties with their people, or the fault. Returns an error if memory was refused.
 fn counties_said(alloc: Global, read: Result<Vec<County>, Pl94Fault>) -> Result<String> {
     let counties = match read {
         Ok(counties) => counties,
@@ -67,7 +67,7 @@ fn counties_said(alloc: Global, read: Result<Vec<County>, Pl94Fault>) -> Result<
     Ok(said)
 }
 
-/// The blocks with their people.
+/// Returns in words the blocks with their people, or the fault. Returns an error if memory was refused.
 fn blocks_said(alloc: Global, read: Result<Vec<Block>, Pl94Fault>) -> Result<String> {
     let blocks = match read {
         Ok(blocks) => blocks,
@@ -81,7 +81,8 @@ fn blocks_said(alloc: Global, read: Result<Vec<Block>, Pl94Fault>) -> Result<Str
 }
 
 impl Census<'_> {
-    /// How geo and segment 1 come, if the file whose source fails comes in this manner.
+    /// Returns the manners in which geo and segment 1 come. The file whose source fails comes in this `manner`. The
+    /// other comes as many bytes at a time, and none of its reads fails.
     fn manners(&self, manner: Manner) -> (Manner, Manner) {
         let sound = Manner::sound(manner.at_a_time);
         match self.failing {
@@ -118,7 +119,7 @@ impl Call for Census<'_> {
     }
 }
 
-/// Prints counties and blocks of files that come in parts.
+/// Prints the counties and blocks of files that come in parts.
 fn show_in_parts(rt: &HostRuntime, name: &str, geo: &str, segment1: &str) -> Result<()> {
     for list in [List::Counties, List::Blocks] {
         let failing = File::Geo;
@@ -133,7 +134,7 @@ fn show_in_parts(rt: &HostRuntime, name: &str, geo: &str, segment1: &str) -> Res
     Ok(())
 }
 
-/// Prints counties and blocks of files of which one fails.
+/// Prints the counties and blocks of two files, one of which fails.
 fn show_failures(rt: &HostRuntime, failing: File) -> Result<()> {
     for (list, name) in [(List::Counties, "counties"), (List::Blocks, "blocks")] {
         let census = Census {
@@ -148,7 +149,7 @@ fn show_failures(rt: &HostRuntime, failing: File) -> Result<()> {
     Ok(())
 }
 
-/// Prints counties where geo can't be read, but segment 1 has a fault: geo isn't pulled.
+/// Prints the counties where segment 1 has a fault and geo can't be read. Geo isn't pulled.
 fn show_fault_first(rt: &HostRuntime) -> Result<()> {
     let census = Census {
         geo: GEO,
@@ -159,7 +160,7 @@ fn show_fault_first(rt: &HostRuntime) -> Result<()> {
     show_failing(rt, "counties of a double record where geo fails", &census)
 }
 
-/// Prints counties and blocks of files that come in parts, and of files whose sources fail.
+/// Prints the counties and blocks of files that come in parts, and of files whose sources fail.
 pub(crate) fn show(rt: &HostRuntime) -> Result<()> {
     show_in_parts(rt, "two counties", GEO, SEGMENT1)?;
     show_in_parts(rt, "a short code", SHORT_CODE, SEGMENT1)?;

@@ -14,7 +14,7 @@ struct LinesOf<'a> {
     text: &'a [u8],
 }
 
-/// The answer of one call.
+/// Returns the answer of one call in words. Returns an error if memory was refused.
 fn answer(alloc: Global, next: Result<Option<(u32, &[u8])>, LineFault>) -> Result<String> {
     match next {
         Ok(Some((number, line))) => {
@@ -27,7 +27,7 @@ fn answer(alloc: Global, next: Result<Option<(u32, &[u8])>, LineFault>) -> Resul
     }
 }
 
-/// The answers of many calls.
+/// Returns the answers of `CALLS` calls in a row.
 fn answers<F, L: LinesFrom<F>>(alloc: Global, lines: &mut L, from: &mut F) -> Result<String> {
     let mut answers = Answers::new(alloc);
     for _ in 0..CALLS {
@@ -47,7 +47,7 @@ impl Call for LinesOf<'_> {
     }
 }
 
-/// Prints the lines of texts where one pull fails.
+/// Prints the lines of texts if one pull fails.
 fn show_failures(rt: &HostRuntime) -> Result<()> {
     for (name, text) in FAILING {
         let name = format!(in rt.alloc(); "lines of {name}")?;
@@ -62,7 +62,7 @@ fn show_failures(rt: &HostRuntime) -> Result<()> {
     Ok(())
 }
 
-/// Prints the lines of a text with a long line behind a short one.
+/// Prints the lines of a text that has a line of this many `letters` after a short one.
 fn show_long(rt: &HostRuntime, letters: usize) -> Result<()> {
     let text = long_text(rt.alloc(), letters)?;
     let name = format!(in rt.alloc(); "lines with one of {letters} letters")?;

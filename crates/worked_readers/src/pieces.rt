@@ -14,7 +14,7 @@ struct PiecesOf<'a> {
     text: &'a [u8],
 }
 
-/// The answer of one call.
+/// Returns the answer of one call in words. Returns an error if memory was refused.
 fn answer(alloc: Global, next: Result<Option<Piece<'_>>, LineFault>) -> Result<String> {
     match next {
         Ok(Some(piece)) => {
@@ -28,7 +28,7 @@ fn answer(alloc: Global, next: Result<Option<Piece<'_>>, LineFault>) -> Result<S
     }
 }
 
-/// The answers of many calls.
+/// Returns the answers of `CALLS` calls in a row.
 fn answers<F, P: PiecesFrom<F>>(alloc: Global, pieces: &mut P, from: &mut F) -> Result<String> {
     let mut answers = Answers::new(alloc);
     for _ in 0..CALLS {
@@ -48,7 +48,7 @@ impl Call for PiecesOf<'_> {
     }
 }
 
-/// Prints the pieces of texts where one pull fails.
+/// Prints the pieces of texts if one pull fails.
 fn show_failures(rt: &HostRuntime) -> Result<()> {
     for (name, text) in FAILING {
         let name = format!(in rt.alloc(); "pieces of {name}")?;
@@ -63,7 +63,8 @@ fn show_failures(rt: &HostRuntime) -> Result<()> {
     Ok(())
 }
 
-/// Prints the pieces of a text with a long one behind a short one. In memory a piece has no limit.
+/// Prints the pieces of a text that has a piece of this many `letters` after a short one. In memory a piece has no
+/// limit.
 fn show_long(rt: &HostRuntime, letters: usize) -> Result<()> {
     let text = long_text(rt.alloc(), letters)?;
     let name = format!(in rt.alloc(); "pieces with one of {letters} letters")?;

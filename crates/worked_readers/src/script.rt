@@ -9,14 +9,14 @@ use std::io::{ErrorKind, Read};
 /// How a reader gives its text.
 #[derive(Clone, Copy)]
 pub(crate) struct Manner {
-    /// How many bytes a read gives at most.
+    /// The most bytes that a read gives.
     pub(crate) at_a_time: usize,
     /// Which read fails, from 1. At 0 none does.
     pub(crate) failing: u32,
 }
 
 impl Manner {
-    /// So many bytes at a time, and no read fails.
+    /// Creates the manner of at most `at_a_time` bytes a read, in which no read fails.
     pub(crate) fn sound(at_a_time: usize) -> Self {
         Manner {
             at_a_time,
@@ -25,8 +25,8 @@ impl Manner {
     }
 }
 
-/// A reader that gives a text a few bytes at a time. A read that fails loses no byte, and the reads behind it give the
-/// rest. So a call that reads on behind the failure would answer something else.
+/// A reader that gives a text a few bytes at a time. A read that fails loses no byte, and the reads after it give the
+/// rest. So a call that reads on after the failure would give another answer.
 #[derive(Drop)]
 pub(crate) struct Script<'a> {
     left: &'a [u8],
@@ -47,7 +47,7 @@ impl Read for Script<'_> {
     }
 }
 
-/// A source of a text. Each pull is one read.
+/// Creates a source of a `text` that comes in this `manner`. Each pull is one read.
 pub(crate) fn source_of<'a>(text: &'a [u8], manner: Manner) -> Reading<Script<'a>>
     ensures { ⟦<Reading<Script<'a>> as Source>⟧.is_failed result ≡ false }
 {

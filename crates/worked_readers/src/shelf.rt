@@ -6,10 +6,10 @@ use field_lines::Source;
 use std::alloc::Global;
 use std::{fs, str};
 
-/// What stands in the file `ten`.
+/// The text of the file `ten`.
 const TEN: &str = "0123456789";
 
-/// A file in memory.
+/// Creates a file in memory.
 fn file(alloc: Global, name: &str, text: &str) -> Result<MemoryFile> {
     Ok(MemoryFile {
         name: String::from_str(alloc, name)?,
@@ -17,7 +17,7 @@ fn file(alloc: Global, name: &str, text: &str) -> Result<MemoryFile> {
     })
 }
 
-/// A shelf of three files: one of ten bytes, one without a byte, and one more of the first one's name.
+/// Creates a shelf of three files: one of ten bytes, one without a byte, and another one with the name of the first.
 fn shelf(alloc: Global) -> Result<MemoryShelf> {
     let mut files = Vec::new(alloc);
     for (name, text) in [("ten", TEN), ("empty", ""), ("ten", "later")] {
@@ -26,7 +26,7 @@ fn shelf(alloc: Global) -> Result<MemoryShelf> {
     Ok(MemoryShelf::new(alloc, files))
 }
 
-/// What so many pulls give, of at most four bytes each, with a mark for each that fails.
+/// Returns what `pulls` pulls give, of at most four bytes each. A pull that fails gives the mark `!`.
 fn pulled<S: Source>(alloc: Global, source: &mut S, pulls: u32) -> Result<String> {
     let mut text = String::new(alloc);
     for _ in 0..pulls {
@@ -39,7 +39,7 @@ fn pulled<S: Source>(alloc: Global, source: &mut S, pulls: u32) -> Result<String
     Ok(text)
 }
 
-/// Where a reader stood, in words, or the fault.
+/// Returns in words where a reader stood, or the fault. Returns an error if memory was refused.
 fn end_said(alloc: Global, end: Result<ReadEnd, ShelfFault>) -> Result<String> {
     match end {
         Ok(end) => Ok(format!(in alloc; "{end:?}")?),
@@ -48,7 +48,7 @@ fn end_said(alloc: Global, end: Result<ReadEnd, ShelfFault>) -> Result<String> {
     }
 }
 
-/// Prints what a reader of a file gives, and where it stood when it is given back under a name.
+/// Prints what a reader of the file `name` gives, and where it stood when it is given back under the name `back`.
 fn show_reader<H: Shelf>(
     rt: &HostRuntime,
     shelf: &mut H,
@@ -74,7 +74,8 @@ fn show_reader<H: Shelf>(
     Ok(())
 }
 
-/// Prints what a reader gives if another text is stored under its name behind the first pull, and where it then stood.
+/// Prints what a reader gives if another `text` is stored under the name of its file after the first pull. Then it
+/// prints where the reader stood.
 fn show_replaced(rt: &HostRuntime, text: &str, pulls: u32) -> Result<()> {
     let alloc = rt.alloc();
     let mut shelf = shelf(alloc)?;
@@ -123,7 +124,7 @@ fn show_machine(rt: &HostRuntime) -> Result<()> {
     Ok(())
 }
 
-/// What a file's load gives, in words.
+/// Returns in words what the load of a file gives. Returns an error if memory was refused.
 fn load_said(alloc: Global, shelf: &mut MemoryShelf, name: &str) -> Result<String> {
     match shelf.load(alloc, name) {
         Ok(bytes) => Ok(format!(in alloc; "{:?}", str::from_utf8(&bytes)?)?),
@@ -135,7 +136,7 @@ fn load_said(alloc: Global, shelf: &mut MemoryShelf, name: &str) -> Result<Strin
 /// A file by its name and its text.
 type NameAndText = (&'static str, &'static str);
 
-/// Whether the stored files are these.
+/// Returns whether the stored files are these `files`, in this order.
 fn are_stored(shelf: &MemoryShelf, files: &[NameAndText]) -> bool {
     let stored = shelf.stored_files();
     stored.len() == files.len()
@@ -161,7 +162,8 @@ const STORES: &[(NameAndText, &[NameAndText], &[NameAndText])] = &[
     (("new", "three"), THREE_STORES, FOUR_STORES),
 ];
 
-/// Stores a file. If memory is refused, the stored files have to be those before, and else those after.
+/// Stores a file and checks which files are stored. If memory is refused they must be those `before`, and else those
+/// `after`. Returns an error if they aren't, or if the store failed.
 fn store(
     alloc: Global,
     shelf: &mut MemoryShelf,

@@ -25,7 +25,7 @@ pub(crate) const FAILING: &[(&str, &str)] = &[
     ("a mixed text", MIXED),
 ];
 
-/// A text of a short line, a line of so many letters, and a short line.
+/// Returns a text of a short line, a line of this many `letters`, and a short line.
 pub(crate) fn long_text(alloc: Global, letters: usize) -> Result<String, AllocError> {
     let long = "x".repeat(alloc, letters)?;
     format!(in alloc; "ab\n{long}\ncd\n")
