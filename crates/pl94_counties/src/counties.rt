@@ -54,7 +54,8 @@ pub(crate) fn list(alloc: Global, found: &BTreeMap<u64, u32>) -> Result<Vec<Coun
 ///
 /// Segment 1 is read whole, and then geo. Returns the fault of the first line at fault. If that line has several, the
 /// first kind in the order of `Pl94Kind` is returned. A line that can't be read (`Lower`) is a fault after those of the
-/// lines before it. `NoCounties` is returned only if no line is at fault. `Memory` may stand in the place of any fault.
+/// lines before it. `NoCounties` is returned only if no line is at fault. `Memory` may stand in the place of any
+/// answer.
 pub fn read_counties(
     alloc: Global,
     geo: &[u8],
