@@ -16,7 +16,7 @@ pub fn runs_agree()
     ensures { RunsAgree }
 {}
 
-/// Tells, for each command and each of the statuses 0, 1 and 3, what a run says of the files that it was given.
+/// Tells what a run of each command says of the files that it was given, for each of the statuses 0, 1 and 3.
 pub fn runs_tell()
     ensures { RunsTell }
 {}

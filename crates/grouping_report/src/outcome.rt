@@ -15,7 +15,7 @@ pub enum Outcome {
     Best(Grouping),
     /// No grouping is lawful.
     Impossible,
-    /// The steps ran out. The best lawful grouping that was found is told, if there is one, and how many steps were
+    /// The steps ran out. It has the best lawful grouping that was found, if there is one, and the number of steps
     /// taken.
     Open(Option<Grouping>, u64),
 }

@@ -185,9 +185,9 @@ fn found_report(
 }
 
 /// Returns the report of `problem`: its people, its chamber, its tolerance, the seats left, the number of its counties,
-/// and the answer. If the tolerance is one twentieth, it has no line. If `outcome` has a grouping, the counts of its
-/// groups by size from one county on follow. Then comes each group with its number from 1, its seats, its people and
-/// its counties. If the outcome is open and has no grouping, the line `grouping none` follows.
+/// and the answer. If the tolerance is one twentieth, it has no line. If `outcome` has a grouping, a line follows with
+/// the counts of its groups by size, from one county on. Then comes each group with its number from 1, its seats, its
+/// people and its counties. If the outcome is open and has no grouping, the line `grouping none` follows.
 ///
 /// The grouping has to be lawful. The outcome is reported as it is told: that the grouping is best, that no grouping is
 /// lawful, or how many steps were taken.

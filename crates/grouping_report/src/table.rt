@@ -38,7 +38,7 @@ fn push_bounds(out: &mut Vec<u8>, bounds: (u64, u64)) -> Result<(), AllocError>
     }
 }
 
-/// Appends the line of `county`, with the numbers of seats that its people suit in `run`.
+/// Appends the line of `county`, with the `run` of seats that its people suit.
 #[tactic(auto, unfolding(crate::specs::SizeTable::county_line))]
 fn push_county(out: &mut Vec<u8>, county: County, run: Option<(u16, u16)>) -> Result<(), AllocError>
     ensures { OnOk result (out.new.items ≡ out.old.items ++ county_line county.code county.people run) }
