@@ -11,7 +11,7 @@ use crate::label::Label;
 use field_lines::{Lines, field_at, fifteen_digits};
 use std::alloc::Global;
 
-/// How many assignments there may be.
+/// The most assignments that there may be.
 const MOST: usize = 4_000_000;
 
 /// The district that a file gives to a census block.
@@ -23,21 +23,21 @@ pub struct Assignment {
     pub label: Label,
 }
 
-/// Whether a line has a pipe.
+/// Returns whether `line` has a pipe.
 fn has_pipe(line: &[u8]) -> bool
     ensures { result ≡ has_pipe line.now }
 {
     line.iter().any(|b| *b == b'|')
 }
 
-/// What stands between two fields: a pipe where the first line has one, else a comma.
+/// Returns what stands between two fields if `line` is the first line: a pipe if it has one, else a comma.
 fn delimiter_in(line: &[u8]) -> u8
     ensures { result ≡ delimiter_of line.now }
 {
     if has_pipe(line) { b'|' } else { b',' }
 }
 
-/// Whether the first field of a line isn't fifteen digits.
+/// Returns whether the first field of `line` isn't fifteen digits.
 fn is_header(delimiter: u8, line: &[u8]) -> bool
     ensures { result ≡ is_assignment_header delimiter line.now }
 {
@@ -47,7 +47,12 @@ fn is_header(delimiter: u8, line: &[u8]) -> bool
     }
 }
 
-/// The assignment on a line.
+/// Returns the assignment on `line`.
+///
+/// # Errors
+///
+/// Returns `TooFewFields` if `line` has fewer than two fields, then `BadCode`, and then `BadLabel`. Returns `Memory` if
+/// memory was refused.
 #[tactic(auto, unfolding(crate::specs::Assignments::assignment_on))]
 fn assignment_in(alloc: Global, delimiter: u8, line: &[u8]) -> Result<Assignment, AssignmentKind>
     ensures { GivesUnless (λ k. k ≡ Memory) (λ a. a) result (assignment_on delimiter line.now) }
@@ -60,7 +65,12 @@ fn assignment_in(alloc: Global, delimiter: u8, line: &[u8]) -> Result<Assignment
     Ok(Assignment { block, label })
 }
 
-/// Adds the assignment on a line to those of the lines before.
+/// Appends the assignment on `line` to the `assignments` of the lines before.
+///
+/// # Errors
+///
+/// Returns the first fault of `line`. Returns `TooMany` if there are 4,000,000 assignments before, and `Memory` if
+/// memory was refused.
 fn add_assignment(
     alloc: Global,
     assignments: &mut Vec<Assignment>,
@@ -79,7 +89,7 @@ fn add_assignment(
         .map_err(|_| AssignmentKind::Memory)
 }
 
-/// The assignments before, and those of the lines that are left.
+/// Returns the `assignments` of the lines before, and then those of the `lines` that are left, or the first fault.
 fn read_rows(
     alloc: Global,
     mut assignments: Vec<Assignment>,
@@ -103,16 +113,17 @@ fn read_rows(
     }
 }
 
-/// The assignments of a text in the order of their lines, a block's GEOCODE and the label of its district on each. The
-/// text is a cut text (`Lines` of `field_lines`). A line is cut into fields at each pipe where the first line that
-/// isn't blank has one, else at each comma. That first line is a header, and dropped, where its first field isn't
-/// fifteen digits. On every other line field 1 is a block of fifteen digits, and field 2 a label.
+/// Reads the assignments of a text in the order of their lines. Each has a block's GEOCODE and the label of its
+/// district. The text is a cut text (`Lines` of `field_lines`). A line is cut into fields at each pipe if the first
+/// line that isn't blank has one, else at each comma. That first line is a header, and is dropped, if its first field
+/// isn't fifteen digits. On every other line, field 1 is a block of fifteen digits and field 2 is a label.
 ///
 /// # Errors
 ///
-/// The first line at fault answers, on it the first kind: `TooFewFields` where it has fewer than two fields, then
-/// `BadCode`, `BadLabel`, and `TooMany` on the assignment after the 4,000,000th. A line that can't be read (`Lower`)
-/// answers after the lines before it, and `Memory` in the place of any answer.
+/// Returns the fault of the first line at fault. If that line has several, the first of these kinds is returned:
+/// `TooFewFields` if it has fewer than two fields, then `BadCode`, `BadLabel`, and `TooMany` on the assignment after
+/// the 4,000,000th. A line that can't be read (`Lower`) is a fault after those of the lines before it. `Memory` may
+/// stand in the place of any answer.
 pub fn read_assignments(alloc: Global, bytes: &[u8]) -> Result<Vec<Assignment>, AssignmentFault>
     ensures value { GivesUnless IsAssignmentMemory (λ v. v.items) result (assignment_list bytes.now) }
     ensures few { IfOk result (λ v. vec_len v ≤ 4000000) }

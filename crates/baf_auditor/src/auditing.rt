@@ -28,7 +28,7 @@ use pl94_counties::Block;
 use std::alloc::{AllocError, Global};
 use std::collections::BTreeMap;
 
-/// Adds the findings of districts: those that cross, wrong numbers and wrong sizes.
+/// Appends the findings of districts: those that cross, then wrong numbers, then wrong sizes.
 fn add_district_findings(
     alloc: Global,
     findings: &mut Vec<Finding>,
@@ -53,7 +53,7 @@ fn add_district_findings(
     Ok(())
 }
 
-/// The findings of a plan over a lawful grouping.
+/// Returns the findings of a plan over a lawful grouping, in their order.
 fn plan_findings(
     alloc: Global,
     problem: &Problem,
@@ -77,7 +77,7 @@ fn plan_findings(
     Ok(findings)
 }
 
-/// The first fault of a grouping, if it isn't lawful.
+/// Returns the first fault of `grouping`, or `None` if it is lawful.
 fn fault_of(alloc: Global, problem: &Problem, grouping: &Grouping) -> Option<GroupingFault>
     ensures lawful { MatchOption result (Lawful (problem_of problem.now) grouping.now.groups.items) (IsFault (problem_of problem.now) grouping.now.groups.items) }
     ensures few { MatchOption result (length grouping.now.groups.items ≤ most_counties) (λ fault. fault ≢ Memory
@@ -86,7 +86,7 @@ fn fault_of(alloc: Global, problem: &Problem, grouping: &Grouping) -> Option<Gro
     judge(alloc, problem, grouping).err()
 }
 
-/// A finding alone.
+/// Returns findings that have nothing but the `fault` of a grouping.
 fn only_finding(alloc: Global, fault: GroupingFault) -> Result<Findings, AllocError>
     ensures { IfOk result (λ f. f.list.items ≡ findings.Grouping fault ∷ []) }
 {
@@ -95,17 +95,17 @@ fn only_finding(alloc: Global, fault: GroupingFault) -> Result<Findings, AllocEr
     Ok(Findings { list })
 }
 
-/// All that is wrong with a plan's assignments, by kind and then by block, set or label. The sets are the groups in the
-/// grouping's order and then the withdrawn sets; a block stands in the set that has its county, and one whose county is
-/// in no set counts as not listed. A district is a label that some line gives to a listed block, and its people are
-/// those of its listed blocks, each once. A grouping that isn't lawful is the only finding.
+/// Returns all that is wrong with a plan's assignments, by kind and then by block, set or label. The sets are the
+/// groups in the order of `grouping`, and then the withdrawn sets. A block stands in the set that has its county. A
+/// block whose county is in no set counts as not listed. A district is a label that some line gives to a listed block.
+/// Its people are those of its listed blocks, each once. If the grouping isn't lawful, that is the only finding.
 ///
-/// The blocks ascend by code, as `read_blocks` gives them, and there are at most 4,000,000 assignments, as
+/// The blocks ascend by code, as `read_blocks` gives them. There are at most 4,000,000 assignments, as
 /// `read_assignments` gives them.
 ///
 /// # Errors
 ///
-/// Only where memory was refused.
+/// Returns `AllocError` only if memory was refused.
 pub fn audit(
     alloc: Global,
     problem: &Problem,

@@ -9,7 +9,7 @@ use std::alloc::AllocError;
 /// What is found of a single block.
 #[derive(Clone, Copy)]
 pub(crate) enum CodeKind {
-    /// A line names it, and it isn't listed.
+    /// A line names it, but it isn't listed.
     Unknown,
     /// Two or more lines name it.
     Twice,
@@ -18,7 +18,7 @@ pub(crate) enum CodeKind {
 }
 
 impl CodeKind {
-    /// The finding of a block.
+    /// Returns the finding of this kind about the block `code`.
     fn finding(self, code: u64) -> Finding
         ensures { result ≡ code_finding self code }
     {
@@ -30,7 +30,7 @@ impl CodeKind {
     }
 }
 
-/// Adds the findings of single blocks.
+/// Appends a finding of this `kind` about each block of `codes`, in their order.
 pub(crate) fn add_codes(
     findings: &mut Vec<Finding>,
     kind: CodeKind,

@@ -18,21 +18,21 @@ use pl94_counties::Block;
 use std::alloc::{AllocError, Global};
 use std::collections::BTreeMap;
 
-/// A code, where it is kept.
+/// Returns `code` if `is_kept`, else `None`.
 fn keep(is_kept: bool, code: u64) -> Option<u64>
     ensures { result ≡ kept is_kept code }
 {
     if is_kept { Some(code) } else { None }
 }
 
-/// A code that isn't listed.
+/// Returns `code` if it isn't listed.
 fn unlisted(listed: &BTreeMap<u64, u32>, code: u64) -> Option<u64>
     ensures { result ≡ kept (is_none (get nat_cmp listed.now code)) code }
 {
     keep(listed.get(&code).is_none(), code)
 }
 
-/// The code of a listed block with people that no line gives to a district.
+/// Returns the `code` of a listed block if it has `people` and no line gives it to a district.
 fn unassigned(named: &BTreeMap<u64, Named>, code: u64, people: u32) -> Option<u64>
     ensures { result ≡ kept (nat_lt 0 people && not (has_district (get nat_cmp named.now code))) code }
 {
@@ -40,7 +40,7 @@ fn unassigned(named: &BTreeMap<u64, Named>, code: u64, people: u32) -> Option<u6
     keep(people > 0 && !assigned, code)
 }
 
-/// The codes that lines name and that aren't listed.
+/// Returns the codes that lines name and that aren't listed, in ascending order.
 fn unknown_codes(
     alloc: Global,
     named: &BTreeMap<u64, Named>,
@@ -56,7 +56,7 @@ fn unknown_codes(
         .collect(alloc)
 }
 
-/// The codes that two or more lines name.
+/// Returns the codes that two or more lines name, in ascending order.
 fn twice_codes(alloc: Global, named: &BTreeMap<u64, Named>) -> Result<Vec<u64>, AllocError>
     ensures codes { IfOk result (λ v. v.items ≡ filter_map (λ e. kept e.1.twice e.0) named.now.entries) }
     ensures ordered { IsStrictlySortedBy nat_cmp (map (λ e. e.0) named.now.entries) }
@@ -67,7 +67,7 @@ fn twice_codes(alloc: Global, named: &BTreeMap<u64, Named>) -> Result<Vec<u64>, 
         .collect(alloc)
 }
 
-/// The codes of listed blocks with people that no line gives to a district.
+/// Returns the codes of listed blocks with people that no line gives to a district, in ascending order.
 fn unassigned_codes(
     alloc: Global,
     named: &BTreeMap<u64, Named>,
@@ -97,7 +97,7 @@ pub(crate) struct BlockKinds {
     pub(crate) listed: BTreeMap<u64, u32>,
 }
 
-/// What is found of single blocks, by the lines that name them.
+/// Returns what is found of single blocks by the `lines` that name them.
 pub(crate) fn block_kinds(
     alloc: Global,
     problem: &Problem,

@@ -25,7 +25,7 @@ pub(crate) fn county_of_block(code: u64) -> Option<CountyCode>
     CountyCode::new((code / BLOCKS_OF_COUNTY) as u32)
 }
 
-/// The place of the group that has a county.
+/// Returns the place, from 0, of the first of `groups` that has `county`, if one has it.
 fn group_place(groups: &[Group], county: CountyCode) -> Option<usize>
     ensures place { result ≡ position_from (λ group. contains group.codes county) 0 groups.now }
     ensures bound { IfSome result (λ place. place < length groups.now) }
@@ -35,7 +35,7 @@ fn group_place(groups: &[Group], county: CountyCode) -> Option<usize>
         .position(|group| has_code(group.codes.as_slice(), county))
 }
 
-/// The place of the withdrawn set that has a county.
+/// Returns the place, from 0, of the first of `sets` that has `county`, if one has it.
 fn withdrawn_place(sets: &[Withdrawn], county: CountyCode) -> Option<usize>
     ensures place { result ≡ position_from (λ set. contains set.codes county) 0 sets.now }
     ensures bound { IfSome result (λ place. place < length sets.now) }
@@ -44,7 +44,8 @@ fn withdrawn_place(sets: &[Withdrawn], county: CountyCode) -> Option<usize>
         .position(|set| has_code(set.codes.as_slice(), county))
 }
 
-/// The place of the set that has a block's county, counted from 0: the groups come before the withdrawn sets.
+/// Returns the place, from 0, of the set that has the county of the block `code`, if one has it. The groups come before
+/// the withdrawn sets.
 #[tactic(auto, using(crate::proofs::ListingLemmas::place_in_sets))]
 pub(crate) fn place_of_block(problem: &Problem, grouping: &Grouping, code: u64) -> Option<usize>
     requires { code < 1000000000000000 }
@@ -62,7 +63,7 @@ pub(crate) fn place_of_block(problem: &Problem, grouping: &Grouping, code: u64) 
     }
 }
 
-/// Adds a block to the listed ones, if its county is in a set.
+/// Adds `block` to the `listed` ones, if its county is in a set.
 fn add_block(
     listed: &mut BTreeMap<u64, u32>,
     problem: &Problem,
@@ -80,7 +81,7 @@ fn add_block(
     Ok(())
 }
 
-/// The people of each listed block by its code; a block whose county is in no set isn't listed.
+/// Returns the people of each listed block by its code. A block whose county is in no set isn't listed.
 pub(crate) fn listed_blocks(
     alloc: Global,
     problem: &Problem,

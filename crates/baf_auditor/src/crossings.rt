@@ -19,7 +19,8 @@ pub(crate) fn set_at(groups: usize, place: usize) -> Set
     }
 }
 
-/// Adds the pairs of a district's set with its sets after that one, which stand next.
+/// Appends a finding for the set of `first` with each later set of the same district. These stand at the front of
+/// `rest`.
 fn add_crossings_with(
     findings: &mut Vec<Finding>,
     groups: usize,
@@ -41,7 +42,7 @@ fn add_crossings_with(
     Ok(())
 }
 
-/// Adds each pair of sets in which one district has blocks, by label and sets.
+/// Appends a finding for each pair of sets in which one district has blocks, by label and sets.
 pub(crate) fn add_crossings(
     findings: &mut Vec<Finding>,
     groups: usize,

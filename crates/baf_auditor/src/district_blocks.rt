@@ -11,7 +11,7 @@ use crate::label::Label;
 use std::alloc::{AllocError, Global};
 use std::collections::BTreeMap;
 
-/// Adds the listed block that a line gives to a district.
+/// Adds to `given` the listed block that `line` gives to a district, if it gives one.
 fn add_given(
     given: &mut BTreeMap<(Label, u64), u32>,
     listed: &BTreeMap<u64, u32>,
@@ -32,7 +32,8 @@ fn add_given(
     Ok(())
 }
 
-/// The listed blocks that lines give to districts, each once by label and code, with its people.
+/// Returns the people of each listed block that `lines` give to a district, by label and code. A block stands once for
+/// each district that it is given to.
 pub(crate) fn given_blocks(
     alloc: Global,
     listed: &BTreeMap<u64, u32>,

@@ -62,7 +62,7 @@ fn sets_of_label(
     Ok(sets)
 }
 
-/// Returns the county of `key`, if `key` has this label.
+/// Returns the county of `key`, if `key` has this `label`.
 fn county_of_label(label: &Label, key: &(Label, CountyCode)) -> Option<CountyCode>
     ensures { result ≡ of_label (λ county. county) label.now key.now }
 {
@@ -105,7 +105,7 @@ fn district_of_label(
     })
 }
 
-/// Returns the district of each label of `sums`, which has the people of each district, by label.
+/// Returns the district of each label of `sums`, by label. `sums` has the people of each district.
 fn list_districts(
     alloc: Global,
     groups: usize,
@@ -128,7 +128,7 @@ fn list_districts(
 /// The most groups of a grouping whose plan is listed: those of a text of most lines.
 const MOST_GROUPS: usize = 16_777_216;
 
-/// Returns the districts of a plan, as `districts` does, where the grouping has few groups.
+/// Returns the districts of a plan, as `districts` does, for a grouping with few groups.
 fn districts_of_few(
     alloc: Global,
     problem: &Problem,
@@ -152,8 +152,8 @@ fn districts_of_few(
     list_districts(alloc, grouping.groups.len(), &sums, &standing, &counties)
 }
 
-/// Returns the districts of a plan by label: the people of each, and the sets and the counties in which it has blocks. A
-/// district is a label that some line gives to a listed block. Its people are those of its listed blocks, each block
+/// Returns the districts of a plan by label: the people of each, and the sets and the counties in which it has blocks.
+/// A district is a label that some line gives to a listed block. Its people are those of its listed blocks, each block
 /// once. A block stands in the first set that has its county, groups before withdrawn sets. If its county is in no set,
 /// it counts as not listed. The grouping may be unlawful.
 ///
@@ -162,7 +162,8 @@ fn districts_of_few(
 ///
 /// # Errors
 ///
-/// `AllocError` where memory was refused, or where the grouping has more than 16,777,216 groups, which no text gives.
+/// Returns `AllocError` if memory was refused. Returns it too if the grouping has more than 16,777,216 groups, which no
+/// text gives.
 pub fn districts(
     alloc: Global,
     problem: &Problem,

@@ -14,7 +14,7 @@ use county_problem::Problem;
 use std::alloc::{AllocError, Global};
 use std::collections::BTreeMap;
 
-/// Adds the set in which a district has a block.
+/// Adds to `found` the set in which the district of `label` has the block `code`, if a set has the block's county.
 fn add_standing(
     found: &mut BTreeMap<(Label, usize), ()>,
     problem: &Problem,
@@ -36,7 +36,7 @@ fn add_standing(
     Ok(())
 }
 
-/// The districts with the places of the sets in which they have blocks, by label and place.
+/// Returns the districts with the places of the sets in which they have blocks, by label and place.
 pub(crate) fn standing_places(
     alloc: Global,
     problem: &Problem,
@@ -56,7 +56,7 @@ pub(crate) fn standing_places(
     Ok(found)
 }
 
-/// The districts with the places of their sets in a list, by label and place.
+/// Lists the districts with the places of their sets, by label and place.
 pub(crate) fn listed_places(
     alloc: Global,
     found: BTreeMap<(Label, usize), ()>,

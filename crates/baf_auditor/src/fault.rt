@@ -3,7 +3,8 @@
 use field_lines::LineFault;
 use thiserror::Error;
 
-/// What is wrong with an assignment file. The first four are faults of a line, and the first of them answers.
+/// What is wrong with an assignment file. The first four are faults of a line. If a line has several, the first of them
+/// is reported.
 #[derive(Clone, Copy, Debug, PartialEq, Eq, Error)]
 pub enum AssignmentKind {
     /// The line has fewer than two fields.
@@ -18,7 +19,7 @@ pub enum AssignmentKind {
     /// The line is the assignment after the 4,000,000th.
     #[error("there are too many assignments")]
     TooMany,
-    /// The text has a line that can't be read; this comes after the faults of the lines before it.
+    /// The text has a line that can't be read. This comes after the faults of the lines before it.
     #[error("{0}")]
     Lower(LineFault),
     /// Memory was refused.
@@ -26,8 +27,8 @@ pub enum AssignmentKind {
     Memory,
 }
 
-/// Why an assignment file gives nothing. The line counts from 1, with blank lines counted; for `Lower` it is that of
-/// the line fault, and for `Memory` it is left open.
+/// Why an assignment file gives nothing. Lines count from 1, and blank lines are counted. For `Lower` the line is that
+/// of the line fault. For `Memory` it is left open.
 #[derive(Clone, Copy, Debug, PartialEq, Eq, Error)]
 #[error("line {line}: {kind}")]
 pub struct AssignmentFault {
@@ -42,7 +43,7 @@ impl AssignmentFault {
     ghost use Rattle.field_lines.specs.Fault.{line_of_fault};
     ghost use Rattle.baf_auditor.specs.Assignments.{assignment_cut_fault};
 
-    /// The fault of a text whose lines end in a fault.
+    /// Creates the fault of a text whose lines end in `fault`.
     pub(crate) fn of_cut(fault: LineFault) -> Self
         requires { line_of_fault fault < 2 ^ 32 }
         ensures { result ≡ assignment_cut_fault fault }

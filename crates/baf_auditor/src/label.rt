@@ -8,10 +8,10 @@ use std::alloc::{AllocError, Global};
 use std::cmp::Ordering;
 use std::marker::Model;
 
-/// The greatest length of a label.
+/// The greatest length of a label, in bytes.
 const LONGEST: usize = 32;
 
-/// How many bytes of a label stand in the value itself at most. Plans have labels of one to three bytes.
+/// The most bytes of a label that stand in the value itself. Plans have labels of one to three bytes.
 const INLINE: usize = 16;
 
 /// What some files have as the label of a block without a district.
@@ -67,7 +67,7 @@ impl PartialOrd for Label {
     }
 }
 
-/// Byte by byte.
+/// Labels are compared byte by byte.
 impl Ord for Label {
     ghost use Rattle.std.specs.Prelude.{refl};
     ghost use Rattle.std.specs.Ordering.{nat_cmp};
@@ -86,14 +86,14 @@ impl Ord for Label {
     }
 }
 
-/// Whether each byte is from 0x20 to 0x7E.
+/// Returns whether each byte is from 0x20 to 0x7E.
 fn is_printable(bytes: &[u8]) -> bool
     ensures { result ≡ is_printable_label bytes.now }
 {
     bytes.iter().all(|b| *b >= 0x20 && *b <= 0x7E)
 }
 
-/// Whether bytes make a label.
+/// Returns whether `bytes` make a label.
 fn is_label(bytes: &[u8]) -> bool
     ensures { result ≡ is_label bytes.now }
 {
@@ -101,7 +101,11 @@ fn is_label(bytes: &[u8]) -> bool
 }
 
 impl Label {
-    /// The label of these bytes: `None` exactly where they are none. An error where memory was refused.
+    /// Creates the label of these `bytes`. Returns `None` exactly if they make no label.
+    ///
+    /// # Errors
+    ///
+    /// Returns `AllocError` if memory was refused.
     pub fn new(alloc: Global, bytes: &[u8]) -> Result<Option<Label>, AllocError>
         ensures { IfOk result (λ label. label ≡ label_of bytes.now) }
     {
@@ -113,21 +117,25 @@ impl Label {
         }))
     }
 
-    /// The bytes.
+    /// Returns the bytes of the label.
     pub fn as_bytes(&self) -> &[u8]
         ensures { result.now ≡ self.now }
     {
         self.bytes.as_slice()
     }
 
-    /// Whether the label assigns a block to a district: it isn't empty, and it isn't `ZZZ`.
+    /// Returns whether the label assigns a block to a district: it isn't empty, and it isn't `ZZZ`.
     pub fn assigns(&self) -> bool
         ensures { result ≡ assigns self.now }
     {
         !self.bytes.is_empty() && self.bytes.as_slice() != NO_DISTRICT
     }
 
-    /// An equal label, or an error where memory was refused.
+    /// Returns an equal label.
+    ///
+    /// # Errors
+    ///
+    /// Returns `AllocError` if memory was refused.
     pub fn copy(&self) -> Result<Label, AllocError>
         ensures { IfOk result (λ label. label ≡ self.now) }
     {

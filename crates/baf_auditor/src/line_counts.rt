@@ -20,7 +20,8 @@ pub(crate) struct Named {
 }
 
 impl Named {
-    /// What is said of a block after a further line that names it.
+    /// Returns what is said of a block after a further line that names it with this `label`. `before` is what the lines
+    /// before say of it, or `None` if none names it.
     fn again(before: Option<Named>, label: &Label) -> Named
         ensures { result ≡ named_again before label.now }
     {
@@ -37,7 +38,7 @@ impl Named {
     }
 }
 
-/// Adds what a line says to what the lines before say.
+/// Adds what `line` says to what the lines before say.
 fn add_line(named: &mut BTreeMap<u64, Named>, line: &Assignment) -> Result<(), AllocError>
     ensures { OnOk result ((code : ℕ)
         → get nat_cmp named.new code ≡ after_line code (get nat_cmp named.old code) line.now) }
@@ -47,7 +48,7 @@ fn add_line(named: &mut BTreeMap<u64, Named>, line: &Assignment) -> Result<(), A
     Ok(())
 }
 
-/// What the lines say of each block that they name, by the block's code.
+/// Returns what `lines` say of each block that they name, by the block's code.
 pub(crate) fn named_blocks(
     alloc: Global,
     lines: &[Assignment],

@@ -9,7 +9,7 @@ use crate::label::Label;
 use county_codes::{Group, Withdrawn};
 use std::alloc::AllocError;
 
-/// How many districts stand in the set at a place.
+/// Returns how many districts stand in the set at `place`.
 fn districts_at(standing: &[(Label, usize)], place: usize) -> u32
     requires { length standing.now ≤ 4000000 }
     ensures { result ≡ districts_at place standing.now }
@@ -23,7 +23,7 @@ fn districts_at(standing: &[(Label, usize)], place: usize) -> u32
     districts
 }
 
-/// Adds the finding of a set that has another number of districts than seats.
+/// Appends the finding of the set `name`, if its number of `districts` isn't its number of `seats`.
 fn add_number(
     findings: &mut Vec<Finding>,
     name: Set,
@@ -38,7 +38,7 @@ fn add_number(
     Ok(())
 }
 
-/// Adds the findings of groups that have another number of districts than seats.
+/// Appends the findings of `groups` whose number of districts isn't their number of seats, in the order of the groups.
 pub(crate) fn add_group_numbers(
     findings: &mut Vec<Finding>,
     groups: &[Group],
@@ -57,7 +57,8 @@ pub(crate) fn add_group_numbers(
     Ok(())
 }
 
-/// Adds the findings of withdrawn sets that have another number of districts than seats, behind `groups` groups.
+/// Appends the findings of withdrawn sets whose number of districts isn't their number of seats, in the order of the
+/// sets. The places of the sets stand behind those of `groups` groups.
 pub(crate) fn add_withdrawn_numbers(
     findings: &mut Vec<Finding>,
     groups: usize,

@@ -14,7 +14,7 @@ use crate::label::Label;
 use std::alloc::{AllocError, Global};
 use std::collections::BTreeMap;
 
-/// Adds the people of a listed block of a district.
+/// Adds the `people` of a listed block to those of its district.
 fn add_people(sums: &mut BTreeMap<Label, u64>, label: &Label, people: u32) -> Result<(), AllocError>
     requires { unwrap_or (get (slice_cmp nat_cmp) sums.old label.now) 0 ≤ 2 ^ 60 }
     ensures { OnOk result ((other : List ℕ)
@@ -26,7 +26,7 @@ fn add_people(sums: &mut BTreeMap<Label, u64>, label: &Label, people: u32) -> Re
     Ok(())
 }
 
-/// The people of each district: those of its listed blocks, each once.
+/// Returns the people of each district: those of its listed blocks, each once.
 pub(crate) fn people_by_label(
     alloc: Global,
     given: &BTreeMap<(Label, u64), u32>,
@@ -42,7 +42,7 @@ pub(crate) fn people_by_label(
     Ok(sums)
 }
 
-/// Adds the finding of a district whose people are not within the bounds.
+/// Appends the finding of a district whose `people` are not within `bounds`.
 fn add_size(
     findings: &mut Vec<Finding>,
     bounds: (u64, u64),
@@ -58,7 +58,7 @@ fn add_size(
     Ok(())
 }
 
-/// Adds the findings of districts whose people are not within the bounds, by label.
+/// Appends the findings of districts whose people are not within `bounds`, by label.
 pub(crate) fn add_sizes(
     findings: &mut Vec<Finding>,
     bounds: (u64, u64),

@@ -19,13 +19,13 @@ use std::alloc::{AllocError, Global};
 pub struct Audited {
     /// The findings, with status 0 if there are none, else 1.
     pub answer: RunAnswer,
-    /// The table of the districts; none if it isn't asked for.
+    /// The table of the districts, or `None` if it isn't asked for.
     pub districts: Option<Vec<u8>>,
-    /// The findings, for whoever explains them to a person; no clause speaks of them.
+    /// The findings, for whoever explains them to a person. No clause speaks of them.
     pub findings: Findings,
 }
 
-/// Returns the table of the districts of a plan, if it is asked for.
+/// Returns the table of the districts of a plan, or `None` if it isn't `asked` for.
 fn table_if_asked(
     alloc: Global,
     problem: &Problem,
@@ -48,14 +48,14 @@ fn table_if_asked(
 }
 
 /// Returns what `audit` says of the assignments of a plan: all findings of `blocks` and `lines` against `grouping`. The
-/// table of the districts is beside them if it is asked for.
+/// table of the districts is beside them if it is `asked` for.
 ///
-/// The blocks ascend by code, as `read_blocks` gives them. There are at most 4,000,000 lines, as `read_assignments` gives
-/// them.
+/// The blocks ascend by code, as `read_blocks` gives them. There are at most 4,000,000 lines, as `read_assignments`
+/// gives them.
 ///
 /// # Errors
 ///
-/// `AllocError` if a growth was refused.
+/// Returns `AllocError` if memory was refused.
 pub fn audit_and_say(
     alloc: Global,
     problem: &Problem,

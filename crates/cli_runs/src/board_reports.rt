@@ -23,27 +23,28 @@ use county_problem::Problem;
 use share_board::{BoardFault, Event};
 use std::alloc::{AllocError, Global};
 
-/// How a piece ended, for whoever explains it to a person; no clause speaks of it.
+/// How a piece ended, for whoever explains it to a person. No clause speaks of it.
 #[derive(Clone, Copy, Debug, PartialEq, Eq)]
 pub enum PieceEnd {
     /// The answer is an event that `share` takes.
     Answered,
-    /// The steps ran out; whether the answer proposes a split.
+    /// The steps ran out. The value tells whether the answer proposes a split.
     Open(bool),
-    /// No piece of the number waits.
+    /// No piece with the given number waits.
     NoSuchPiece,
 }
 
 /// What `piece` says.
 #[derive(Drop)]
 pub struct PieceSaid {
-    /// The text of the piece, with status 0, or 3 where the steps ran out; or that no such piece waits, with status 4.
+    /// The text of the piece, with status 0, or 3 if the steps ran out. If no such piece waits, it says that, with
+    /// status 4.
     pub answer: RunAnswer,
     /// How the piece ended.
     pub end: PieceEnd,
 }
 
-/// The language of the rounds.
+/// Returns the language of the rounds that `words` give.
 pub fn language_for(words: RoundWords) -> Language
     ensures { result ≡ language_of words }
 {
@@ -53,7 +54,7 @@ pub fn language_for(words: RoundWords) -> Language
     }
 }
 
-/// How many counties the longest group has, from 1 to 65,535.
+/// Returns how many counties the longest of `groups` has, from 1 to 65,535.
 fn longest(groups: &[Group]) -> u16
     ensures { result ≡ min (longest_of groups.now) 65535 }
 {
@@ -64,7 +65,9 @@ fn longest(groups: &[Group]) -> u16
     most.min(65_535) as u16
 }
 
-/// How the first round of the board is.
+/// Returns the language, the limit and the depth of the board's first round, as `words` give them. The depth of a wide
+/// round is 0. If `words` give it no limit, the limit is the number of counties of the longest group of `grouping`,
+/// from 1 to 65,535.
 fn shape_for(words: RoundWords, grouping: &Grouping) -> BoardShape
     ensures language { result.language ≡ language_of words }
     ensures limit { result.limit ≡ limit_of_words grouping.now.groups.items words }
@@ -82,12 +85,12 @@ fn shape_for(words: RoundWords, grouping: &Grouping) -> BoardShape
     }
 }
 
-/// What a board comes to that takes the events in turn: its target is the grouping, and its first round is that of the
-/// words.
+/// Returns what a board comes to once it has taken `events` in turn. Its target is `grouping`, and its first round is
+/// that of `words`.
 ///
 /// # Errors
 ///
-/// Why there is no such board, by the first fault that stands; `Memory` where memory was refused.
+/// Returns the first fault that stands if there is no such board. Returns `Memory` if memory was refused.
 pub fn share_events(
     alloc: Global,
     problem: &Problem,
@@ -107,7 +110,7 @@ pub fn share_events(
     share(alloc, problem, grouping, shape, events, budget)
 }
 
-/// The end of a piece.
+/// Returns how `piece` ended.
 fn end_of(piece: &Piece) -> PieceEnd {
     match piece {
         Piece::Proved(_) | Piece::Better(_) | Piece::Wider(_) => PieceEnd::Answered,
@@ -115,7 +118,7 @@ fn end_of(piece: &Piece) -> PieceEnd {
     }
 }
 
-/// The exit status of a piece: 3 where the steps ran out, else 0.
+/// Returns the exit status of `piece`: 3 if the steps ran out, else 0.
 fn status_of(piece: &Piece) -> u8
     ensures { result ≡ piece_status piece.now }
 {
@@ -125,7 +128,7 @@ fn status_of(piece: &Piece) -> u8
     }
 }
 
-/// What is said of a piece.
+/// Returns what is said of `piece`, on a board of this number of `counties`.
 fn say_piece(
     alloc: Global,
     words: PieceWords<'_>,
@@ -147,7 +150,7 @@ fn say_piece(
     })
 }
 
-/// What is said where no piece of the number waits.
+/// Returns what is said if no piece of the number waits.
 fn say_none(alloc: Global) -> Result<PieceSaid, AllocError>
     ensures { IfOk result (λ s. answer_of s.answer ≡ no_such_piece) }
 {
@@ -157,7 +160,7 @@ fn say_none(alloc: Global) -> Result<PieceSaid, AllocError>
     })
 }
 
-/// What is said of the piece of the number, if it waits.
+/// Returns what is said of the piece whose number `words` give. `answer` is `None` if that piece doesn't wait.
 fn say_answer(
     alloc: Global,
     words: PieceWords<'_>,
@@ -174,12 +177,13 @@ fn say_answer(
     }
 }
 
-/// Returns what a desk answers of a piece with at most this number of steps, on a board that takes the events in turn:
-/// its target is the grouping, and its first round is that of the words.
+/// Returns what `piece` says: the solver's answer to the piece whose number `words` give, with at most their number of
+/// steps. The piece is that of a board which has taken `events` in turn. The board's target is `grouping`, and its
+/// first round is that of `words`.
 ///
 /// # Errors
 ///
-/// Why there is no such board, by the first fault that stands; `Memory` where memory was refused.
+/// Returns the first fault that stands if there is no such board. Returns `Memory` if memory was refused.
 pub fn piece_and_say(
     alloc: Global,
     problem: &Problem,

@@ -20,15 +20,15 @@ use std::alloc::{AllocError, Global};
 /// What `check` says, and the fault of a text that is no certificate.
 #[derive(Drop)]
 pub struct Checked {
-    /// The report with status 0 or 1, or the line that stands in its place, with status 1 or 3, and the table of a
+    /// The report, with status 0 or 1, or the line that stands in its place, with status 1 or 3. The table is that of a
     /// grouping that is best.
     pub reported: Reported,
-    /// The first fault of a text that is no certificate, and its line, which counts from 1; none at every other
+    /// The first fault of a text that is no certificate, and its line, which counts from 1. `None` for every other
     /// verdict.
     pub fault: Option<(CheckFault, u64)>,
 }
 
-/// What is said without a table, and the fault of a text that is refuted.
+/// Returns `answer` without a table, and the `fault` of a text that is no certificate.
 fn without_table(answer: RunAnswer, fault: Option<(CheckFault, u64)>) -> Checked
     ensures { reported_of result.reported ≡ record { answer = answer_of answer; table = None } }
 {
@@ -41,7 +41,7 @@ fn without_table(answer: RunAnswer, fault: Option<(CheckFault, u64)>) -> Checked
     }
 }
 
-/// What is said of a grouping that is best, with its table.
+/// Returns what is said of a `grouping` that is best, with its table if a table is asked for.
 fn say_best(alloc: Global, tabled: &Tabled, grouping: Grouping) -> Result<Checked, AllocError>
     requires { CheckIsRight (problem_of tabled.now.problem) (verdict.Best grouping) }
     ensures { IfOk result (λ c. reported_of c.reported
@@ -58,7 +58,7 @@ fn say_best(alloc: Global, tabled: &Tabled, grouping: Grouping) -> Result<Checke
     })
 }
 
-/// What is said of a verdict.
+/// Returns what is said of `verdict`.
 fn say(alloc: Global, tabled: &Tabled, verdict: Verdict) -> Result<Checked, AllocError>
     requires { CheckIsRight (problem_of tabled.now.problem) verdict }
     ensures { IfOk result (λ c. reported_of c.reported
@@ -78,13 +78,13 @@ fn say(alloc: Global, tabled: &Tabled, verdict: Verdict) -> Result<Checked, Allo
     }
 }
 
-/// Returns what `check` says of the bytes that a source gives up to its end, or to where the checker left it: the
-/// verdict of a checker with such a budget, told as a report or as the line that stands in its place. `line` keeps the
-/// bytes of the line at fault, at most 65,536, for whoever shows it.
+/// Returns what `check` says of the bytes that `source` gives up to its end, or to where the checker left it. The
+/// verdict of a checker with this `budget` is told as a report or as the line that stands in its place. `line` keeps
+/// the bytes of the line at fault, at most 65,536, for whoever shows it.
 ///
 /// # Errors
 ///
-/// `ReadFault` where the source could not be read, and `Memory` where memory was refused.
+/// Returns `ReadFault` if the source could not be read, and `Memory` if memory was refused.
 pub fn check_from_and_say<S: Source>(
     alloc: Global,
     tabled: &Tabled,

@@ -28,17 +28,17 @@ use std::alloc::{AllocError, Global};
 /// What `solve` says, and the texts for its files.
 #[derive(Drop)]
 pub struct Solved {
-    /// The report, with status 0 where a grouping is best, 1 where none is lawful and 3 where the steps ran out.
+    /// The report, with status 0 if a grouping is best, 1 if none is lawful and 3 if the steps ran out.
     pub answer: RunAnswer,
-    /// The text of the certificate; none where the steps ran out.
+    /// The text of the certificate, or `None` if the steps ran out.
     pub certificate: Option<Vec<u8>>,
     /// The lines of the grouping that is best, or that was found when the steps ran out.
     pub grouping: Option<Vec<u8>>,
-    /// The table of that grouping; none if no table is asked for.
+    /// The table of that grouping, or `None` if no table is asked for.
     pub table: Option<Vec<u8>>,
 }
 
-/// The text of a certificate that has one.
+/// Returns the text of a `certificate` that has one.
 fn certificate_lines(alloc: Global, certificate: &Certificate) -> Result<Vec<u8>, AllocError>
     requires { (text : List ℕ) × IsSpelling text (certificate_of certificate.now) }
     ensures { IfOk result (λ v. IsSpelling v.items (certificate_of certificate.now)) }
@@ -50,7 +50,7 @@ fn certificate_lines(alloc: Global, certificate: &Certificate) -> Result<Vec<u8>
     }
 }
 
-/// The best grouping, with its certificate.
+/// Returns what is said of the best `grouping`, with its `certificate`.
 fn say_best(
     alloc: Global,
     tabled: &Tabled,
@@ -73,7 +73,7 @@ fn say_best(
     })
 }
 
-/// That no grouping is lawful, with the certificate of that.
+/// Returns what is said if no grouping is lawful, with the `certificate` that shows it.
 fn say_impossible(
     alloc: Global,
     tabled: &Tabled,
@@ -92,7 +92,7 @@ fn say_impossible(
     })
 }
 
-/// The lines of a grouping, where there is one.
+/// Returns the lines of the grouping that was `found`, if there is one.
 fn lines_of(alloc: Global, found: &Option<Grouping>) -> Result<Option<Vec<u8>>, AllocError>
     ensures { IfOk result (λ lines. option_map (λ t. t.items) lines
         ≡ option_map (λ g. text_of g.groups.items) found.now) }
@@ -103,7 +103,7 @@ fn lines_of(alloc: Global, found: &Option<Grouping>) -> Result<Option<Vec<u8>>, 
     }
 }
 
-/// The table of a grouping, where there is one, if a table is asked for.
+/// Returns the table of the grouping that was `found`, if there is one and a table is asked for.
 fn table_of_found(
     alloc: Global,
     tabled: &Tabled,
@@ -118,7 +118,7 @@ fn table_of_found(
     }
 }
 
-/// That the steps ran out, with the grouping that was found.
+/// Returns what is said if the steps ran out after this number of `steps`, with the grouping that was `found`, if any.
 fn say_open(
     alloc: Global,
     tabled: &Tabled,
@@ -139,7 +139,7 @@ fn say_open(
     })
 }
 
-/// What is said of the answer of a desk.
+/// Returns what is said of the solver's answer.
 fn say(alloc: Global, tabled: &Tabled, found: DeskAnswer) -> Result<Solved, AllocError>
     requires answer { (limit : ℕ) × IsSolveAnswer (problem_of tabled.now.problem) limit found }
     requires best { SolveIsRight (problem_of tabled.now.problem) found }
@@ -152,13 +152,13 @@ fn say(alloc: Global, tabled: &Tabled, found: DeskAnswer) -> Result<Solved, Allo
     }
 }
 
-/// Returns what `solve` says of a problem: a desk answers with at most this number of steps, and its answer is told as a
-/// report, with the texts of its certificate, of its grouping and of its table. The watcher is told how far the search
+/// Returns what `solve` says of a problem. The solver takes at most this number of `steps`. Its answer is told as a
+/// report, with the texts of its certificate, of its grouping and of its table. `watcher` is told how far the search
 /// is, and changes nothing of what is said.
 ///
 /// # Errors
 ///
-/// `AllocError` where memory was refused.
+/// Returns `AllocError` if memory was refused.
 pub fn solve_and_say<W: Watcher>(
     alloc: Global,
     tabled: &Tabled,

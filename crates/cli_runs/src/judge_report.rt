@@ -21,18 +21,18 @@ use state_judge::CheckFault;
 use std::alloc::{AllocError, Global};
 use std::cmp::Ordering;
 
-/// Why a certificate doesn't show that a lawful grouping is best, for whoever explains it to a person; no clause speaks
+/// Why a certificate doesn't show that a lawful grouping is best, for whoever explains it to a person. No clause speaks
 /// of it.
 #[derive(Drop)]
 pub enum Unshown {
     /// The text is no certificate: its first fault, and the line, which counts from 1.
     NoCertificate(CheckFault, u64),
-    /// The text shows that no grouping is lawful. A lawful one then can't be.
+    /// The text shows that no grouping is lawful. There is a lawful one, so this can't be.
     Impossible,
     /// The budget was too small.
     Budget,
-    /// The certificate's grouping is best, and has greater counts: those of the grouping that is judged, and then
-    /// those.
+    /// The certificate's grouping is best and has greater counts. The counts of the judged grouping stand first, and
+    /// then those of the certificate's grouping.
     Lesser(Counts, Counts),
 }
 
@@ -41,11 +41,11 @@ pub enum Unshown {
 pub struct Judged {
     /// The report, with status 0, and the grouping's table.
     pub reported: Reported,
-    /// Why it doesn't say `best`; none where it does, and where no certificate was given.
+    /// Why the report doesn't say `best`. `None` if it does, and if no certificate was given.
     pub unshown: Option<Unshown>,
 }
 
-/// The report of a lawful grouping, with status 0, and its table.
+/// Returns the report of a lawful `grouping`, with status 0, and its table if a table is asked for.
 fn lawful_report(alloc: Global, tabled: &Tabled, grouping: Grouping) -> Result<Reported, AllocError>
     requires { Lawful (problem_of tabled.now.problem) grouping.groups.items }
     ensures said { IfOk result (λ r. answer_of r.answer ≡ lawful_answer tabled.now.problem grouping.groups.items) }
@@ -57,7 +57,7 @@ fn lawful_report(alloc: Global, tabled: &Tabled, grouping: Grouping) -> Result<R
     Ok(Reported { answer, table })
 }
 
-/// The report of a grouping that is best, with status 0, and its table.
+/// Returns the report of a `grouping` that is best, with status 0, and its table if a table is asked for.
 fn best_report(alloc: Global, tabled: &Tabled, grouping: Grouping) -> Result<Reported, AllocError>
     requires { Lawful (problem_of tabled.now.problem) grouping.groups.items }
     ensures said { IfOk result (λ r. answer_of r.answer ≡ best_answer tabled.now.problem grouping.groups.items) }
@@ -69,7 +69,7 @@ fn best_report(alloc: Global, tabled: &Tabled, grouping: Grouping) -> Result<Rep
     Ok(Reported { answer, table })
 }
 
-/// What is said of a lawful grouping that isn't shown to be best.
+/// Returns what is said of a lawful `grouping` that isn't shown to be best. `unshown` tells why it isn't.
 fn left_lawful(
     alloc: Global,
     tabled: &Tabled,
@@ -85,7 +85,7 @@ fn left_lawful(
     Ok(Judged { reported, unshown })
 }
 
-/// The counts of a lawful grouping: its judge can meet nothing but want of memory.
+/// Returns the counts of a lawful `grouping`. Judging it can fail only for want of memory.
 fn counts_of(alloc: Global, problem: &Problem, grouping: &Grouping) -> Result<Counts, AllocError>
     requires { Lawful (problem_of problem.now) grouping.now.groups.items }
     ensures { IfOk result (λ list. (size : ℕ) → count_at list size ≡ counts (sets_of grouping.now.groups.items) size) }
@@ -96,8 +96,8 @@ fn counts_of(alloc: Global, problem: &Problem, grouping: &Grouping) -> Result<Co
     }
 }
 
-/// What is said of a lawful grouping, where the target of a certificate is best: if both have the same counts, that it
-/// is best.
+/// Returns what is said of a lawful `grouping` with the counts `own`, where the `target` of a certificate is best. If
+/// both have the same counts, the grouping is said to be best.
 fn say_beside_best(
     alloc: Global,
     tabled: &Tabled,
@@ -121,7 +121,7 @@ fn say_beside_best(
     }
 }
 
-/// What is said of a lawful grouping beside a verdict.
+/// Returns what is said of a lawful `grouping` with the counts `own`, where a certificate has this `verdict`.
 fn say_beside(
     alloc: Global,
     tabled: &Tabled,
@@ -146,7 +146,8 @@ fn say_beside(
     }
 }
 
-/// What is said of a lawful grouping by the text of a certificate.
+/// Returns what is said of a lawful `grouping` with the counts `own`, by the `text` of a certificate. Its checker has
+/// this `budget`.
 fn say_by(
     alloc: Global,
     tabled: &Tabled,
@@ -164,12 +165,12 @@ fn say_by(
     say_beside(alloc, tabled, grouping, own, verdict)
 }
 
-/// What `judge` says of a lawful grouping with these counts: that it is lawful; or that it is best, where a certificate
-/// shows it. The certificate's checker has a budget.
+/// Returns what `judge` says of a lawful `grouping` with the counts `own`. It says that the grouping is lawful, or that
+/// it is best if `certificate` shows it. The certificate's checker has this `budget`.
 ///
 /// # Errors
 ///
-/// `AllocError` where memory was refused.
+/// Returns `AllocError` if memory was refused.
 pub fn judge_and_say(
     alloc: Global,
     tabled: &Tabled,

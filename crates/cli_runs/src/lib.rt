@@ -1,11 +1,12 @@
 //! What a run of the program comes to: the steps of each command from its files to its answer and to the files that it
 //! stores.
 //!
-//! The definitions stand in `specs/`: `Course` (steps up to the first fault), `ProblemCourse`, `TableCourse` and
-//! `PlanCourse` (from files to values), `JudgeCourse`, `JudgeWithCertificate`, `SolveCourse`, `CheckCourse`,
-//! `ListCourse`, `BoardCourse`, `ShareCourse` and `PieceCourse` (the commands), `Storing` (files that are stored),
-//! `Run`, `Loads` (runs over files that aren't told), `Headline` (what a run of each command tells of its files),
-//! `Agreement` (what later runs say of a stored certificate), and `WhichGrouping` (the number of a grouping in a list).
+//! The definitions stand in `specs/`. `Course` has steps up to the first fault. `ProblemCourse`, `TableCourse` and
+//! `PlanCourse` lead from files to values. The commands are in `JudgeCourse`, `JudgeWithCertificate`, `SolveCourse`,
+//! `CheckCourse`, `ListCourse`, `BoardCourse`, `ShareCourse` and `PieceCourse`. `Storing` is about files that are
+//! stored. `Run` has the runs, and `Loads` has those over files that aren't told. `Headline` has what a run of each
+//! command tells of its files, and `Agreement` what later runs say of a stored certificate. `WhichGrouping` has the
+//! number of a grouping in a list.
 #![tactic(auto)]
 
 mod audit_report;

@@ -24,14 +24,14 @@ use list_report::listing;
 use state_judge::CheckFault;
 use std::alloc::{AllocError, Global};
 
-/// How a list ended, for whoever explains it to a person; no clause speaks of it.
+/// How a list ended, for whoever explains it to a person. No clause speaks of it.
 #[derive(Clone, Copy, Debug, PartialEq, Eq)]
 pub enum ListEnd {
     /// All best groupings are listed.
     All,
-    /// All best groupings are listed, this number of them, and the grouping whose number is asked for isn't one.
+    /// All best groupings are listed, this number of them. The grouping whose number is asked for isn't one of them.
     Unlisted(usize),
-    /// All best groupings are known, this number of them, but none has the number that is to be stored.
+    /// All best groupings are known, this number of them. None has the number that is to be stored.
     NoSuchGrouping(usize),
     /// The certificate doesn't show which other groupings are best: why not, and the line, which counts from 1.
     Open(Gap, u64),
@@ -46,9 +46,10 @@ pub enum ListEnd {
 /// What `list` is asked for beside the listing.
 #[derive(Drop)]
 pub struct Asked {
-    /// The number of the grouping that is to be stored, from 1 in the order of the list; none if none is to be.
+    /// The number of the grouping that is to be stored, from 1 in the order of the list. `None` if none is to be
+    /// stored.
     pub number: Option<u32>,
-    /// The grouping whose number is to be told; none if none is.
+    /// The grouping whose number is to be told. `None` if no number is to be told.
     pub which: Option<Grouping>,
 }
 
@@ -57,15 +58,15 @@ pub struct Asked {
 pub struct Listed {
     /// The listing, with status 0 or 1, or the line that stands in its place, with status 1, 3 or 4.
     pub answer: RunAnswer,
-    /// The lines of the grouping that is to be stored, where the words give its number.
+    /// The lines of the grouping that is to be stored, if the words give its number.
     pub grouping: Option<Vec<u8>>,
-    /// The table of all listed groupings; none if it isn't asked for.
+    /// The table of all listed groupings, or `None` if it isn't asked for.
     pub table: Option<Vec<u8>>,
     /// How the list ended.
     pub end: ListEnd,
 }
 
-/// An answer, and no file.
+/// Returns `answer` and `end` with no texts for files.
 fn alone(answer: RunAnswer, end: ListEnd) -> Listed
     ensures { listed_of result ≡ said_alone (answer_of answer) }
 {
@@ -77,6 +78,7 @@ fn alone(answer: RunAnswer, end: ListEnd) -> Listed
     }
 }
 
+/// Returns the word for `gap`.
 fn word_of_gap(gap: Gap) -> &'static [u8]
     ensures { result.now ≡ gap_word gap }
 {
@@ -86,7 +88,7 @@ fn word_of_gap(gap: Gap) -> &'static [u8]
     }
 }
 
-/// `open KIND line L`.
+/// Returns the line `open KIND line L`, where KIND is the word for `gap` and L is `line`.
 #[tactic(auto, unfolding(crate::specs::ListCourse::open_line))]
 fn open_text(alloc: Global, gap: Gap, line: u64) -> Result<Vec<u8>, AllocError>
     ensures { IfOk result (λ v. v.items ≡ open_line gap line) }
@@ -99,8 +101,8 @@ fn open_text(alloc: Global, gap: Gap, line: u64) -> Result<Vec<u8>, AllocError>
     Ok(out)
 }
 
-/// That the certificate doesn't show which other groupings are best: the first leaf at which it doesn't, and the leaf's
-/// line.
+/// Returns the answer, with status 3, that the certificate doesn't show which other groupings are best. It names the
+/// `gap` at the first leaf that doesn't show it, and the leaf's `line`.
 fn open_answer(alloc: Global, gap: Gap, line: u64) -> Result<RunAnswer, AllocError>
     ensures { IfOk result (λ a. answer_of a ≡ answer_of_gap gap line) }
 {
@@ -108,7 +110,7 @@ fn open_answer(alloc: Global, gap: Gap, line: u64) -> Result<RunAnswer, AllocErr
     Ok(RunAnswer { text, status: 3 })
 }
 
-/// The grouping of a number, which counts from 1.
+/// Returns the grouping of this `number`, which counts from 1. `None` if no grouping has it.
 fn numbered(groupings: &[Grouping], number: u32) -> Option<&Grouping>
     ensures { option_map (λ g. sets_held g.now) result ≡ numbered_in (map sets_held groupings.now) number }
 {
@@ -118,8 +120,8 @@ fn numbered(groupings: &[Grouping], number: u32) -> Option<&Grouping>
     groupings.get(number as usize - 1)
 }
 
-/// Returns the listing. If a grouping's number is asked for, its line stands behind the listing, and the status is 1 if it
-/// isn't listed.
+/// Returns the listing of `groupings`, with status 0. If the number of a grouping `which` is asked for, its line stands
+/// behind the listing. The status is then 1 if the grouping isn't listed.
 fn listing_answer(
     alloc: Global,
     problem: &Problem,
@@ -142,7 +144,7 @@ fn listing_answer(
     }
 }
 
-/// Returns the table of all listed groupings, if it is asked for.
+/// Returns the table of all listed groupings, or `None` if it isn't asked for.
 fn table_of_all(
     alloc: Global,
     tabled: &Tabled,
@@ -160,7 +162,7 @@ fn table_of_all(
     }
 }
 
-/// Returns the end of a list of `count` groupings with this status.
+/// Returns the end of a list of `count` groupings whose answer has this `status`.
 fn end_of(status: u8, count: usize) -> ListEnd {
     if status == 0 {
         ListEnd::All
@@ -169,7 +171,7 @@ fn end_of(status: u8, count: usize) -> ListEnd {
     }
 }
 
-/// Returns the listing and the table, beside the lines of a grouping that is to be stored.
+/// Returns the listing and the table, beside the `lines` of a grouping that is to be stored.
 fn say_listing(
     alloc: Global,
     tabled: &Tabled,
@@ -192,7 +194,7 @@ fn say_listing(
     })
 }
 
-/// Returns what is said of all best groupings, where the number of one to store may be given.
+/// Returns what is said of all best `groupings`. `asked` may give the number of one to store.
 fn say_all(
     alloc: Global,
     tabled: &Tabled,
@@ -218,7 +220,7 @@ fn say_all(
     }
 }
 
-/// Returns what is said of a listing.
+/// Returns what is said of `listing`.
 fn say(
     alloc: Global,
     tabled: &Tabled,
@@ -248,12 +250,13 @@ fn say(
 }
 
 /// Returns what `list` says of `text`: all best groupings, as the text of a certificate shows them, or the line that
-/// stands in the place of the listing. `asked` may ask for the lines of the grouping of a number, and for the number of a
-/// grouping. The table of all listed groupings is beside it if `tabled` has the names of the counties.
+/// stands in the place of the listing. `asked` may ask for the lines of the grouping of a number, and for the number of
+/// a grouping. The table of all listed groupings is beside it if `tabled` has the names of the counties. The
+/// certificate is checked with this `budget`.
 ///
 /// # Errors
 ///
-/// `AllocError` if memory was refused.
+/// Returns `AllocError` if memory was refused.
 pub fn list_and_say(
     alloc: Global,
     tabled: &Tabled,

@@ -16,7 +16,7 @@ use std::alloc::{AllocError, Global};
 pub struct Tabled {
     /// The problem.
     pub problem: Problem,
-    /// All listed counties, those of withdrawn sets too, with their names; none if no table is asked for.
+    /// All listed counties with their names, also those of withdrawn sets. `None` if no table is asked for.
     pub named: Option<Vec<NamedCounty>>,
 }
 
@@ -25,11 +25,11 @@ pub struct Tabled {
 pub struct Reported {
     /// The report or the line that stands in its place, with its status.
     pub answer: RunAnswer,
-    /// The table of the grouping that is reported; none if there is none, or no table is asked for.
+    /// The table of the grouping that is reported. `None` if there is no such grouping, or if no table is asked for.
     pub table: Option<Vec<u8>>,
 }
 
-/// The table of a grouping, if a table is asked for.
+/// Returns the table of `grouping`, or `None` if no table is asked for.
 pub(crate) fn table_of(
     alloc: Global,
     tabled: &Tabled,

@@ -51,7 +51,7 @@ fn have_same_sets(first: &[Group], second: &[Group]) -> bool
     has_sets_of(first, second) && has_sets_of(second, first)
 }
 
-/// Returns the number of the first of `groupings` that has the sets of `grouping`, from 1. `None` if none has them.
+/// Returns the number, from 1, of the first of `groupings` that has the sets of `grouping`. `None` if none has them.
 pub(crate) fn number_in_list(grouping: &Grouping, groupings: &[Grouping]) -> Option<usize>
     ensures { result ≡ listed_number grouping.now.groups.items (map sets_held groupings.now) }
 {
@@ -63,11 +63,11 @@ pub(crate) fn number_in_list(grouping: &Grouping, groupings: &[Grouping]) -> Opt
     None
 }
 
-/// Appends the line that tells the number of a grouping, or that the grouping isn't listed.
+/// Appends the line that tells the `number` of a grouping, or that the grouping isn't listed.
 ///
 /// # Errors
 ///
-/// `AllocError` if a growth was refused.
+/// Returns `AllocError` if memory was refused.
 pub(crate) fn push_number_line(out: &mut Vec<u8>, number: Option<usize>) -> Result<(), AllocError>
     ensures { OnOk result (out.new.items ≡ out.old.items ++ number_line number) }
 {

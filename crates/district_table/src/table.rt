@@ -112,8 +112,8 @@ fn push_districts(
     Ok(())
 }
 
-/// Returns the table of `districts`, a comma-separated text (RFC 4180): a header, and for each district a line. A line
-/// has the district's label and its people. Then come the least and the greatest people that suit one seat of
+/// Returns the table of `districts`, a comma-separated text (RFC 4180). It has a header, and a line for each district.
+/// A line has the district's label and its people. Then come the least and the greatest people that suit one seat of
 /// `problem`. The last two fields have the labels of the district's sets and the codes of its counties, with a blank
 /// between two. The label of a group is its number. The label of a withdrawn set is `W` and its number.
 ///
@@ -121,7 +121,7 @@ fn push_districts(
 ///
 /// # Errors
 ///
-/// `AllocError` where a growth was refused.
+/// Returns `AllocError` if memory was refused.
 pub fn districts_table(
     alloc: Global,
     problem: &Problem,

@@ -8,7 +8,11 @@ use county_problem::GroupingFault;
 use field_lines::push_number;
 use std::alloc::AllocError;
 
-/// Appends words and a number. It fails only where a growth was refused.
+/// Appends `words` and then `number` in decimal digits.
+///
+/// # Errors
+///
+/// Returns `AllocError` if memory was refused.
 #[tactic(auto, unfolding(crate::specs::FaultWords::with_number))]
 pub fn push_words_number(out: &mut Vec<u8>, words: &[u8], number: u64) -> Result<(), AllocError>
     ensures { OnOk result (out.new.items ≡ out.old.items ++ with_number words.now number) }
@@ -17,7 +21,7 @@ pub fn push_words_number(out: &mut Vec<u8>, words: &[u8], number: u64) -> Result
     push_number(out, number)
 }
 
-/// Appends words and a code.
+/// Appends `words` and then the five digits of `code`.
 #[tactic(auto, unfolding(crate::specs::FaultWords::with_code))]
 fn push_words_code(out: &mut Vec<u8>, words: &[u8], code: CountyCode) -> Result<(), AllocError>
     ensures { OnOk result (out.new.items ≡ out.old.items ++ with_code words.now code) }
@@ -26,8 +30,11 @@ fn push_words_code(out: &mut Vec<u8>, words: &[u8], code: CountyCode) -> Result<
     push_code(out, code)
 }
 
-/// Appends the words of a grouping's fault: its kind with its group, its county or its seats. It fails only
-/// where a growth was refused.
+/// Appends the words of a grouping's `fault`: its kind with its group, its county or its seats.
+///
+/// # Errors
+///
+/// Returns `AllocError` if memory was refused.
 pub fn push_grouping_fault(out: &mut Vec<u8>, fault: GroupingFault) -> Result<(), AllocError>
     ensures { OnOk result (out.new.items ≡ out.old.items ++ grouping_fault_words fault) }
 {

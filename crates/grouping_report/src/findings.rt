@@ -10,7 +10,7 @@ use baf_auditor::{Finding, Findings, Label, Set};
 use county_codes::push_five_digits;
 use std::alloc::{AllocError, Global};
 
-/// Appends the fifteen digits of a block.
+/// Appends the fifteen digits of `block`.
 #[tactic(auto, unfolding(crate::specs::FindingsText::fifteen_digits))]
 fn push_block(out: &mut Vec<u8>, block: u64) -> Result<(), AllocError>
     ensures { OnOk result (out.new.items ≡ out.old.items ++ fifteen_digits block) }
@@ -20,7 +20,7 @@ fn push_block(out: &mut Vec<u8>, block: u64) -> Result<(), AllocError>
     push_five_digits(out, (block % 100_000) as u32)
 }
 
-/// Appends words and a block.
+/// Appends `words` and then the fifteen digits of `block`.
 #[tactic(auto, unfolding(crate::specs::FindingsText::with_block))]
 fn push_words_block(out: &mut Vec<u8>, words: &[u8], block: u64) -> Result<(), AllocError>
     ensures { OnOk result (out.new.items ≡ out.old.items ++ with_block words.now block) }
@@ -29,7 +29,7 @@ fn push_words_block(out: &mut Vec<u8>, words: &[u8], block: u64) -> Result<(), A
     push_block(out, block)
 }
 
-/// Appends a set's kind and number.
+/// Appends the kind and the number of `set`.
 fn push_set(out: &mut Vec<u8>, set: Set) -> Result<(), AllocError>
     ensures { OnOk result (out.new.items ≡ out.old.items ++ set_words set) }
 {
@@ -39,7 +39,7 @@ fn push_set(out: &mut Vec<u8>, set: Set) -> Result<(), AllocError>
     }
 }
 
-/// Appends words and a set.
+/// Appends `words` and then the kind and the number of `set`.
 #[tactic(auto, unfolding(crate::specs::FindingsText::with_set))]
 fn push_words_set(out: &mut Vec<u8>, words: &[u8], set: Set) -> Result<(), AllocError>
     ensures { OnOk result (out.new.items ≡ out.old.items ++ with_set words.now set) }
@@ -48,7 +48,7 @@ fn push_words_set(out: &mut Vec<u8>, words: &[u8], set: Set) -> Result<(), Alloc
     push_set(out, set)
 }
 
-/// Appends words and the label of a district.
+/// Appends `words` and then the `label` of a district.
 #[tactic(auto, unfolding(crate::specs::FindingsText::with_label))]
 fn push_words_label(out: &mut Vec<u8>, words: &[u8], label: &Label) -> Result<(), AllocError>
     ensures { OnOk result (out.new.items ≡ out.old.items ++ with_label words.now label.now) }
@@ -57,7 +57,7 @@ fn push_words_label(out: &mut Vec<u8>, words: &[u8], label: &Label) -> Result<()
     out.extend_from_slice(label.as_bytes())
 }
 
-/// Appends a district with two sets.
+/// Appends the finding of a district that has blocks in two sets.
 fn push_crossing(
     out: &mut Vec<u8>,
     label: &Label,
@@ -71,7 +71,7 @@ fn push_crossing(
     push_words_set(out, b" ", second)
 }
 
-/// Appends a set with its seats and its districts.
+/// Appends the finding of a set with its `seats` and its `districts`.
 fn push_wrong_number(
     out: &mut Vec<u8>,
     set: Set,
@@ -85,7 +85,7 @@ fn push_wrong_number(
     push_words_number(out, b" districts ", u64::from(districts))
 }
 
-/// Appends a district with its people.
+/// Appends the finding of a district with its `people`.
 fn push_size(out: &mut Vec<u8>, label: &Label, people: u64) -> Result<(), AllocError>
     ensures { OnOk result (out.new.items ≡ out.old.items ++ size_words label.now people) }
 {
@@ -93,7 +93,7 @@ fn push_size(out: &mut Vec<u8>, label: &Label, people: u64) -> Result<(), AllocE
     push_words_number(out, b" people ", people)
 }
 
-/// Appends a finding's kind, with what it names.
+/// Appends the kind of `finding`, with what it names.
 fn push_finding(out: &mut Vec<u8>, finding: &Finding) -> Result<(), AllocError>
     ensures { OnOk result (out.new.items ≡ out.old.items ++ finding_words finding.now) }
 {
@@ -113,7 +113,7 @@ fn push_finding(out: &mut Vec<u8>, finding: &Finding) -> Result<(), AllocError>
     }
 }
 
-/// Appends how many findings there are, and then a line for each.
+/// Appends the number of `findings`, and then a line for each.
 fn push_findings(out: &mut Vec<u8>, findings: &[Finding]) -> Result<(), AllocError>
     ensures { OnOk result (out.new.items ≡ out.old.items ++ text_of findings.now) }
 {
@@ -126,9 +126,12 @@ fn push_findings(out: &mut Vec<u8>, findings: &[Finding]) -> Result<(), AllocErr
     Ok(())
 }
 
-/// The text of findings: how many there are, and then a line for each, its kind with what it names. A block is written
-/// by the fifteen digits of its GEOCODE, a set as `group` or `withdrawn` with its number. It fails only where a growth
-/// was refused.
+/// Returns the text of `findings`: their number, and then a line for each, its kind with what it names. A block is
+/// written by the fifteen digits of its GEOCODE. A set is written as `group` or `withdrawn` with its number.
+///
+/// # Errors
+///
+/// Returns `AllocError` if memory was refused.
 pub fn findings_text(alloc: Global, findings: &Findings) -> Result<Vec<u8>, AllocError>
     ensures { IfOk result (λ v. v.items ≡ text_of findings.now.list.items) }
 {

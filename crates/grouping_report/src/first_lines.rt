@@ -8,7 +8,7 @@ use county_codes::Window;
 use county_problem::Problem;
 use std::alloc::AllocError;
 
-/// Appends the line of an allowance.
+/// Appends the line of a tolerance.
 fn push_named(out: &mut Vec<u8>, window: Window) -> Result<(), AllocError>
     ensures { OnOk result (out.new.items ≡ out.old.items ++ named_line window) }
 {
@@ -17,7 +17,7 @@ fn push_named(out: &mut Vec<u8>, window: Window) -> Result<(), AllocError>
     out.extend_from_slice(b"\n")
 }
 
-/// Appends the line of an allowance that is named.
+/// Appends the line of a tolerance, if it is named.
 #[tactic(auto, unfolding(crate::specs::FirstLines::window_line))]
 fn push_window(out: &mut Vec<u8>, window: Option<Window>) -> Result<(), AllocError>
     ensures { OnOk result (out.new.items ≡ out.old.items ++ window_line window) }
@@ -28,8 +28,11 @@ fn push_window(out: &mut Vec<u8>, window: Option<Window>) -> Result<(), AllocErr
     }
 }
 
-/// Appends the people, the chamber, and the allowance where it isn't one twentieth. It fails only where a growth was
-/// refused.
+/// Appends the people, the chamber, and the tolerance if it isn't one twentieth.
+///
+/// # Errors
+///
+/// Returns `AllocError` if memory was refused.
 pub(crate) fn push_first_lines(out: &mut Vec<u8>, problem: &Problem) -> Result<(), AllocError>
     ensures { OnOk result (out.new.items ≡ out.old.items ++ first_lines_of problem.now) }
 {

@@ -8,7 +8,7 @@ use county_codes::{Group, Grouping, push_codes};
 use field_lines::push_number;
 use std::alloc::{AllocError, Global};
 
-/// Appends the line of a group.
+/// Appends the line of `group`.
 #[tactic(auto, unfolding(crate::specs::GroupingText::group_fields))]
 fn push_group(out: &mut Vec<u8>, group: &Group) -> Result<(), AllocError>
     ensures text { OnOk result (out.new.items
@@ -21,8 +21,11 @@ fn push_group(out: &mut Vec<u8>, group: &Group) -> Result<(), AllocError>
     out.extend_from_slice(b"\n")
 }
 
-/// The text of a grouping: for each group a line of its seats and its codes, each code after a pipe. It fails
-/// only where a growth was refused.
+/// Returns the text of `grouping`. Each group has a line with its seats and its codes, each code after a pipe.
+///
+/// # Errors
+///
+/// Returns `AllocError` if memory was refused.
 pub fn grouping_text(alloc: Global, grouping: &Grouping) -> Result<Vec<u8>, AllocError>
     ensures text { IfOk result (λ v. v.items ≡ text_of grouping.now.groups.items) }
     ensures back { IfOk result (λ v. IsReadable grouping.now.groups.items

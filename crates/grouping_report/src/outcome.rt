@@ -15,16 +15,17 @@ pub enum Outcome {
     Best(Grouping),
     /// No grouping is lawful.
     Impossible,
-    /// The steps ran out: the best lawful grouping that was found, if any, and how many steps were taken.
+    /// The steps ran out. It has the best lawful grouping that was found, if there is one, and the number of steps
+    /// taken.
     Open(Option<Grouping>, u64),
 }
 
 impl Outcome {
-    /// An equal outcome.
+    /// Returns an equal outcome.
     ///
     /// # Errors
     ///
-    /// `AllocError` where memory was refused.
+    /// Returns `AllocError` if memory was refused.
     pub fn copy(&self) -> Result<Outcome, AllocError>
         ensures { IfOk result (λ outcome. SameOutcome outcome self.now) }
     {

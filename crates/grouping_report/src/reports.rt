@@ -16,8 +16,12 @@ use county_problem::Problem;
 use field_lines::push_number;
 use std::alloc::{AllocError, Global};
 
-/// Appends the people, the chamber, the allowance, the seats left and the number of counties.
-/// If the allowance is one twentieth, it has no line. It fails only where a growth was refused.
+/// Appends the people, the chamber, the tolerance, the seats left and the number of counties. If the tolerance is one
+/// twentieth, it has no line.
+///
+/// # Errors
+///
+/// Returns `AllocError` if memory was refused.
 pub fn push_head(out: &mut Vec<u8>, problem: &Problem) -> Result<(), AllocError>
     ensures { OnOk result (out.new.items ≡ out.old.items ++ head_lines problem.now) }
 {
@@ -27,7 +31,11 @@ pub fn push_head(out: &mut Vec<u8>, problem: &Problem) -> Result<(), AllocError>
     out.extend_from_slice(b"\n")
 }
 
-/// Appends what the answer is. It fails only where a growth was refused.
+/// Appends the line that tells what the `answer` is.
+///
+/// # Errors
+///
+/// Returns `AllocError` if memory was refused.
 pub fn push_answer(out: &mut Vec<u8>, answer: &[u8]) -> Result<(), AllocError>
     ensures { OnOk result (out.new.items ≡ out.old.items ++ answer_line answer.now) }
 {
@@ -36,7 +44,7 @@ pub fn push_answer(out: &mut Vec<u8>, answer: &[u8]) -> Result<(), AllocError>
     out.extend_from_slice(b"\n")
 }
 
-/// The size of the longest group, 0 without groups.
+/// Returns the number of counties of the longest of `groups`, or 0 if there are no groups.
 fn longest_group(groups: &[Group]) -> usize
     ensures { result ≡ longest_size (sets_of groups.now) }
 {
@@ -47,7 +55,7 @@ fn longest_group(groups: &[Group]) -> usize
     longest
 }
 
-/// How many groups have so many counties.
+/// Returns how many of `groups` have `size` counties.
 #[tactic(auto, using(crate::proofs::ReportLemmas::count_of_size))]
 fn groups_of_size(groups: &[Group], size: usize) -> usize
     ensures { result ≡ counts_by_size (sets_of groups.now) size }
@@ -58,7 +66,7 @@ fn groups_of_size(groups: &[Group], size: usize) -> usize
         .count()
 }
 
-/// Appends how many groups have each size from 1 to the longest, each number after a blank.
+/// Appends how many of `groups` have each size from 1 to the longest, each number after a blank.
 fn push_numbers(out: &mut Vec<u8>, groups: &[Group]) -> Result<(), AllocError>
     ensures { OnOk result (out.new.items
         ≡ out.old.items ++ numbers_to (counts_by_size (sets_of groups.now)) (longest_size (sets_of groups.now))) }
@@ -70,8 +78,12 @@ fn push_numbers(out: &mut Vec<u8>, groups: &[Group]) -> Result<(), AllocError>
     Ok(())
 }
 
-/// Appends how many groups have each size, up to the longest, or `none` without groups. It fails only where a growth
-/// was refused.
+/// Appends the line that tells how many of `groups` have each size, up to the longest. It says `none` if there are no
+/// groups.
+///
+/// # Errors
+///
+/// Returns `AllocError` if memory was refused.
 pub fn push_counts(out: &mut Vec<u8>, groups: &[Group]) -> Result<(), AllocError>
     ensures { OnOk result (out.new.items ≡ out.old.items ++ counts_line (sets_of groups.now)) }
 {
@@ -83,7 +95,7 @@ pub fn push_counts(out: &mut Vec<u8>, groups: &[Group]) -> Result<(), AllocError
     out.extend_from_slice(b"\n")
 }
 
-/// Appends the line of a group.
+/// Appends the line of `group` with its `number` and its `people`.
 fn push_group(out: &mut Vec<u8>, number: u64, people: u64, group: &Group) -> Result<(), AllocError>
     ensures { OnOk result (out.new.items ≡ out.old.items ++ group_line number group.now.seats people group.now.codes) }
 {
@@ -95,7 +107,7 @@ fn push_group(out: &mut Vec<u8>, number: u64, people: u64, group: &Group) -> Res
     out.extend_from_slice(b"\n")
 }
 
-/// Appends the lines of the groups.
+/// Appends the lines of `groups`, numbered from 1.
 fn push_groups(out: &mut Vec<u8>, problem: &Problem, groups: &[Group]) -> Result<(), AllocError>
     requires { (c : ℕ) → count_in c (sets_of groups.now) ≤ 1 }
     ensures { OnOk result (out.new.items ≡ out.old.items ++ group_lines (problem_of problem.now) 1 groups.now) }
@@ -107,7 +119,7 @@ fn push_groups(out: &mut Vec<u8>, problem: &Problem, groups: &[Group]) -> Result
     Ok(())
 }
 
-/// The report of an answer without a grouping: its two first parts alone.
+/// Returns the report of an `answer` without a grouping. It has the head and the answer alone.
 fn top_report(alloc: Global, problem: &Problem, answer: &[u8]) -> Result<Vec<u8>, AllocError>
     ensures { IfOk result (λ v. v.items ≡ head_lines problem.now ++ answer_line answer.now) }
 {
@@ -117,7 +129,7 @@ fn top_report(alloc: Global, problem: &Problem, answer: &[u8]) -> Result<Vec<u8>
     Ok(out)
 }
 
-/// The report of an answer with a lawful grouping.
+/// Returns the report of an `answer` with a lawful `grouping`.
 fn full_report(
     alloc: Global,
     problem: &Problem,
@@ -136,7 +148,7 @@ fn full_report(
     Ok(out)
 }
 
-/// `open after STEPS steps`.
+/// Returns the answer `open after STEPS steps`, where STEPS is `steps`.
 #[tactic(auto, unfolding(crate::specs::Report::open_words))]
 fn open_answer(alloc: Global, steps: u64) -> Result<Vec<u8>, AllocError>
     ensures { IfOk result (λ v. v.items ≡ open_words steps) }
@@ -147,7 +159,7 @@ fn open_answer(alloc: Global, steps: u64) -> Result<Vec<u8>, AllocError>
     Ok(out)
 }
 
-/// The report of a problem that is open after so many steps, none of which found a lawful grouping.
+/// Returns the report of a problem that is open after `steps` steps, which found no lawful grouping.
 fn open_report(alloc: Global, problem: &Problem, steps: u64) -> Result<Vec<u8>, AllocError>
     ensures { IfOk result (λ v. v.items
         ≡ (head_lines problem.now ++ answer_line (open_words steps)) ++ codes "grouping none\n") }
@@ -158,7 +170,7 @@ fn open_report(alloc: Global, problem: &Problem, steps: u64) -> Result<Vec<u8>, 
     Ok(out)
 }
 
-/// The report of a problem that is open after so many steps, which found a lawful grouping.
+/// Returns the report of a problem that is open after `steps` steps, which found a lawful `grouping`.
 fn found_report(
     alloc: Global,
     problem: &Problem,
@@ -172,17 +184,17 @@ fn found_report(
     full_report(alloc, problem, &answer, grouping)
 }
 
-/// The report of a problem: its people, its chamber, its allowance, the seats left and the number of its counties, and
-/// the answer. If the allowance is one twentieth, it has no line. If the outcome has a grouping, the counts of its
-/// groups by size from one county on follow. Then comes each group with its number from 1, its seats, its people and
-/// its counties. If it is open and has none, the line `grouping none` follows.
+/// Returns the report of `problem`: its people, its chamber, its tolerance, the seats left, the number of its counties,
+/// and the answer. If the tolerance is one twentieth, it has no line. If `outcome` has a grouping, a line follows with
+/// the counts of its groups by size, from one county on. Then comes each group with its number from 1, its seats, its
+/// people and its counties. If the outcome is open and has no grouping, the line `grouping none` follows.
 ///
-/// The grouping has to be lawful. That it is best, that none is lawful, or that so many steps were taken is reported as
-/// the outcome says it.
+/// The grouping has to be lawful. The outcome is reported as it is told: that the grouping is best, that no grouping is
+/// lawful, or how many steps were taken.
 ///
 /// # Errors
 ///
-/// `AllocError` where a growth was refused.
+/// Returns `AllocError` if memory was refused.
 pub fn report(alloc: Global, problem: &Problem, outcome: &Outcome) -> Result<Vec<u8>, AllocError>
     requires { NamesLawful problem.now outcome.now }
     ensures { IfOk result (λ v. v.items ≡ outcome_text problem.now outcome.now) }

@@ -11,7 +11,7 @@ use county_problem::Problem;
 use field_lines::push_number;
 use std::alloc::{AllocError, Global};
 
-/// Appends the least and the greatest number of seats.
+/// Appends the least and the greatest number of seats of `run`, or `none` if there is none.
 fn push_run(out: &mut Vec<u8>, run: Option<(u16, u16)>) -> Result<(), AllocError>
     ensures { OnOk result (out.new.items ≡ out.old.items ++ run_text run) }
 {
@@ -25,7 +25,7 @@ fn push_run(out: &mut Vec<u8>, run: Option<(u16, u16)>) -> Result<(), AllocError
     }
 }
 
-/// Appends the bounds of a district.
+/// Appends the least and the greatest people of a district, or `none` if the first bound is above the second.
 fn push_bounds(out: &mut Vec<u8>, bounds: (u64, u64)) -> Result<(), AllocError>
     ensures { OnOk result (out.new.items ≡ out.old.items ++ bounds_text bounds) }
 {
@@ -38,7 +38,7 @@ fn push_bounds(out: &mut Vec<u8>, bounds: (u64, u64)) -> Result<(), AllocError>
     }
 }
 
-/// Appends the line of a county.
+/// Appends the line of `county`, with the `run` of seats that its people suit.
 #[tactic(auto, unfolding(crate::specs::SizeTable::county_line))]
 fn push_county(out: &mut Vec<u8>, county: County, run: Option<(u16, u16)>) -> Result<(), AllocError>
     ensures { OnOk result (out.new.items ≡ out.old.items ++ county_line county.code county.people run) }
@@ -51,7 +51,7 @@ fn push_county(out: &mut Vec<u8>, county: County, run: Option<(u16, u16)>) -> Re
     out.extend_from_slice(b"\n")
 }
 
-/// Appends the line of the bounds of a district.
+/// Appends the line of the `bounds` of a district.
 #[tactic(auto, unfolding(crate::specs::SizeTable::district_line))]
 fn push_district(out: &mut Vec<u8>, bounds: (u64, u64)) -> Result<(), AllocError>
     ensures { OnOk result (out.new.items ≡ out.old.items ++ district_line bounds) }
@@ -61,7 +61,7 @@ fn push_district(out: &mut Vec<u8>, bounds: (u64, u64)) -> Result<(), AllocError
     out.extend_from_slice(b"\n")
 }
 
-/// Appends the lines of counties, each with the seats that its people suit.
+/// Appends the lines of `counties`, each with the seats that its people suit.
 fn push_counties(
     out: &mut Vec<u8>,
     problem: &Problem,
@@ -77,7 +77,7 @@ fn push_counties(
     Ok(())
 }
 
-/// Appends the size table of a problem.
+/// Appends the size table of `problem`.
 #[tactic(auto, unfolding(crate::specs::SizeTable::size_text))]
 fn push_table(out: &mut Vec<u8>, problem: &Problem) -> Result<(), AllocError>
     ensures { OnOk result (out.new.items ≡ out.old.items ++ size_text problem.now) }
@@ -87,9 +87,13 @@ fn push_table(out: &mut Vec<u8>, problem: &Problem) -> Result<(), AllocError>
     push_counties(out, problem, problem.counties())
 }
 
-/// The size table of a problem: its people, its chamber, its allowance and the bounds of a district.
-/// For each county by code its people follow, and the least and the greatest number of seats that they suit, or `none`.
-/// If the allowance is one twentieth, it has no line.
+/// Returns the size table of `problem`: its people, its chamber, its tolerance and the bounds of a district. If the
+/// tolerance is one twentieth, it has no line. Then comes each county, by code, with its people. The least and the
+/// greatest number of seats that they suit follow, or `none`.
+///
+/// # Errors
+///
+/// Returns `AllocError` if memory was refused.
 pub fn size_table(alloc: Global, problem: &Problem) -> Result<Vec<u8>, AllocError>
     ensures { IfOk result (λ v. v.items ≡ size_text problem.now) }
 {

@@ -7,7 +7,7 @@ ghost use Rattle.grouping_table.specs.Quoting.{line_text};
 use csv::WriterBuilder;
 use std::alloc::{AllocError, Global};
 
-/// The text of a record, as the crate `csv` writes it.
+/// Returns the text of a record of these `fields`, as the crate `csv` writes it.
 fn record_of(alloc: Global, fields: &[&[u8]]) -> Result<Vec<u8>, csv::Error>
     ensures { IfOk result (λ v. v.items ≡ row_text default_writer (map (λ f. f.now) fields.now)) }
 {
@@ -19,12 +19,12 @@ fn record_of(alloc: Global, fields: &[&[u8]]) -> Result<Vec<u8>, csv::Error>
     }
 }
 
-/// Returns the line of `fields`, of which there are two or more: a comma stands between two fields, and a line feed at
+/// Returns the line of `fields`, of which there are two or more. A comma stands between two fields, and a line feed at
 /// the end. A field stands between quotes if it has a comma, a quote, a carriage return or a line feed.
 ///
 /// # Errors
 ///
-/// `AllocError` where a growth was refused.
+/// Returns `AllocError` if memory was refused.
 pub fn csv_line(alloc: Global, fields: &[&[u8]]) -> Result<Vec<u8>, AllocError>
     requires { 2 ≤ length fields.now }
     ensures { IfOk result (λ v. v.items ≡ line_text (map (λ f. f.now) fields.now)) }

@@ -100,7 +100,7 @@ fn push_groupings(
 ///
 /// # Errors
 ///
-/// `AllocError` where a growth was refused.
+/// Returns `AllocError` if memory was refused.
 pub fn groupings_table(
     alloc: Global,
     listed: &[NamedCounty],

@@ -33,28 +33,28 @@ impl Model for LabelledSet {
 }
 
 impl LabelledSet {
-    /// The label.
+    /// Returns the label.
     pub(crate) fn label(&self) -> &[u8]
         ensures { result.now ≡ self.now.label }
     {
         self.label.as_slice()
     }
 
-    /// The seats.
+    /// Returns the seats.
     pub(crate) fn seats(&self) -> u16
         ensures { result ≡ self.now.seats }
     {
         self.seats
     }
 
-    /// The people.
+    /// Returns the people.
     pub(crate) fn people(&self) -> u128
         ensures { result ≡ self.now.people }
     {
         self.people
     }
 
-    /// Whether the set has the county of the code.
+    /// Returns whether the set has the county of this `code`.
     fn has(&self, code: CountyCode) -> bool
         ensures { result ≡ contains self.now.codes code }
     {
@@ -62,7 +62,8 @@ impl LabelledSet {
     }
 }
 
-/// The people of the listed counties in a set. A `u128` holds the people of any list of counties.
+/// Returns the people of the `listed` counties in a set of these `codes`. A `u128` holds the people of any list of
+/// counties.
 fn people_inside(listed: &[NamedCounty], codes: &[CountyCode]) -> u128
     ensures { result ≡ people_of_set (unnamed_counties (map county_name listed.now)) codes.now }
 {
@@ -75,7 +76,7 @@ fn people_inside(listed: &[NamedCounty], codes: &[CountyCode]) -> u128
     people
 }
 
-/// The set under a mark and a number.
+/// Returns the set of `codes`, labelled with `mark` and `number`. Its people are those of its `listed` counties.
 fn numbered_set(
     alloc: Global,
     listed: &[NamedCounty],
@@ -98,7 +99,7 @@ fn numbered_set(
     })
 }
 
-/// Appends the withdrawn sets under `W` and their numbers.
+/// Appends the `withdrawn` sets, labelled with `W` and their numbers from 1.
 fn push_withdrawn(
     sets: &mut Vec<LabelledSet>,
     listed: &[NamedCounty],
@@ -116,7 +117,7 @@ fn push_withdrawn(
     Ok(())
 }
 
-/// Appends the groups under their numbers.
+/// Appends `groups`, labelled with their numbers from 1.
 fn push_groups(
     sets: &mut Vec<LabelledSet>,
     listed: &[NamedCounty],
@@ -134,7 +135,7 @@ fn push_groups(
     Ok(())
 }
 
-/// The withdrawn sets and then the groups, each numbered from 1.
+/// Returns the `withdrawn` sets and then the `groups`, each numbered from 1.
 pub(crate) fn labelled_sets(
     alloc: Global,
     listed: &[NamedCounty],
@@ -150,7 +151,7 @@ pub(crate) fn labelled_sets(
     Ok(sets)
 }
 
-/// The first set that has the county of the code.
+/// Returns the first of `sets` that has the county of this `code`, if one has it.
 pub(crate) fn set_of(sets: &[LabelledSet], code: CountyCode) -> Option<&LabelledSet>
     ensures { option_copied result ≡ set_of_code sets.now code }
 {

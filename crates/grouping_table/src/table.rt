@@ -14,7 +14,7 @@ use itoa::Buffer;
 use pl94_counties::NamedCounty;
 use std::alloc::{AllocError, Global};
 
-/// The line of a county.
+/// Returns the line of the county `listed`, with the set among `sets` that has it.
 fn county_line(
     alloc: Global,
     sets: &[LabelledSet],
@@ -42,7 +42,7 @@ fn county_line(
     }
 }
 
-/// Appends the lines of counties.
+/// Appends the lines of the counties `listed`.
 fn push_counties(
     out: &mut Vec<u8>,
     sets: &[LabelledSet],
@@ -58,15 +58,16 @@ fn push_counties(
     Ok(())
 }
 
-/// The table of the listed counties, a comma-separated text (RFC 4180): a header, and for each county its code, its
-/// name, its people, and the label, the seats and the people of its set. The label of a group is its number from 1. The
-/// label of a withdrawn set is `W` and its number from 1. If no set has the county, its last three fields are empty.
+/// Returns the table of the `listed` counties, a comma-separated text (RFC 4180). It has a header, and a line for each
+/// county: its code, its name, its people, and the label, the seats and the people of its set. The label of a group is
+/// its number from 1. The label of a withdrawn set is `W` and its number from 1. If no set has the county, its last
+/// three fields are empty.
 ///
 /// The counties stand in the order in which they are given. `read_counties` gives counties by code.
 ///
 /// # Errors
 ///
-/// `AllocError` where a growth was refused.
+/// Returns `AllocError` if memory was refused.
 pub fn county_table(
     alloc: Global,
     listed: &[NamedCounty],

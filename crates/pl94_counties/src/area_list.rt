@@ -20,7 +20,12 @@ use field_lines::{LineReader, Lines, LinesFrom, Source};
 use std::alloc::Global;
 use std::collections::BTreeMap;
 
-/// Puts an area beside those of the lines before.
+/// Puts an area with its `code` and its `people` beside the areas `found` on the lines before.
+///
+/// # Errors
+///
+/// Returns the kind of a double line if the code stood before, `TooMany` if `found` is full, and `Memory` if memory was
+/// refused.
 fn put_area(
     found: &mut BTreeMap<u64, u32>,
     area: Area,
@@ -39,7 +44,12 @@ fn put_area(
     }
 }
 
-/// Adds what a line of geo gives to the areas of the lines before.
+/// Adds what `line` of geo gives to the areas `found` on the lines before. `records` are the people of each record of
+/// segment 1. A line that isn't for such an area of the state adds nothing.
+///
+/// # Errors
+///
+/// Returns the first kind of fault that the line has, or `Memory` if memory was refused.
 pub(crate) fn add_line(
     found: &mut BTreeMap<u64, u32>,
     area: Area,
@@ -57,7 +67,8 @@ pub(crate) fn add_line(
     }
 }
 
-/// The people of each area of the state by its code, or the first fault of geo.
+/// Returns the people of each area of the state by its code, as the lines of geo give them, or the first fault of geo.
+/// `records` are the people of each record of segment 1. `notes` note the lines that were read, and the one at fault.
 fn join<F, L: LinesFrom<F>>(
     alloc: Global,
     lines: &mut L,
@@ -97,7 +108,7 @@ fn join<F, L: LinesFrom<F>>(
     }
 }
 
-/// The areas that were found; none is a fault.
+/// Returns the areas that were `found`, unchanged. If there are none, that is a fault on line 0 of geo.
 fn some_areas(found: BTreeMap<u64, u32>, area: Area) -> Result<BTreeMap<u64, u32>, Pl94Fault>
     ensures value { GivesUnless IsPl94Memory (λ m. m.entries) result (some_areas area found.entries) }
     ensures of_text { IfErr result (λ f. IsPl94OfText f.kind) }
@@ -113,8 +124,8 @@ fn some_areas(found: BTreeMap<u64, u32>, area: Area) -> Result<BTreeMap<u64, u32
     }
 }
 
-/// The people of each area of a state by its code, from the lines of geo and of segment 1. Segment 1 is read whole, and
-/// then geo; that there is no area is a fault only where no line is.
+/// Reads the people of each area of a state by its code, from the lines of geo and of segment 1. Segment 1 is read
+/// whole, and then geo. If the state has no such area, that is a fault only if no line is at fault.
 fn read_lines<F, L: LinesFrom<F>, G, M: LinesFrom<G>>(
     alloc: Global,
     area: Area,
@@ -140,7 +151,7 @@ fn read_lines<F, L: LinesFrom<F>, G, M: LinesFrom<G>>(
     some_areas(found, area)
 }
 
-/// The people of each area of a state by its code, or the first fault of the texts of geo and of segment 1.
+/// Returns the people of each area of a state by its code, or the first fault of the texts of geo and of segment 1.
 fn read_texts(
     alloc: Global,
     area: Area,
@@ -167,7 +178,7 @@ fn read_texts(
     )
 }
 
-/// The people of each area of a state by its code, from the texts of geo and of segment 1.
+/// Reads the people of each area of a state by its code, in ascending order, from the texts of geo and of segment 1.
 pub(crate) fn read_areas(
     alloc: Global,
     area: Area,
@@ -188,7 +199,7 @@ pub(crate) fn read_areas(
     }
 }
 
-/// The people of each area of a state by its code, from the sources of geo and of segment 1.
+/// Reads the people of each area of a state by its code, in ascending order, from the sources of geo and of segment 1.
 pub(crate) fn read_areas_from<G: Source, S: Source>(
     alloc: Global,
     area: Area,
@@ -225,7 +236,7 @@ pub(crate) fn read_areas_from<G: Source, S: Source>(
     )
 }
 
-/// The fault of memory that was refused.
+/// Returns the fault that says that memory was refused.
 pub(crate) fn no_memory() -> Pl94Fault
     ensures { IsPl94Memory result }
 {

@@ -28,7 +28,7 @@ pub struct Block {
     pub people: u32,
 }
 
-/// The entries as blocks.
+/// Returns the entries as blocks, in the order of their codes.
 fn list(alloc: Global, found: &BTreeMap<u64, u32>) -> Result<Vec<Block>, AllocError>
     ensures { IfOk result (λ v. v.items ≡ map (λ e. block_of e.0 e.1) found.now.entries) }
 {
@@ -41,14 +41,16 @@ fn list(alloc: Global, found: &BTreeMap<u64, u32>) -> Result<Vec<Block>, AllocEr
         .collect(alloc)
 }
 
-/// The blocks of a state by code, with their people, from the files of which `read_counties` gives the counties. A
-/// block line of geo has SUMLEV (field 3) `750`, GEOCOMP and STATE as a county line has them; its code is GEOCODE
-/// (field 10, fifteen digits), and its COUNTY isn't looked at. Its people are found as a county's are.
+/// Reads the blocks of a state with their people, ascending by code, from the files from which `read_counties` reads
+/// the counties. A block line of geo has SUMLEV (field 3) `750`. Its GEOCOMP and its STATE are those of a county line.
+/// Its code is GEOCODE (field 10, fifteen digits), and its COUNTY isn't looked at. Its people are found as those of a
+/// county are.
 ///
 /// # Errors
 ///
-/// As `read_counties`, with `DoubleBlock` and `NoBlocks` in the place of `DoubleCounty` and `NoCounties`. `TooMany`
-/// answers at the block line after the 2,000,000th, where none of the kinds before it does.
+/// Returns the faults of `read_counties`, with `DoubleBlock` and `NoBlocks` in the place of `DoubleCounty` and
+/// `NoCounties`. Returns `TooMany` at the block line after the 2,000,000th, if that line has no fault of the kinds
+/// before it.
 pub fn read_blocks(
     alloc: Global,
     geo: &[u8],
@@ -72,14 +74,14 @@ pub fn read_blocks(
     Ok(blocks)
 }
 
-/// Returns the blocks of a state as `read_blocks` gives them, from the sources of geo and of segment 1. Neither has
-/// failed. Segment 1 is read first, and geo only where segment 1 has no fault. What is answered is that of each pair of
-/// texts which begin with what the sources gave. `notes` have what the reading noted.
+/// Reads the blocks of a state, as `read_blocks` does, from the sources of geo and of segment 1. Neither source has
+/// failed before. Segment 1 is read first. Geo is read only if segment 1 has no fault. The answer holds for each pair
+/// of texts that begin with what the sources gave. `notes` have what the reading noted.
 ///
 /// # Errors
 ///
-/// As `read_blocks`, for the bytes that the sources gave. Where one failed, the fault is `Lower(ReadFault)`, with its
-/// file and the line that was being read.
+/// Returns the faults of `read_blocks` for the bytes that the sources gave. If a source failed, returns
+/// `Lower(ReadFault)` with its file and the line that was being read.
 pub fn read_blocks_from<G: Source, S: Source>(
     alloc: Global,
     geo: &mut G,

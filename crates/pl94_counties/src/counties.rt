@@ -21,7 +21,7 @@ use field_lines::Source;
 use std::alloc::{AllocError, Global};
 use std::collections::BTreeMap;
 
-/// The county of a code, if it is one.
+/// Returns the county of this `code` with its `people`, or `None` if `code` isn't the code of a county.
 fn county(code: u64, people: u32) -> Option<County>
     ensures { result ≡ county_in code people }
 {
@@ -29,7 +29,8 @@ fn county(code: u64, people: u32) -> Option<County>
     Some(County { code, people })
 }
 
-/// The entries as counties.
+/// Returns the entries as counties, in the order of their codes. An entry whose code isn't that of a county is left
+/// out.
 pub(crate) fn list(alloc: Global, found: &BTreeMap<u64, u32>) -> Result<Vec<County>, AllocError>
     ensures { IfOk result (λ v. v.items ≡ filter_map (λ e. county_in e.0 e.1) found.now.entries) }
 {
@@ -39,21 +40,22 @@ pub(crate) fn list(alloc: Global, found: &BTreeMap<u64, u32>) -> Result<Vec<Coun
         .collect(alloc)
 }
 
-/// The counties of a state by code, with their people, from two files of the 2020 Census
-/// Redistricting Data (Public Law 94-171): the geographic header and segment 1. Both are cut texts
-/// (`Lines` of `field_lines`), and a line is cut into fields at each pipe.
+/// Reads the counties of a state with their people, ascending by code. They come from two files of the 2020 Census
+/// Redistricting Data (Public Law 94-171): the geographic header and segment 1. Both are cut texts (`Lines` of
+/// `field_lines`), and a line is cut into fields at each pipe.
 ///
-/// A county line of geo has SUMLEV (field 3) `050`, GEOCOMP (field 5) `00` and STATE (field 13) equal
-/// to the state's two digits, byte by byte. Its code is STATE and then COUNTY (field 15, three
-/// digits). Its people are P0010001 (field 6) of the line of segment 1 that has its LOGRECNO (field 8
-/// of geo, field 5 of segment 1), compared as a number. Every other line of geo is skipped once it has
-/// fifteen fields. That two lines of geo share a LOGRECNO isn't tested.
+/// A county line of geo has SUMLEV (field 3) `050` and GEOCOMP (field 5) `00`. Its STATE (field 13) equals the two
+/// digits of `state`, byte by byte. Its code is STATE and then COUNTY (field 15, three digits). Its people are P0010001
+/// (field 6) of the line of segment 1 that has its LOGRECNO (field 8 of geo, field 5 of segment 1), compared as a
+/// number. Every other line of geo is skipped once it has fifteen fields. Whether two lines of geo share a LOGRECNO
+/// isn't tested.
 ///
 /// # Errors
 ///
-/// Segment 1 is read whole, and then geo. The first line at fault answers, on it the first of the
-/// kinds in the order of `Pl94Kind`; a line that can't be read (`Lower`) answers after the lines before
-/// it. `NoCounties` comes only where no line is at fault, and `Memory` in the place of any fault.
+/// Segment 1 is read whole, and then geo. Returns the fault of the first line at fault. If that line has several, the
+/// first kind in the order of `Pl94Kind` is returned. A line that can't be read (`Lower`) is a fault after those of the
+/// lines before it. `NoCounties` is returned only if no line is at fault. `Memory` may stand in the place of any
+/// answer.
 pub fn read_counties(
     alloc: Global,
     geo: &[u8],
@@ -76,14 +78,14 @@ pub fn read_counties(
     Ok(counties)
 }
 
-/// Returns the counties of a state as `read_counties` gives them, from the sources of geo and of segment 1. Neither has
-/// failed. Segment 1 is read first, and geo only where segment 1 has no fault. What is answered is that of each pair of
-/// texts which begin with what the sources gave. `notes` have what the reading noted.
+/// Reads the counties of a state, as `read_counties` does, from the sources of geo and of segment 1. Neither source has
+/// failed before. Segment 1 is read first. Geo is read only if segment 1 has no fault. The answer holds for each pair
+/// of texts that begin with what the sources gave. `notes` have what the reading noted.
 ///
 /// # Errors
 ///
-/// As `read_counties`, for the bytes that the sources gave. Where one failed, the fault is `Lower(ReadFault)`, with its
-/// file and the line that was being read.
+/// Returns the faults of `read_counties` for the bytes that the sources gave. If a source failed, returns
+/// `Lower(ReadFault)` with its file and the line that was being read.
 pub fn read_counties_from<G: Source, S: Source>(
     alloc: Global,
     geo: &mut G,

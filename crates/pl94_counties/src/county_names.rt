@@ -59,14 +59,14 @@ impl Model for LineName {
 }
 
 impl LineName {
-    /// The NAME.
+    /// Returns the NAME.
     fn name(&self) -> &str
         ensures { result.now ≡ self.now.name }
     {
         self.name.as_str()
     }
 
-    /// Whether the line is for the county of the code.
+    /// Returns whether the line is for the county of this `code`.
     fn is_of(&self, code: u64) -> bool
         ensures { result ≡ (self.now.code == code) }
     {
@@ -74,7 +74,7 @@ impl LineName {
     }
 }
 
-/// Bytes as text, if they are UTF-8.
+/// Returns `bytes` as text, or `None` if they aren't UTF-8.
 fn text_of(bytes: &[u8]) -> Option<&str>
     ensures { MatchOption result (is_utf8 bytes.now ≡ false) (λ s. (s.now ≡ bytes.now) × (is_utf8 bytes.now ≡ true)) }
 {
@@ -84,7 +84,7 @@ fn text_of(bytes: &[u8]) -> Option<&str>
     }
 }
 
-/// The NAME of a line.
+/// Returns the NAME of `line`. It is empty if the line has no such field.
 fn name_on(line: &[u8]) -> &[u8]
     ensures { result.now ≡ name_on_line line.now }
 {
@@ -95,7 +95,7 @@ fn name_on(line: &[u8]) -> &[u8]
     }
 }
 
-/// Adds a code and a name.
+/// Appends `code` and `name` to `names`.
 fn push_text(names: &mut Vec<LineName>, code: u64, name: &str) -> Result<(), AllocError>
     ensures { OnOk result (names.new.items ≡ names.old.items ++ code_name code name.now ∷ []) }
 {
@@ -104,7 +104,11 @@ fn push_text(names: &mut Vec<LineName>, code: u64, name: &str) -> Result<(), All
     Ok(())
 }
 
-/// Adds a code and a name, if the name is UTF-8.
+/// Appends `code` and `name` to `names`, if `name` is UTF-8. `number` is the number of the line.
+///
+/// # Errors
+///
+/// Returns `BadName` with the line's number if `name` isn't UTF-8. Returns the fault of memory if memory was refused.
 fn push_name(
     names: &mut Vec<LineName>,
     code: u64,
@@ -126,7 +130,12 @@ fn push_name(
     }
 }
 
-/// Adds the code and the name of a line, if the line is for a county.
+/// Appends the code and the name of `line` to `names`, if the line is for a county of the state. `number` is the number
+/// of the line.
+///
+/// # Errors
+///
+/// Returns `BadName` with the line's number if the name isn't UTF-8. Returns the fault of memory if memory was refused.
 pub(crate) fn add_name(
     names: &mut Vec<LineName>,
     state: u8,
@@ -146,14 +155,14 @@ pub(crate) fn add_name(
     }
 }
 
-/// The first line that is for the county of the code.
+/// Returns the first line that is for the county of this `code`, if there is one.
 fn line_for(names: &[LineName], code: u64) -> Option<&LineName>
     ensures { option_copied result ≡ find (λ n. n.code == code) names.now }
 {
     names.iter().find(|name| name.is_of(code))
 }
 
-/// The name of a code. It is empty if no line is for the county of the code.
+/// Returns the name of the county of this `code`. It is empty if no line is for that county.
 fn name_of(names: &[LineName], code: CountyCode) -> &str
     ensures { result.now ≡ name_of_code names.now code }
 {
@@ -163,7 +172,7 @@ fn name_of(names: &[LineName], code: CountyCode) -> &str
     }
 }
 
-/// Counties with their names.
+/// Returns `counties` in their order, each with its name.
 pub(crate) fn with_names(
     alloc: Global,
     counties: &[County],

@@ -26,7 +26,7 @@ use field_lines::{LineReader, Lines, LinesFrom, Source};
 use std::alloc::{AllocError, Global};
 use std::collections::BTreeMap;
 
-/// The counties that lines of geo give.
+/// The counties that the lines of geo give.
 #[derive(Drop)]
 struct FoundCounties {
     /// The people of each county by its code.
@@ -35,8 +35,8 @@ struct FoundCounties {
     names: Vec<LineName>,
 }
 
-/// Adds what the line of a number of geo gives to the `people` and the `names` of the lines before. `records` are the
-/// people of each record of segment 1. The name is looked at last.
+/// Adds what `line` of geo gives to the `people` and the `names` of the lines before. `number` is the number of the
+/// line. `records` are the people of each record of segment 1. The name is looked at last.
 fn add_named_line(
     people: &mut BTreeMap<u64, u32>,
     names: &mut Vec<LineName>,
@@ -59,8 +59,8 @@ fn add_named_line(
     }
 }
 
-/// Finds the counties of the state with the names on their lines, or the first fault of geo. `records` are the people
-/// of each record of segment 1.
+/// Returns the counties of the state with the names on their lines, or the first fault of geo. `records` are the people
+/// of each record of segment 1. `notes` note the lines that were read, and the one at fault.
 fn join_named<F, L: LinesFrom<F>>(
     alloc: Global,
     lines: &mut L,
@@ -104,7 +104,7 @@ fn join_named<F, L: LinesFrom<F>>(
     }
 }
 
-/// Returns the counties that were found; none is a fault.
+/// Returns the counties that were `found`, unchanged. If there are none, that is a fault on line 0 of geo.
 fn some_found(found: FoundCounties) -> Result<FoundCounties, NamedFault>
     ensures value { GivesUnless IsNoMemory entries_shown result (some_named (entries_shown found)) }
     ensures read { IfErr result IsNoReadFailure }
@@ -121,7 +121,7 @@ fn some_found(found: FoundCounties) -> Result<FoundCounties, NamedFault>
 }
 
 /// Finds the counties of a state with the names on their lines, from the lines of geo and of segment 1. Segment 1 is
-/// read whole, and then geo once. That there is no county is a fault only where no line is at fault.
+/// read whole, and then geo once. If the state has no county, that is a fault only if no line is at fault.
 fn find_counties<F, L: LinesFrom<F>, G, M: LinesFrom<G>>(
     alloc: Global,
     geo: &mut L,
@@ -153,7 +153,7 @@ fn find_counties<F, L: LinesFrom<F>, G, M: LinesFrom<G>>(
     some_found(found)
 }
 
-/// Returns the counties that were found, with their names.
+/// Returns the counties that were `found`, each with its name, in the order of their codes.
 fn named(alloc: Global, found: &FoundCounties) -> Result<Vec<NamedCounty>, AllocError>
     ensures names { IfOk result (λ v. map county_name v.items ≡ named_by found.now.names.items (filter_map (λ e. county_in e.0 e.1) found.now.people.entries)) }
     ensures same { IfOk result (λ v. map (λ k. k.county) v.items ≡ filter_map (λ e. county_in e.0 e.1) found.now.people.entries) }
@@ -222,14 +222,14 @@ fn find_in_sources<G: Source, S: Source>(
     )
 }
 
-/// Returns the counties of a state as `read_counties` gives them, each with its NAME: field 88 of its line of geo, or
-/// nothing if the line has fewer fields.
+/// Reads the counties of a state as `read_counties` does, each with its NAME. That is field 88 of its line of geo. The
+/// name is empty if the line has fewer fields.
 ///
 /// # Errors
 ///
-/// `Files` has the fault that `read_counties` answers. If the NAME of a county isn't UTF-8, `BadName` has its line. The
-/// first line of geo at fault answers. `BadName` comes after every other fault of its line, and after each fault of
-/// segment 1.
+/// Returns `Files` with the fault that `read_counties` returns. Returns `BadName` with the line if the NAME of a county
+/// isn't UTF-8. The first line of geo at fault is reported. `BadName` comes after every other fault of its line, and
+/// after each fault of segment 1.
 pub fn read_named_counties(
     alloc: Global,
     geo: &[u8],
@@ -251,14 +251,15 @@ pub fn read_named_counties(
     }
 }
 
-/// Returns the counties of a state with their names, as `read_named_counties` gives them, from the sources of geo and
-/// of segment 1. Neither has failed. Segment 1 is read first, and geo once, only where segment 1 has no fault. What is
-/// answered is that of each pair of texts which begin with what the sources gave. `notes` have what the reading noted.
+/// Reads the counties of a state with their names, as `read_named_counties` does, from the sources of geo and of
+/// segment 1. Neither source has failed before. Segment 1 is read first. Geo is read once, and only if segment 1 has no
+/// fault. The answer holds for each pair of texts that begin with what the sources gave. `notes` have what the reading
+/// noted.
 ///
 /// # Errors
 ///
-/// As `read_named_counties`, for the bytes that the sources gave. Where one failed, the fault is `Files` of
-/// `Lower(ReadFault)`, with its file and the line that was being read.
+/// Returns the faults of `read_named_counties` for the bytes that the sources gave. If a source failed, returns `Files`
+/// of `Lower(ReadFault)` with its file and the line that was being read.
 pub fn read_named_counties_from<G: Source, S: Source>(
     alloc: Global,
     geo: &mut G,

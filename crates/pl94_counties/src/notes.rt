@@ -22,7 +22,7 @@ pub struct CensusNotes {
     pub segment_state: Option<[u8; 2]>,
     /// The people of the state's own line. `None` if geo was not read up to such a line, or segment 1 lacks its record.
     pub state_people: Option<u32>,
-    /// The bytes of the line at fault, at most 65,536. There are none if no line is at fault, or memory was refused.
+    /// The bytes of the line at fault, at most 65,536. There are none if no line is at fault, or if memory was refused.
     pub line: Vec<u8>,
     has_geo_line: bool,
     has_segment_line: bool,
@@ -49,7 +49,7 @@ fn state_record(line: &[u8], state: u8) -> Option<u32> {
 }
 
 impl CensusNotes {
-    /// Makes notes of nothing so far.
+    /// Creates notes that have nothing so far.
     pub fn new(alloc: Global) -> Self {
         CensusNotes {
             geo_state: None,
@@ -94,14 +94,14 @@ impl CensusNotes {
         }
     }
 
-    /// Notes the bytes of a line whose fields have a fault of `kind`.
+    /// Notes the bytes of a line whose fields have a fault of `kind`, unless it is `Memory`.
     pub(crate) fn note_fault(&mut self, kind: Pl94Kind, line: &[u8]) {
         if !matches!(kind, Pl94Kind::Memory) {
             self.note_bad_line(line);
         }
     }
 
-    /// Notes the bytes of a line that is at fault, also by its name.
+    /// Notes the bytes of a line with this `fault` of its fields or of its name. A fault of memory notes nothing.
     pub(crate) fn note_named_fault(&mut self, fault: NamedFault, line: &[u8]) {
         match fault {
             NamedFault::Files(fault) => self.note_fault(fault.kind, line),
