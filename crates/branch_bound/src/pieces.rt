@@ -34,7 +34,7 @@ use search_groups::PartLists;
 use state_groups::{State, copied_state};
 use std::alloc::{AllocError, Global};
 
-/// Whether no group has more counties than the limit.
+/// Returns whether no group of the `grouping` has more than `limit` counties.
 fn is_within(grouping: &Grouping, limit: u16) -> bool
     ensures { IsTrue result ↔ HasGroupsWithin limit grouping.now.groups.items }
 {
@@ -46,7 +46,7 @@ fn is_within(grouping: &Grouping, limit: u16) -> bool
     true
 }
 
-/// The piece of a greater grouping.
+/// Returns the answer for a greater grouping that was `found`.
 fn found_piece(round: &Round, found: Grouping) -> Piece
     ensures piece { (p : ProblemLaw) (s : StateValue) → IsBetter p (round_of round.now) s found
         → IsPiece p (round_of round.now) s result }
@@ -59,7 +59,7 @@ fn found_piece(round: &Round, found: Grouping) -> Piece
     }
 }
 
-/// The piece of an outcome.
+/// Returns the answer for an `outcome` of the search.
 fn piece_of(round: &Round, outcome: SearchOutcome) -> Piece
     ensures piece { (p : ProblemLaw) (s : StateValue) → IsOutcome p (round_of round.now) s outcome
         → IsPiece p (round_of round.now) s result }
@@ -71,7 +71,7 @@ fn piece_of(round: &Round, outcome: SearchOutcome) -> Piece
     }
 }
 
-/// The position at which the search of a piece begins: nothing is known of any group.
+/// Returns the position at which the search of a piece begins. Nothing is known of any group there.
 fn begun<C: CountySet>(input: &SearchInput<C>, state: &State<C>) -> Result<Position<C>, AllocError>
     requires input { IsSearchInput C.PLACES C.test input.now }
     requires placed { IsPlaced (graph_places input.now.graph.now) C.test state.now }
@@ -87,7 +87,7 @@ fn begun<C: CountySet>(input: &SearchInput<C>, state: &State<C>) -> Result<Posit
     })
 }
 
-/// What is answered of a piece at whose state the search branches at the county at the place.
+/// Returns the answer for a piece at whose state the search branches at the county at `place`.
 fn branched_piece<C: CountySet>(
     input: &SearchInput<C>,
     place: u16,
@@ -116,7 +116,7 @@ fn branched_piece<C: CountySet>(
     }
 }
 
-/// What a desk answers of a piece of a wide round.
+/// Returns the answer for a piece of a wide round, whose state is `state`.
 fn wide_piece<C: CountySet>(
     input: &SearchInput<C>,
     state: &State<C>,
@@ -145,7 +145,7 @@ fn wide_piece<C: CountySet>(
     }
 }
 
-/// What is answered of a piece of a plain round.
+/// Returns the answer for a piece of a plain round, whose state is `state`.
 fn plain_piece<C: CountySet>(
     input: &SearchInput<C>,
     state: &State<C>,
@@ -167,7 +167,7 @@ fn plain_piece<C: CountySet>(
     }
 }
 
-/// What is answered of a piece by an order of counties.
+/// Returns the answer for a piece by the round's order of counties.
 fn ordered_piece<C: CountySet>(
     alloc: Global,
     ordered: &Ordered,
@@ -197,17 +197,19 @@ fn ordered_piece<C: CountySet>(
     }
 }
 
-/// What a desk answers of a piece of a round: a proof tree of its state, a greater grouping that agrees with the state,
-/// or that the steps ran out.
+/// Searches a piece of a `round`, whose state is `state`. Returns a proof tree of the state, a greater grouping that
+/// agrees with the state, or that the steps ran out.
 ///
-/// The round's order names each county of the problem once, its limit is at most 256, and the state is one of the round
+/// The round's order names each county of the problem once, and its limit is at most 256. The state is one of the round
 /// by the places of the order. If the steps ran out in a wide round, the answer has the branch that the search made
-/// first, so that the piece can be split there. A step is a state that is entered, a set that is grown, a group that is
-/// tested for being live, or a look for the list of a part.
+/// first, so that the piece can be split there. It has none if the steps ran out before that branch.
+///
+/// A step is a state that is entered, a set that is grown, a group that is tested for being live, or a look for the
+/// list of a part. All steps are taken from `steps`: at least one, unless the steps ran out.
 ///
 /// # Errors
 ///
-/// Where memory was refused.
+/// Returns `AllocError` if memory was refused.
 pub fn prove_piece<C: CountySet>(
     alloc: Global,
     problem: &Problem,

@@ -24,7 +24,7 @@ use place_sets::CountySet;
 use state_groups::{State, closed_state, groups_at, raise_place};
 use std::alloc::AllocError;
 
-/// The groups of the takes of a branch at the county at the place: all up to the limit.
+/// Returns the groups of the takes of a branch at the county at `place`: all up to the round's limit.
 fn plain_groups<C: CountySet>(
     input: &SearchInput<C>,
     state: &State<C>,
@@ -65,7 +65,7 @@ fn plain_groups<C: CountySet>(
     }
 }
 
-/// Puts a branch at the county at the place, with its takes, behind the others.
+/// Appends to `branches` a branch at the county at `place`, with its `takes`.
 fn push_branch<C: CountySet>(
     input: &SearchInput<C>,
     place: u16,
@@ -88,7 +88,7 @@ fn push_branch<C: CountySet>(
     Ok(())
 }
 
-/// The take of a group with its proof tree, or a better grouping found where the group is closed.
+/// Returns the take of the `group` with its proof tree, or a better grouping that was found where the group is closed.
 #[cycle(proving_plain)]
 fn prove_plain_take<C: CountySet>(
     input: &SearchInput<C>,
@@ -118,7 +118,7 @@ fn prove_plain_take<C: CountySet>(
     taken_of(input, group, outcome)
 }
 
-/// The takes of a branch at the county at the place, or a better grouping found where the group of one is closed.
+/// Returns the takes of a branch at the county at `place`, or a better grouping that was found in one of them.
 #[cycle(proving_plain)]
 fn prove_plain_takes<C: CountySet>(
     input: &SearchInput<C>,
@@ -155,12 +155,12 @@ fn prove_plain_takes<C: CountySet>(
     Ok(Takes::Proved(takes))
 }
 
-/// A proof tree at the state, or a lawful grouping that agrees with the state and is greater than the round's target.
-/// It goes as deep as takes nest.
+/// Returns a proof tree at the `state`, or a lawful grouping that agrees with the state and is greater than the round's
+/// target. The recursion goes as deep as takes nest.
 ///
 /// # Errors
 ///
-/// `StepLimit` only where all steps are used, `Memory` only where a growth was refused.
+/// Returns `StepLimit` only if all steps are used, and `Memory` only if memory was refused.
 #[cycle(proving_plain)]
 pub(crate) fn prove_plain<C: CountySet>(
     input: &SearchInput<C>,

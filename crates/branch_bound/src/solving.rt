@@ -1,4 +1,4 @@
-//! The desk: rounds of the search, each from the state at which nothing is closed.
+//! The solver: rounds of the search, each from the state at which nothing is closed.
 
 ghost use Rattle.std.specs.Prelude.{◌≡◌, ℕ, ◌≤◌, ◌<◌, Some, None, length, All, IfOk, OnOk, IsErrOf};
 ghost use Rattle.std.specs.List.Sorted.{IsStrictlyIncreasing};
@@ -38,8 +38,10 @@ use std::alloc::{AllocError, Global};
 /// The limit of the first round, in counties.
 const FIRST_LIMIT: u16 = 2;
 
-/// The limit of the round after one of that limit: rounds of small groups come first, since they are quick and their
-/// better groupings spare the later ones most of the work.
+/// Returns the limit of the round after one with this `limit`, in counties: a greater one, up to all counties.
+///
+/// Rounds of small groups come first, since they are quick, and their better groupings spare the later rounds most of
+/// the work.
 fn limit_after(limit: u16) -> u16
     ensures above { limit ≤ most_counties → limit < result }
 {
@@ -49,7 +51,7 @@ fn limit_after(limit: u16) -> u16
     }
 }
 
-/// How many counties the largest group of a grouping has.
+/// Returns how many counties the largest group of the `grouping` has, or 0 if it has no group.
 fn largest_size(grouping: &Grouping) -> u16
     requires few { All (λ m. length m.codes ≤ most_counties) grouping.now.groups.items }
     ensures bound { result ≤ most_counties }
@@ -62,9 +64,9 @@ fn largest_size(grouping: &Grouping) -> u16
     largest
 }
 
-/// A round of the search, up to groups of so many counties. It names the problem's allowance.
+/// Returns a round of the search, up to groups of `limit` counties. It names the problem's tolerance.
 ///
-/// If it has no target, it looks for any lawful grouping.
+/// Without a `target`, the round looks for any lawful grouping. Returns an error if memory was refused.
 fn round_for(
     alloc: Global,
     ordered: &Ordered,
@@ -86,7 +88,7 @@ fn round_for(
     })
 }
 
-/// The search of a round, from the state at which nothing is closed.
+/// Searches the `round` from the state at which nothing is closed.
 fn prove_first<C: CountySet, W: Watcher>(
     graph: &CountyGraph<C>,
     round: &Round,
@@ -110,7 +112,8 @@ fn prove_first<C: CountySet, W: Watcher>(
     prove(&input, first, lists, watcher, steps)
 }
 
-/// A round of the search: a proof tree of it, or a greater grouping.
+/// Searches a round up to groups of `limit` counties. Returns a proof tree of it, or a grouping that is greater than the
+/// `target`.
 fn prove_round<C: CountySet, W: Watcher>(
     graph: &CountyGraph<C>,
     target: &Grouping,
@@ -146,7 +149,8 @@ fn prove_round<C: CountySet, W: Watcher>(
     outcome
 }
 
-/// The answer that a grouping is best, which a tree proves in the round whose limit is the size of its largest group.
+/// Returns the answer that the `target` is best. The `tree` proves it in the round whose `limit` is the size of the
+/// target's largest group.
 fn best(
     alloc: Global,
     ordered: &Ordered,
@@ -172,8 +176,10 @@ fn best(
     Ok(Answer::Best(target, Certificate { round, tree }))
 }
 
-/// The answer that a search comes to from a lawful grouping: rounds with each greater grouping as the next target, and
-/// with larger and larger limits, until the limit is the size of the target's largest group.
+/// Returns the answer to which the search comes from `first`, a lawful grouping.
+///
+/// Each greater grouping that is found is the next target. The limits of the rounds grow, until the limit is the size of
+/// the target's largest group.
 fn improve<C: CountySet, W: Watcher>(
     graph: &CountyGraph<C>,
     first: Grouping,
@@ -213,7 +219,7 @@ fn improve<C: CountySet, W: Watcher>(
     }
 }
 
-/// The certificate that no grouping is lawful, by a leaf that is valid where nothing is closed.
+/// Returns the certificate that no grouping is lawful, by a `leaf` that is valid where nothing is closed.
 fn impossible(alloc: Global, ordered: &Ordered, round: Round, leaf: Leaf) -> Certificate
     requires value { round_of round ≡ round_over (problem_of ordered.now.problem) ordered.now.order 0 None Plain }
     requires codes { AreCodes round.order }
@@ -227,7 +233,7 @@ fn impossible(alloc: Global, ordered: &Ordered, round: Round, leaf: Leaf) -> Cer
     Certificate { round, tree }
 }
 
-/// The lawful grouping of the connected parts, at a state at which nothing is closed and where no leaf is valid.
+/// Returns the lawful grouping of the connected parts, at a `state` at which nothing is closed and no leaf is valid.
 fn parts_found<C: CountySet>(
     graph: &CountyGraph<C>,
     round: &Round,
@@ -246,8 +252,9 @@ fn parts_found<C: CountySet>(
     Ok(First::Found(found))
 }
 
-/// The first lawful grouping, or a certificate that none is lawful, by a state at which nothing is closed. The round is
-/// one without a target, in which groups of no size are closed.
+/// Returns the first lawful grouping, or a certificate that none is lawful, by a `state` at which nothing is closed.
+///
+/// The round of such a certificate has no target, and its limit is 0.
 fn first_at<C: CountySet>(graph: &CountyGraph<C>, state: &State<C>) -> Result<First, AllocError>
     requires graph { IsGraph C.test C.PLACES graph.now }
     requires placed { IsPlaced (graph_places graph.now) C.test state.now }
@@ -267,7 +274,7 @@ fn first_at<C: CountySet>(graph: &CountyGraph<C>, state: &State<C>) -> Result<Fi
     }
 }
 
-/// The first lawful grouping, that of the connected parts, or a certificate that none is lawful.
+/// Returns the first lawful grouping, which is that of the connected parts, or a certificate that none is lawful.
 fn first_found<C: CountySet>(graph: &CountyGraph<C>) -> Result<First, AllocError>
     requires graph { IsGraph C.test C.PLACES graph.now }
     ensures { IfOk result (IsFirst (graph_problem graph.now) (graph_order graph.now)) }
@@ -276,7 +283,7 @@ fn first_found<C: CountySet>(graph: &CountyGraph<C>) -> Result<First, AllocError
     first_at(graph, &state)
 }
 
-/// What a desk answers of counties in ascending order of their codes, where a step is left.
+/// Returns what the solver answers of counties in ascending order of their codes. A step is left at least.
 fn solve_ordered<C: CountySet, W: Watcher>(
     alloc: Global,
     ordered: &Ordered,
@@ -296,11 +303,11 @@ fn solve_ordered<C: CountySet, W: Watcher>(
     }
 }
 
-/// What `solve` says, by any form of sets of places that has room for the counties of the problem.
+/// Returns what `solve` answers, by any form of sets of places that has room for the counties of the `problem`.
 ///
 /// # Errors
 ///
-/// Where memory was refused.
+/// Returns `AllocError` if memory was refused.
 pub fn solve_over<C: CountySet, W: Watcher>(
     alloc: Global,
     problem: &Problem,
@@ -328,12 +335,13 @@ pub fn solve_over<C: CountySet, W: Watcher>(
     }
 }
 
-/// What `solve` says, where a watcher is told how far the search is: each round as it begins, and each state that is
-/// entered. What is promised holds for each watcher.
+/// Returns what `solve` answers, and tells a `watcher` how far the search is.
+///
+/// The watcher is told each round as it begins, and each state that is entered. What is promised holds for each watcher.
 ///
 /// # Errors
 ///
-/// Where memory was refused.
+/// Returns `AllocError` if memory was refused.
 pub fn solve_watched<W: Watcher>(
     alloc: Global,
     problem: &Problem,
@@ -351,19 +359,23 @@ pub fn solve_watched<W: Watcher>(
     solve_over::<Places, W>(alloc, problem, step_limit, watcher)
 }
 
-/// The best grouping of a problem with its certificate, or that none is lawful with a certificate of that, or that it
-/// is open since the steps ran out, with the best grouping that was found.
+/// Returns the best grouping of the `problem` with its certificate.
+///
+/// Best is a lawful grouping whose counts of groups by size are the greatest, where the count of the smallest size is
+/// compared first (*Stephenson v. Bartlett*, in the form of Carter et al.). The other answers are:
+///
+/// - `Impossible` with a certificate, if no grouping is lawful. With a `step_limit` of 1 or more it is answered exactly
+///   then.
+/// - `Open` with the best grouping that was found, if all steps were taken. With a `step_limit` of 0 it is always the
+///   answer, without a grouping.
 ///
 /// A step is a state that is entered, a set that is grown, a group that is tested for being live, or a look for the
-/// list of a part. With a limit of 0 the answer is always open; with a limit of 1 or more `Impossible` is answered
-/// exactly where no grouping is lawful. Best is the grouping whose counts of groups by size are the greatest, the count
-/// of the smallest size first (Stephenson v. Bartlett, in the form of Carter et al.). The certificate of Best is a wide
-/// one, that of Impossible a plain one; a text spells each. The certificate of Best is complete: its ends are the sets
-/// of all best groupings.
+/// list of a part. The certificate of Best is in the wide language, and that of Impossible in the plain one. A text
+/// spells each. The certificate of Best is complete: its ends are the sets of all best groupings.
 ///
 /// # Errors
 ///
-/// Where memory was refused.
+/// Returns `AllocError` if memory was refused.
 pub fn solve(alloc: Global, problem: &Problem, step_limit: u64) -> Result<Answer, AllocError>
     ensures answer { IfOk result (IsSolveAnswer (problem_of problem.now) step_limit) }
     ensures best { IfOk result (SolveIsRight (problem_of problem.now)) }

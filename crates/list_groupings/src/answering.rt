@@ -85,19 +85,22 @@ fn read_listing(
     listing_of(alloc, problem, text, &certificate, target, &wanted)
 }
 
-/// What the text of a certificate, plain or wide, says of all best groupings of the problem.
+/// Returns what the `text` of a certificate, plain or wide, shows of all best groupings of the `problem`.
 ///
-/// `All` lists them: each grouping is best, no two have the same sets of counties, and each best grouping has the sets
-/// of one that is listed. The codes of a group ascend, the groups of a grouping stand by size and then by codes, and
-/// the groupings by their lists of groups, the lesser first. The seats of a grouping are those of `allot` over its
-/// groups in their order. `Open` says that the target is best, but that the certificate doesn't show which other
-/// groupings are: a bound leaf that doesn't fall short of the target's counts stands where a county is left or where no
-/// seats add up. It gives the first such leaf with its line, from 1. `Impossible`, `No` and `Budget` are what `check`
-/// answers with the same budget.
+/// - `All` lists them: each grouping is best, no two have the same sets of counties, and each best grouping has the sets
+///   of one that is listed. The codes of a group ascend. The groups of a grouping are ordered by size and then by codes.
+///   The groupings are ordered by their lists of groups, the lesser first. The seats of a grouping are those that
+///   `allot` gives to its groups in their order.
+/// - `Open` says that the target is best, but that the certificate doesn't show which other groupings are. It gives the
+///   first leaf that hides some, with its line, counted from 1: a bound leaf that doesn't fall short of the target's
+///   counts, where a county is left or no seats add up.
+/// - `Impossible`, `No` and `Budget` are what `check` answers with the same `budget`. As there, any other answer than
+///   `Budget` comes only if the lines in front of the text's end, or of the first fault of its words, and one more are
+///   no more than the budget.
 ///
 /// # Errors
 ///
-/// Where memory was refused.
+/// Returns `AllocError` if memory was refused.
 pub fn all_best(
     alloc: Global,
     problem: &Problem,
