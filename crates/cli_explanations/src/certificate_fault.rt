@@ -54,7 +54,7 @@ fn target_seats(text: &[u8]) -> u64 {
     seats
 }
 
-/// Returns the tolerance of a line `window PART WHOLE`.
+/// Returns the tolerance of a line `window PART WHOLE`, or `None` if a number is missing or out of range.
 fn window_on(line: &[u8]) -> Option<Window> {
     let part = number_in(field_at(line, b' ', 1)?, 0, 500)?;
     let whole = number_in(field_at(line, b' ', 2)?, 1, 1_000)?;

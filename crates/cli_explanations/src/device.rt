@@ -33,8 +33,7 @@ impl Unmoved<'_> {
     }
 }
 
-/// Explains why a `file` could not be read. It is a file of a case if `is_case` is true, and otherwise one of a
-/// command.
+/// Explains why `file` could not be read. If `is_case` is true it is a file of a case, and otherwise one of a command.
 ///
 /// # Errors
 ///
@@ -57,7 +56,7 @@ pub(crate) fn explain_unloaded(
     )
 }
 
-/// Explains why a `file` could not be stored.
+/// Explains why `file` could not be stored.
 ///
 /// # Errors
 ///
@@ -80,8 +79,8 @@ pub(crate) fn explain_unstored(out: &mut String, file: Unmoved<'_>) -> Result<()
     }
 }
 
-/// Appends the text of an answer, which stands here if a file of the run could not be stored. Appends nothing if
-/// `report` isn't UTF-8.
+/// Appends `report`, the text of the answer of a run that could not store one of its files. Appends nothing if the text
+/// isn't UTF-8.
 ///
 /// # Errors
 ///

@@ -86,7 +86,7 @@ pub struct Ended<'a> {
     pub is_at_terminal: bool,
 }
 
-/// Parses `words` as a command. The command isn't known if they are none.
+/// Parses `words` as a command. If they aren't one, the command is unknown.
 fn options_of<'a>(alloc: Global, words: &'a [&'a str]) -> Options<'a> {
     Options {
         command: parse(alloc, words).ok(),
@@ -169,7 +169,7 @@ fn explain_ending(
     }
 }
 
-/// Warns if the adjacency file has not one pair of listed counties.
+/// Warns if the adjacency file hasn't a single pair of listed counties.
 fn warn_of_pairs(out: &mut String, options: Options<'_>, end: &End) -> Result<(), AllocError> {
     if end.has_pairs != Some(false) {
         return Ok(());
@@ -198,10 +198,10 @@ fn warn(
     warn_of_older_files(rt, out, command, end)
 }
 
-/// Returns what a person is told of a run that has ended, in whole lines that each begin with `countygroups: `. A run
-/// that went well has only its warnings told, unless standard output is a terminal. Then the groups of the answer, or
-/// the findings of an audit, follow with the names of counties. If a store failed after a search, the report of the
-/// search follows as it is.
+/// Returns what a person is told of a run that has ended, in whole lines that each begin with `countygroups: `. Of a
+/// run that went well only warnings are told, unless standard output is a terminal. At a terminal, the groups of the
+/// answer follow with the names of their counties, or the findings of an audit by kind. If a store failed after a
+/// search, the report of the search follows as it is.
 ///
 /// # Errors
 ///

@@ -29,7 +29,7 @@ pub(crate) fn cut_line(text: &[u8], number: u64) -> Option<&[u8]> {
 }
 
 /// Returns the line at fault as a cut text has it, where `number` counts from 1. Returns `None` if the whole file is at
-/// fault, or if the line isn't known. The lines of a reader are cut already, except that one that is too long has its
+/// fault, or if the line isn't known. A reader's lines are cut already, except that a line that is too long keeps its
 /// mark.
 pub(crate) fn line_at_fault(text: &FaultText, number: u64) -> Option<&[u8]> {
     match text {

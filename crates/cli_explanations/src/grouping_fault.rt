@@ -121,8 +121,8 @@ fn seats_in(grouping: &Grouping) -> u64 {
     seats
 }
 
-/// Says that the groups of the file of `option` have other `seats` in all than the chamber leaves for them. Says
-/// nothing if the numbers are equal.
+/// Says that the groups in the file of `option` have `seats` seats in all, and how many the chamber leaves for them.
+/// Says nothing if the numbers are equal.
 ///
 /// # Errors
 ///

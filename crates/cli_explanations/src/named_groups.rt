@@ -208,8 +208,8 @@ fn has_groups(command: CommandWords<'_>) -> bool {
     )
 }
 
-/// Appends what a person at a terminal is told after an answer. This is the groups of a report or of a listing with the
-/// names of their counties, or the findings of an audit by kind.
+/// Appends what a person at a terminal is told after an answer. This is either the groups of a report or of a listing
+/// with the names of their counties, or the findings of an audit by kind.
 ///
 /// # Errors
 ///

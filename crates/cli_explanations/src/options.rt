@@ -85,7 +85,7 @@ pub(crate) fn path_in<'a>(command: CommandWords<'a>, option: FileOption) -> Opti
     }
 }
 
-/// The words of a run. They are those of a command, or aren't known, as those of a case.
+/// The words of a run. They are those of a command, or they are unknown, as at a case.
 #[derive(Clone, Copy)]
 pub(crate) struct Options<'a> {
     /// The command, if it is known.

@@ -92,8 +92,7 @@ fn explain_state(out: &mut String, text: &[u8]) -> Result<(), AllocError> {
     }
 }
 
-/// Returns the census file that an `audit` could not read a second time because it is a pipe. Returns `None` if the
-/// fault is another one.
+/// Returns the census file that an `audit` could not read a second time because it is a pipe. Returns `None` otherwise.
 fn spent_file<'a>(
     rt: &impl Files,
     options: Options<'a>,

@@ -93,8 +93,8 @@ fn device_fault(failures: &mut u64) -> ShelfFault
     }
 }
 
-/// Returns the fault that an `error` of the system at a store stands for: `Memory` if memory was refused. Any other
-/// error is counted in `failures` as a failure of the device, even if the folder of the name isn't there.
+/// Returns the fault that an `error` of the system at a store stands for. It is `Memory` if memory was refused. Any
+/// other error is counted in `failures` as a failure of the device, even if the folder of the name isn't there.
 fn store_fault(error: &Error, failures: &mut u64) -> ShelfFault
     ensures counted { CountsFault failures.old failures.new result }
     ensures missing { result ≡ Missing → failures.old ≡ 2 ^ 64 - 1 }
@@ -106,7 +106,7 @@ fn store_fault(error: &Error, failures: &mut u64) -> ShelfFault
     }
 }
 
-/// Returns the fault that an `error` of the system at a load stands for: `Missing` if the file isn't there, and
+/// Returns the fault that an `error` of the system at a load stands for. It is `Missing` if the file isn't there, and
 /// otherwise the fault that it would be at a store.
 fn load_fault(error: &Error, failures: &mut u64) -> ShelfFault
     ensures { CountsFault failures.old failures.new result }
@@ -130,8 +130,8 @@ fn read_fault(fault: WholeFault, failures: &mut u64) -> ShelfFault
 }
 
 impl<R: Files + AllocGlobal> FileShelf<R> {
-    /// Reads the file of this `name` whole. It stops once more than `MAX_FILE` bytes have come, and doesn't read a file
-    /// at all that the system says is larger.
+    /// Reads the file of this `name` whole. Reading stops once more than `MAX_FILE` bytes have come. A file that the
+    /// system says is larger isn't read at all.
     fn read_file(&mut self, alloc: Global, name: &str) -> Result<Vec<u8>, ShelfFault>
         ensures small { IfOk result (λ v. vec_len v ≤ 1073741824) }
         ensures counted { CountsFailures self.old.failures self.new.failures result }
@@ -210,9 +210,9 @@ impl<R: Files + AllocGlobal> Shelf for FileShelf<R> {
     }
 
     /// Puts a file under `name` whole or not at all. The bytes go to a new file beside it, in the same folder. The new
-    /// file's name is `name` with `.part` behind it. If a file has that name, it is the first free one with `.part2`,
-    /// `.part3` or `.part4`. The new file is renamed once the device has all bytes, and has the permissions of a new
-    /// file. A link of the name is replaced.
+    /// file's name is `name` with `.part` behind it. If a file has that name already, the first free one of the
+    /// suffixes `.part2`, `.part3` and `.part4` is taken. The new file is renamed once the device has all bytes, and
+    /// has the permissions of a new file. A link of the name is replaced.
     ///
     /// At a fault, what stood under the name is as it was, and the new file is removed if that can be done. A name that
     /// is a folder, a device or a read-only file is a failure of the device.

@@ -170,8 +170,8 @@ fn rest_behind<'a>(bytes: &'a [u8], given: &[u8]) -> Option<&'a [u8]>
 }
 
 /// Returns where a reader stood that gave the bytes `given` of `file`: at the end of the file if `has_ended` is true.
-/// Returns `Missing` if there is no such file, if it doesn't begin with these bytes, or if the reader ended before its
-/// end.
+/// Returns `Missing` if there is no such file, if it doesn't begin with these bytes, or if the reader ended before the
+/// end of the file.
 fn end_in(file: Option<&MemoryFile>, given: &[u8], has_ended: bool) -> Result<ReadEnd, ShelfFault>
     ensures told { ReaderEndsIn (bytes_in file.entry) given.now result }
     ensures end { IfOk result (λ end. end ≡ read_end has_ended) }

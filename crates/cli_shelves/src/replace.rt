@@ -6,7 +6,8 @@ use std::io::{Error, ErrorKind, Write};
 use std::rt::Files;
 use std::{fs, io};
 
-/// The suffixes of the new file's name, behind the wanted name. The first one is taken whose name no file has.
+/// The suffixes that follow the wanted name in the name of the new file. The first one is taken that gives a name which
+/// no file has.
 const SUFFIXES: &[&str] = &[".part", ".part2", ".part3", ".part4"];
 
 /// Returns why no file may be put under `name`: `IsADirectory` for the name of a folder, and `PermissionDenied` for

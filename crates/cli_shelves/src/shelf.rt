@@ -14,7 +14,7 @@ use field_lines::Source;
 use std::alloc::{AllocError, Global};
 use thiserror::Error;
 
-/// The most bytes that a file that is read whole may have.
+/// The most bytes that a file may have if it is to be read whole.
 pub const MAX_FILE: usize = 1_073_741_824;
 
 /// Why a shelf gave or took nothing.
@@ -71,7 +71,7 @@ pub trait Shelf {
     ///
     /// # Errors
     ///
-    /// Returns `Device` only if the count of failures rose in this call; that count never falls. If the shelf tells its
+    /// Returns `Device` only if the count of failures rose in this call. That count never falls. If the shelf tells its
     /// files, `Missing` means that there is none of this name, or that the device failed with its count at 2^64 - 1.
     /// `TooLarge` then means that the file has more than 1,073,741,824 bytes. No larger file is ever given. Returns
     /// `Memory` if memory was refused.
@@ -103,10 +103,10 @@ pub trait Shelf {
     ///
     /// # Errors
     ///
-    /// Returns `Device` if the reader's last pull failed, and the count of failures rose. Returns `Missing` only if the
-    /// pull failed with the count at 2^64 - 1, or if the shelf tells its files and what the reader gave doesn't fit the
-    /// file of this name. It doesn't fit if there is no such file, if the file doesn't begin with what the reader gave,
-    /// or if the file goes on where the reader ended.
+    /// Returns `Device` if the reader's last pull failed, and the count of failures rose. Returns `Missing` if that
+    /// pull failed with the count at 2^64 - 1. If the shelf tells its files, `Missing` may also mean that what the
+    /// reader gave doesn't fit them. Then there is no file of this name, or it doesn't begin with those bytes, or it
+    /// goes on where the reader ended. `Missing` has no other cause.
     fn give_back(&mut self, name: &str, reader: Self::Reader) -> Result<ReadEnd, ShelfFault>
         ensures read { IsRead (contents self.old) name.now (Self.Reader.given reader).bytes result }
         ensures end { IfOk result (λ end. end ≡ read_end (Self.Reader.given reader).ended) }

@@ -25,7 +25,7 @@ pub trait Sink {
     ///
     /// # Errors
     ///
-    /// Returns `SinkFault` if they could not be written. It isn't told how many of them went out.
+    /// Returns `SinkFault` if they could not be written. How many of them went out isn't told.
     fn put(&mut self, bytes: &[u8]) -> Result<(), SinkFault>
         ensures bytes { OnOk result (Appends (contents self.old) (contents self.new) bytes.now) }
         ensures failed { is_failed self.new ≡ is_err result };

@@ -94,7 +94,7 @@ fn kind_of_store(answer: &Result<(), ShelfFault>) -> EventKind
     }
 }
 
-/// Returns `sums` with one more behind them, made of `kind`, `name` and `sum`. Returns `None` if memory was refused.
+/// Returns `sums` with one more at the end, made of `kind`, `name` and `sum`. Returns `None` if memory was refused.
 fn with_sum(
     mut sums: Vec<EventSum>,
     kind: EventKind,
@@ -114,7 +114,7 @@ fn with_sum(
     }
 }
 
-/// Returns `sums` with one more behind them, if sums are kept. Returns `None` if they aren't, or if memory was refused.
+/// Returns `sums` with one more at the end, if sums are kept. Returns `None` if they aren't, or if memory was refused.
 fn with_sum_if_kept(
     sums: Option<Vec<EventSum>>,
     kind: EventKind,

@@ -5,7 +5,7 @@ use std::alloc::AllocFailed;
 use thiserror::Error;
 
 /// What is wrong with a file whose lines have county codes: adjacency, links, withdrawn sets or a grouping. The first
-/// four are faults of a line, and the first of them that a line has is reported.
+/// four are faults of a line. Of several on one line, the first is told.
 #[derive(Clone, Copy, Debug, PartialEq, Eq, Error)]
 pub enum CodeLineKind {
     /// The line has fewer fields than its file asks for.

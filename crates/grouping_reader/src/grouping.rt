@@ -35,9 +35,9 @@ fn add_group(alloc: Global, groups: &mut Vec<Group>, line: &[u8]) -> Result<(), 
 ///
 /// # Errors
 ///
-/// Returns the fault of the first line at fault, and of that line the first kind: `TooFewFields` if it has fewer than 2
-/// fields, then `BadSeats`, then `BadCode`. A line that can't be read (`Lower`) is reported after the faults of the
-/// lines before it. `Memory` may stand in the place of any answer, if memory was refused.
+/// Returns the fault of the first line at fault. Of several kinds on that line the first is told: `TooFewFields` if it
+/// has fewer than 2 fields, then `BadSeats`, then `BadCode`. A line that can't be read (`Lower`) is told after the
+/// faults of the lines before it. `Memory` may come in the place of any answer if memory was refused.
 pub fn read_grouping(alloc: Global, bytes: &[u8]) -> Result<Grouping, CodeLineFault>
     ensures { GivesUnless IsCodeLineMemory (λ g. g.groups.items) result (grouping_list bytes.now) }
 {

@@ -43,9 +43,9 @@ fn codes_in(alloc: Global, line: &[u8]) -> Result<Codes, CodeLineKind>
 ///
 /// # Errors
 ///
-/// Returns `TooFewFields` if the line has fewer than 2 fields, else `BadSeats` if field 1 isn't such a number, and else
-/// `BadCode` if a later field isn't five digits. Returns `Memory` only if memory was refused, in the place of `BadCode`
-/// or of an answer. It never comes in the place of the first two.
+/// Returns `TooFewFields` if the line has fewer than 2 fields. Otherwise returns `BadSeats` if field 1 isn't such a
+/// number, and then `BadCode` if a later field isn't five digits. Returns `Memory` only if memory was refused. It may
+/// take the place of `BadCode` or of an answer, but never that of `TooFewFields` or `BadSeats`.
 #[tactic(auto, unfolding(crate::specs::SeatLine::seat_line))]
 pub fn seats_and_codes(
     alloc: Global,

@@ -22,8 +22,7 @@ pub fn copy_sets<C: CountySet>(alloc: Global, sets: &[C]) -> Result<Vec<C>, Allo
     Ok(copies)
 }
 
-/// Returns `sets` in order of size, and sets of one size in the order of their lists of places. No list of places is
-/// made.
+/// Returns `sets` sorted by size, and sets of one size by their lists of places. No list of places is made.
 pub fn sorted<C: CountySet>(sets: Vec<C>) -> Result<Vec<C>, AllocError>
     ensures same { IfOk result (λ v. IsPermutation sets.items v.items) }
     ensures sorted { IfOk

@@ -1,6 +1,6 @@
 //! Worked lists: all best groupings of small problems and of North Carolina 2020, by the certificates that the solver
-//! writes. The gate runs this program and compares what it prints with `stdout`. For the small problems that was
-//! written by hand from the rules, and for North Carolina by `bench/best_list.py`.
+//! writes. The gate runs this program and compares what it prints with `stdout`. For the small problems, `stdout` was
+//! written by hand from the rules. For North Carolina, `bench/best_list.py` wrote it.
 #![tactic(auto)]
 
 mod carolina;

@@ -59,12 +59,12 @@ const NO_SEAT_COUNT: Sketch = Sketch {
     chamber: 2,
 };
 
-/// A certificate of the stranding path that is the wide leaf alone. The leaf comes to the target's counts with three
-/// counties left.
+/// A certificate of the stranding path that consists of the wide leaf alone. The leaf comes to the target's counts with
+/// three counties left.
 const LONE_LEAF: &[u8] =
     b"county-groups wide certificate 1\norder 37001 37003 37005\nlimit 3\ntarget 1\ngroup 2 37001 37003 37005\nbound 3\nweigh 1\nweigh 1\nroom\nend\n";
 
-/// Returns the code that has the last three digits `number`.
+/// Returns the county code whose last three digits are `number`.
 fn code(number: u32) -> Result<CountyCode> {
     CountyCode::new(37_000_u32.saturating_add(number)).context("a code")
 }

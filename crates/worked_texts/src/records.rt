@@ -5,12 +5,12 @@ use cli_record_text::{
     FileRead, FileStored, ReadFile, Run, RunningSum, StoreOption, answer_of, record_text, sum_of,
 };
 
-/// Returns `from` as a text of its own.
+/// Returns the text of `from` as a `String`.
 fn text(rt: &HostRuntime, from: &str) -> Result<String> {
     Ok(String::from_str(rt.alloc(), from)?)
 }
 
-/// Returns the words of a command as texts of their own.
+/// Returns the words of a command as a list of `String`s.
 fn words(rt: &HostRuntime, from: &[&str]) -> Result<Vec<String>> {
     let mut list = Vec::new(rt.alloc());
     for word in from {
