@@ -18,7 +18,7 @@ const NO_SUCH_PIECE: &str =
 const SMALL_BUDGET: &str =
     "countygroups: the steps of --budget ran out before the board was opened: give a greater number, or a smaller --depth\n";
 
-/// What helps against a fault of the board.
+/// Returns what helps against a `fault` of the board.
 fn remedy(fault: &BoardFault) -> &'static str {
     match fault {
         BoardFault::DepthOutOfRange => "--depth is 0 to 16",
@@ -39,7 +39,7 @@ fn remedy(fault: &BoardFault) -> &'static str {
 ///
 /// # Errors
 ///
-/// `AllocError` where memory was refused.
+/// Returns `AllocError` if memory was refused.
 pub(crate) fn explain_board(
     out: &mut String,
     options: Options<'_>,
@@ -60,11 +60,11 @@ pub(crate) fn explain_board(
     }
 }
 
-/// Explains that pieces of the board wait.
+/// Explains that `left` pieces of the board wait.
 ///
 /// # Errors
 ///
-/// `AllocError` where memory was refused.
+/// Returns `AllocError` if memory was refused.
 pub(crate) fn explain_left(out: &mut String, left: usize) -> Result<(), AllocError> {
     writeln!(
         out,
@@ -72,20 +72,20 @@ pub(crate) fn explain_left(out: &mut String, left: usize) -> Result<(), AllocErr
     )
 }
 
-/// Explains that the steps of a piece ran out.
+/// Explains that the steps of a piece ran out. `is_split` tells whether a split of it was found.
 ///
 /// # Errors
 ///
-/// `AllocError` where memory was refused.
+/// Returns `AllocError` if memory was refused.
 pub(crate) fn explain_open_piece(out: &mut String, is_split: bool) -> Result<(), AllocError> {
     out.push_str(if is_split { SPLIT_PIECE } else { OPEN_PIECE })
 }
 
-/// Explains that no piece of the number waits.
+/// Explains that no piece with the number that was asked for waits.
 ///
 /// # Errors
 ///
-/// `AllocError` where memory was refused.
+/// Returns `AllocError` if memory was refused.
 pub(crate) fn explain_no_piece(out: &mut String) -> Result<(), AllocError> {
     out.push_str(NO_SUCH_PIECE)
 }

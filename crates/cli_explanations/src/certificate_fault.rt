@@ -13,7 +13,8 @@ use state_judge::CheckFault;
 use std::alloc::AllocError;
 use std::fmt::Write;
 
-/// Shows the line of the number if it is known, or says where a text that is cut short ends.
+/// Shows the `line` of this `number` if it is known. If `is_cut` is true, says instead where the text that is cut short
+/// ends.
 fn show_line(
     out: &mut String,
     is_cut: bool,
@@ -36,7 +37,7 @@ fn show_line(
     }
 }
 
-/// The seats of a line `group SEATS CODE ..`.
+/// Returns the seats of a line `group SEATS CODE ..`, or `None` for any other line.
 fn seats_in(line: &[u8]) -> Option<u32> {
     match field_at(line, b' ', 0) {
         Some(b"group") => number_in(field_at(line, b' ', 1)?, 0, 65_535),
@@ -44,7 +45,7 @@ fn seats_in(line: &[u8]) -> Option<u32> {
     }
 }
 
-/// The seats of the groups of a certificate's target.
+/// Returns the seats of all groups of a certificate's target.
 fn target_seats(text: &[u8]) -> u64 {
     let mut seats: u64 = 0;
     for line in Fields::new(text, b'\n') {
@@ -53,7 +54,7 @@ fn target_seats(text: &[u8]) -> u64 {
     seats
 }
 
-/// The allowance of a line `window PART WHOLE`.
+/// Returns the tolerance of a line `window PART WHOLE`, or `None` if a number is missing or out of range.
 fn window_on(line: &[u8]) -> Option<Window> {
     let part = number_in(field_at(line, b' ', 1)?, 0, 500)?;
     let whole = number_in(field_at(line, b' ', 2)?, 1, 1_000)?;
@@ -63,7 +64,7 @@ fn window_on(line: &[u8]) -> Option<Window> {
     })
 }
 
-/// The allowance that a certificate is for: that of its second line, or one twentieth if it names none.
+/// Returns the tolerance that a certificate is for: that of its second line, or one twentieth if it names none.
 fn window_in(text: &[u8]) -> Window {
     let line = whole_line(text, 2).unwrap_or(&[]);
     match field_at(line, b' ', 0) {
@@ -72,7 +73,7 @@ fn window_in(text: &[u8]) -> Window {
     }
 }
 
-/// Names the allowance of a certificate, and that of the problem.
+/// Names the tolerance of a certificate, and that of the problem.
 fn explain_windows(out: &mut String, text: &[u8], problem: &Problem) -> Result<(), AllocError> {
     let (named, asked) = (window_in(text), problem.window());
     writeln!(
@@ -82,7 +83,7 @@ fn explain_windows(out: &mut String, text: &[u8], problem: &Problem) -> Result<(
     )
 }
 
-/// Says what was done to the text on its way, or what else helps.
+/// Says what was done to the `text` on its way, or what else helps.
 fn explain_help(
     out: &mut String,
     file: NamedFile<'_>,
@@ -121,7 +122,7 @@ fn explain_help(
 ///
 /// # Errors
 ///
-/// `AllocError` where memory was refused.
+/// Returns `AllocError` if memory was refused.
 pub(crate) fn explain_certificate(
     out: &mut String,
     options: Options<'_>,

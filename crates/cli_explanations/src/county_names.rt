@@ -5,7 +5,8 @@ use field_lines::Fields;
 use std::alloc::AllocError;
 use std::fmt::Write;
 
-/// Returns the NAME on a line of the geographic header, if the line is for the county of `code`, five digits.
+/// Returns the NAME on a `line` of the geographic header, if the line is for the county of `code`. A code has five
+/// digits.
 fn name_on<'a>(line: &'a [u8], code: &[u8]) -> Option<&'a [u8]> {
     let [first, second, county_code @ ..] = code else {
         return None;
@@ -40,11 +41,11 @@ fn name_in<'a>(head: &'a [u8], code: &[u8]) -> Option<&'a [u8]> {
     None
 }
 
-/// Appends the name of the county of `code`, or the code where the name isn't known.
+/// Appends the name of the county of `code`, or the code if `head` doesn't have the name.
 ///
 /// # Errors
 ///
-/// `AllocError` where memory was refused.
+/// Returns `AllocError` if memory was refused.
 pub(crate) fn push_county(out: &mut String, head: &[u8], code: &[u8]) -> Result<(), AllocError> {
     match name_in(head, code) {
         Some(name) => write!(out, "{}", start_of(name)),

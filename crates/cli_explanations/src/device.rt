@@ -1,4 +1,4 @@
-//! Why a file could not be had or stored.
+//! Why a file could not be read or stored.
 
 use crate::machine_files::words_of_reason;
 use crate::shown_bytes::name_of;
@@ -8,7 +8,7 @@ use std::alloc::AllocError;
 use std::fmt::Write;
 use std::io::ErrorKind;
 
-/// A file that could not be had or stored.
+/// A file that could not be read or stored.
 #[derive(Clone, Copy)]
 pub(crate) struct Unmoved<'a> {
     /// The option that names it.
@@ -17,12 +17,12 @@ pub(crate) struct Unmoved<'a> {
     pub(crate) fault: ShelfFault,
     /// Its path.
     pub(crate) path: &'a str,
-    /// What sort of error the system gave.
+    /// The kind of error that the system gave, if it gave one.
     pub(crate) reason: Option<ErrorKind>,
 }
 
 impl Unmoved<'_> {
-    /// Why the file could not be had or stored.
+    /// Returns why the file could not be read or stored.
     fn words(&self) -> &'static str {
         match (self.fault, self.reason) {
             (ShelfFault::TooLarge, _) => "it has more than 1073741824 bytes",
@@ -33,11 +33,11 @@ impl Unmoved<'_> {
     }
 }
 
-/// Explains a file that could not be had, of a command or of a case.
+/// Explains why `file` could not be read. If `is_case` is true it is a file of a case, and otherwise one of a command.
 ///
 /// # Errors
 ///
-/// `AllocError` where memory was refused.
+/// Returns `AllocError` if memory was refused.
 pub(crate) fn explain_unloaded(
     out: &mut String,
     file: Unmoved<'_>,
@@ -56,11 +56,11 @@ pub(crate) fn explain_unloaded(
     )
 }
 
-/// Explains a file that could not be stored.
+/// Explains why `file` could not be stored.
 ///
 /// # Errors
 ///
-/// `AllocError` where memory was refused.
+/// Returns `AllocError` if memory was refused.
 pub(crate) fn explain_unstored(out: &mut String, file: Unmoved<'_>) -> Result<(), AllocError> {
     let (option, name, words) = (file.option, name_of(file.path), file.words());
     writeln!(
@@ -79,11 +79,12 @@ pub(crate) fn explain_unstored(out: &mut String, file: Unmoved<'_>) -> Result<()
     }
 }
 
-/// Appends the text of an answer, if a file of the run could not be stored.
+/// Appends `report`, the text of the answer of a run that could not store one of its files. Appends nothing if the text
+/// isn't UTF-8.
 ///
 /// # Errors
 ///
-/// `AllocError` where memory was refused.
+/// Returns `AllocError` if memory was refused.
 pub(crate) fn push_report(out: &mut String, report: &[u8]) -> Result<(), AllocError> {
     match str::from_utf8(report) {
         Ok(report) => {

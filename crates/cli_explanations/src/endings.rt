@@ -42,7 +42,7 @@ const IMPOSSIBLE: &str =
 const OPEN: &str =
     "countygroups: the steps of --steps ran out, so that a grouping of the report need not be the best: give a greater number\n";
 
-/// Explains that the certificate doesn't show which other groupings are best.
+/// Explains that the certificate doesn't show which other groupings are best. At `line` it leaves that open.
 fn explain_open_list(out: &mut String, line: u64) -> Result<(), AllocError> {
     writeln!(
         out,
@@ -50,7 +50,7 @@ fn explain_open_list(out: &mut String, line: u64) -> Result<(), AllocError> {
     )
 }
 
-/// Explains that no best grouping has the number that was to be stored.
+/// Explains that no best grouping has the number that was to be stored. There are `count` best groupings.
 fn explain_number(out: &mut String, count: usize) -> Result<(), AllocError> {
     writeln!(
         out,
@@ -58,7 +58,7 @@ fn explain_number(out: &mut String, count: usize) -> Result<(), AllocError> {
     )
 }
 
-/// Explains that no best grouping has the sets of the grouping that was asked for.
+/// Explains that none of the `count` best groupings has the sets of the grouping that was asked for.
 fn explain_unlisted(
     out: &mut String,
     options: Options<'_>,
@@ -74,11 +74,11 @@ fn explain_unlisted(
 /// A run that has ended.
 #[derive(Clone, Copy)]
 pub struct Ended<'a> {
-    /// The words after the program's name; none at a case.
+    /// The words after the program's name. There are none at a case.
     pub words: &'a [&'a str],
     /// How it ended.
     pub end: &'a End,
-    /// What sort of error the system gave at the last file that failed.
+    /// The kind of error that the system gave at the last file that failed.
     pub reason: Option<ErrorKind>,
     /// Whether the answer could not be written.
     pub is_unwritten: bool,
@@ -86,14 +86,14 @@ pub struct Ended<'a> {
     pub is_at_terminal: bool,
 }
 
-/// The words as a command, if they are one.
+/// Parses `words` as a command. If they aren't one, the command is unknown.
 fn options_of<'a>(alloc: Global, words: &'a [&'a str]) -> Options<'a> {
     Options {
         command: parse(alloc, words).ok(),
     }
 }
 
-/// Explains what the run came to where a file could not be had or stored.
+/// Explains how the run ended, if a file could not be read or stored.
 fn explain_device(out: &mut String, ended: Ended<'_>) -> Result<(), AllocError> {
     let (option, fault, path) = match &ended.end.ending {
         Ending::NotLoaded(option, fault, path) => (*option, *fault, path),
@@ -121,7 +121,7 @@ fn explain_device(out: &mut String, ended: Ended<'_>) -> Result<(), AllocError> 
     }
 }
 
-/// Explains what the run came to; nothing where all is well.
+/// Explains how the run ended. Says nothing if all is well.
 fn explain_ending(
     rt: &impl Files,
     out: &mut String,
@@ -169,7 +169,7 @@ fn explain_ending(
     }
 }
 
-/// Warns where the adjacency file has not one pair of listed counties.
+/// Warns if the adjacency file hasn't a single pair of listed counties.
 fn warn_of_pairs(out: &mut String, options: Options<'_>, end: &End) -> Result<(), AllocError> {
     if end.has_pairs != Some(false) {
         return Ok(());
@@ -198,13 +198,14 @@ fn warn(
     warn_of_older_files(rt, out, command, end)
 }
 
-/// Returns what a person is told of a run that has ended, in whole lines that each begin with `countygroups: `. Of a run
-/// that went well nothing is told, unless standard output is a terminal: then the groups of the answer follow with the
-/// names of their counties. Where a store failed after a search, the report of the search follows as it is.
+/// Returns what a person is told of a run that has ended, in whole lines that each begin with `countygroups: `. Of a
+/// run that went well only warnings are told, unless standard output is a terminal. At a terminal, the groups of the
+/// answer follow with the names of their counties, or the findings of an audit by kind. If a store failed after a
+/// search, the report of the search follows as it is.
 ///
 /// # Errors
 ///
-/// `AllocError` where memory was refused.
+/// Returns `AllocError` if memory was refused.
 pub fn explain(rt: &(impl Files + AllocGlobal), ended: Ended<'_>) -> Result<String, AllocError> {
     let options = options_of(rt.alloc(), ended.words);
     let mut out = String::new(rt.alloc());
@@ -223,11 +224,11 @@ pub fn explain(rt: &(impl Files + AllocGlobal), ended: Ended<'_>) -> Result<Stri
     Ok(out)
 }
 
-/// What a person is told before a run of these words: warnings of the files that it is to store.
+/// Returns what a person is told before a run of these `words`: warnings of the files that it is to store.
 ///
 /// # Errors
 ///
-/// `AllocError` where memory was refused.
+/// Returns `AllocError` if memory was refused.
 pub fn explain_before(
     rt: &(impl Files + AllocGlobal),
     words: &[&str],

@@ -10,26 +10,27 @@ pub(crate) const UNZIP: &str =
 /// The byte order mark, in UTF-8.
 pub(crate) const BYTE_ORDER_MARK: &[u8] = b"\xef\xbb\xbf";
 
-/// Returns the line of a number, which counts from 1, with every byte but its LF.
+/// Returns the line of this `number`, counted from 1, with every byte but its LF.
 pub(crate) fn whole_line(text: &[u8], number: u64) -> Option<&[u8]> {
     let before = usize::try_from(number.checked_sub(1)?).ok()?;
     Fields::new(text, b'\n').nth(before)
 }
 
-/// Returns the bytes without a byte order mark at their front.
+/// Returns `bytes` without a byte order mark at their front.
 fn unmarked(bytes: &[u8]) -> &[u8] {
     bytes.strip_prefix(BYTE_ORDER_MARK).unwrap_or(bytes)
 }
 
-/// Returns the line of a number as a cut text has it: without a byte order mark at the front of the text, and without a
-/// CR at its end.
+/// Returns the line of this `number` as a cut text has it: without a byte order mark at the front of the text, and
+/// without a CR at its end.
 pub(crate) fn cut_line(text: &[u8], number: u64) -> Option<&[u8]> {
     let line = whole_line(unmarked(text), number)?;
     Some(line.strip_suffix(b"\r").unwrap_or(line))
 }
 
-/// Returns the line at fault as a cut text has it, where `number` counts from 1. `None` where the whole file is at
-/// fault, or the line isn't known. A reader lends its lines cut, but for the mark of one that is too long.
+/// Returns the line at fault as a cut text has it, where `number` counts from 1. Returns `None` if the whole file is at
+/// fault, or if the line isn't known. A reader's lines are cut already, except that a line that is too long keeps its
+/// mark.
 pub(crate) fn line_at_fault(text: &FaultText, number: u64) -> Option<&[u8]> {
     match text {
         FaultText::Whole(text) => cut_line(text, number),
@@ -40,8 +41,8 @@ pub(crate) fn line_at_fault(text: &FaultText, number: u64) -> Option<&[u8]> {
     }
 }
 
-/// Returns the option of the census file that a text begins like: of the geographic header, whose GEOID has `US` behind
-/// seven characters, or of segment 1, whose CIFSN is `01` and whose LOGRECNO has seven.
+/// Returns the option of the census file that `text` begins like. The GEOID of a geographic header has `US` behind
+/// seven characters. The CIFSN of a segment 1 is `01`, and its LOGRECNO has seven characters.
 pub(crate) fn looks_like(text: &[u8]) -> Option<FileOption> {
     let line = cut_line(text, 1)?;
     match (
@@ -55,7 +56,7 @@ pub(crate) fn looks_like(text: &[u8]) -> Option<FileOption> {
     }
 }
 
-/// Returns the STATE of the first county line of a geographic header.
+/// Returns the STATE of the first county line of a geographic header, if it has one.
 pub(crate) fn county_state(text: &[u8]) -> Option<&[u8]> {
     for line in Fields::new(text, b'\n') {
         if let Some(b"050") = field_at(line, b'|', 2) {
@@ -65,7 +66,7 @@ pub(crate) fn county_state(text: &[u8]) -> Option<&[u8]> {
     None
 }
 
-/// Returns whether a text is UTF-16, by its byte order mark.
+/// Returns whether `text` is UTF-16, by its byte order mark.
 pub(crate) fn is_utf16(text: &[u8]) -> bool {
     matches!(text, [0xff, 0xfe, ..] | [0xfe, 0xff, ..])
 }

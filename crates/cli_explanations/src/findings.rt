@@ -8,7 +8,7 @@ use county_problem::Problem;
 use std::alloc::AllocError;
 use std::fmt::Write;
 
-/// Whether a finding names a set.
+/// Returns whether one of the `findings` names `set`.
 fn is_named(findings: &Findings, set: Set) -> bool {
     for finding in &findings.list {
         let (first, second) = match finding {
@@ -23,7 +23,7 @@ fn is_named(findings: &Findings, set: Set) -> bool {
     false
 }
 
-/// Says with which county a set begins, where a finding names the set.
+/// Says with which county `set` begins, if a finding names it.
 fn explain_set(
     out: &mut String,
     findings: &Findings,
@@ -65,7 +65,7 @@ fn explain_sets(
     Ok(())
 }
 
-/// Returns what a finding's word means.
+/// Returns what the word of `finding` means.
 fn meaning(finding: &Finding) -> &'static str {
     match finding {
         Finding::Grouping(_) => "Grouping: the grouping isn't lawful",
@@ -84,7 +84,7 @@ fn meaning(finding: &Finding) -> &'static str {
     }
 }
 
-/// Says how many findings there are, and what the word of each kind of them means.
+/// Says how many `findings` there are, and what the word of each of their kinds means.
 fn explain_kinds(out: &mut String, findings: &Findings) -> Result<(), AllocError> {
     let count = findings.list.len();
     writeln!(
@@ -102,11 +102,11 @@ fn explain_kinds(out: &mut String, findings: &Findings) -> Result<(), AllocError
     Ok(())
 }
 
-/// Explains the findings of an audit of a grouping.
+/// Explains the `findings` of an audit of a grouping.
 ///
 /// # Errors
 ///
-/// `AllocError` where memory was refused.
+/// Returns `AllocError` if memory was refused.
 pub(crate) fn explain_findings(
     out: &mut String,
     options: Options<'_>,

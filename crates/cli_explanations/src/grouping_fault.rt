@@ -1,4 +1,4 @@
-//! What a grouping's fault comes of, and what would help.
+//! Where a grouping's fault comes from, and what would help.
 
 use crate::options::Options;
 use cli::FileOption;
@@ -7,7 +7,7 @@ use county_problem::{GroupingFault, Problem};
 use std::alloc::{AllocError, Global};
 use std::fmt::Write;
 
-/// Appends codes, each after a blank.
+/// Appends `codes`, each after a blank.
 fn push_codes(out: &mut String, codes: &[CountyCode]) -> Result<(), AllocError> {
     for code in codes {
         write!(out, " {code}")?;
@@ -15,7 +15,7 @@ fn push_codes(out: &mut String, codes: &[CountyCode]) -> Result<(), AllocError> 
     Ok(())
 }
 
-/// Adds the group's counties that are adjacent to a county and not found yet.
+/// Adds to `part` the counties of `codes` that are adjacent to `from` and not in `part` yet.
 fn add_neighbours(
     part: &mut Vec<CountyCode>,
     problem: &Problem,
@@ -30,7 +30,7 @@ fn add_neighbours(
     Ok(())
 }
 
-/// The connected part of a group's counties around one of them.
+/// Returns the connected part of the counties of `codes` around `start`.
 fn part_around(
     alloc: Global,
     problem: &Problem,
@@ -47,7 +47,7 @@ fn part_around(
     Ok(part)
 }
 
-/// Appends the connected parts of a group, with a bar between them.
+/// Appends the connected parts of the counties of `codes`, with a bar between them.
 fn push_parts(out: &mut String, problem: &Problem, codes: &[CountyCode]) -> Result<(), AllocError> {
     let alloc = *out.allocator();
     let mut seen = Vec::new(alloc);
@@ -62,14 +62,14 @@ fn push_parts(out: &mut String, problem: &Problem, codes: &[CountyCode]) -> Resu
     out.push_str("\n")
 }
 
-/// Explains a group that isn't connected, by its connected parts.
+/// Explains a `group` that isn't connected, by its connected parts.
 fn explain_parts(out: &mut String, problem: &Problem, group: &Group) -> Result<(), AllocError> {
     out.push_str("countygroups: its connected parts are")?;
     push_parts(out, problem, group.codes.as_slice())?;
     out.push_str("countygroups: regroup its counties, or add by --links a pair that joins them\n")
 }
 
-/// The people of the problem's counties among the codes.
+/// Returns the people of the problem's counties among `codes`.
 fn people_among(problem: &Problem, codes: &[CountyCode]) -> u64 {
     let mut people: u64 = 0;
     for county in problem.counties() {
@@ -80,7 +80,7 @@ fn people_among(problem: &Problem, codes: &[CountyCode]) -> u64 {
     people
 }
 
-/// Says which seats so many people suit.
+/// Says which numbers of seats a group of `people` people suits.
 fn explain_seats(out: &mut String, problem: &Problem, people: u64) -> Result<(), AllocError> {
     out.push_str("countygroups: seats that its people suit: ")?;
     if people > problem.total_people() {
@@ -93,7 +93,7 @@ fn explain_seats(out: &mut String, problem: &Problem, people: u64) -> Result<(),
     }
 }
 
-/// Explains a group whose people don't suit its seats, by its counties.
+/// Explains a `group` whose people don't suit its seats, by its counties.
 fn explain_people(out: &mut String, problem: &Problem, group: &Group) -> Result<(), AllocError> {
     let (seats, codes) = (group.seats, group.codes.as_slice());
     let people = people_among(problem, codes);
@@ -112,7 +112,7 @@ fn explain_people(out: &mut String, problem: &Problem, group: &Group) -> Result<
     explain_seats(out, problem, people)
 }
 
-/// The seats of all groups.
+/// Returns the seats of all groups of `grouping`.
 fn seats_in(grouping: &Grouping) -> u64 {
     let mut seats: u64 = 0;
     for group in &grouping.groups {
@@ -121,11 +121,12 @@ fn seats_in(grouping: &Grouping) -> u64 {
     seats
 }
 
-/// Says that groups have other seats in all than the chamber leaves for them, where it is so.
+/// Says that the groups in the file of `option` have `seats` seats in all, and how many the chamber leaves for them.
+/// Says nothing if the numbers are equal.
 ///
 /// # Errors
 ///
-/// `AllocError` where memory was refused.
+/// Returns `AllocError` if memory was refused.
 pub(crate) fn explain_chamber(
     out: &mut String,
     option: FileOption,
@@ -146,7 +147,7 @@ pub(crate) fn explain_chamber(
     writeln!(out, ", of which the withdrawn sets leave {left}")
 }
 
-/// Says what a fault comes of and what would help.
+/// Says where `fault` comes from and what would help.
 fn explain_help(
     out: &mut String,
     fault: &GroupingFault,
@@ -171,11 +172,11 @@ fn explain_help(
     }
 }
 
-/// Explains the fault of a grouping.
+/// Explains the `fault` of a grouping.
 ///
 /// # Errors
 ///
-/// `AllocError` where memory was refused.
+/// Returns `AllocError` if memory was refused.
 pub(crate) fn explain_fault(
     out: &mut String,
     options: Options<'_>,

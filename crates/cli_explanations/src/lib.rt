@@ -1,5 +1,6 @@
 //! What a person is told on standard error, before a run and once it has ended: what is wrong, where it stands, and
-//! what helps. It is no part of an answer, and no promise but that it is composed safely and returns speaks of it.
+//! what helps. The text is no part of an answer. Nothing is promised of it except that it is composed safely and that
+//! composing it returns.
 #![tactic(auto)]
 
 mod board;

@@ -4,7 +4,7 @@ use std::fs;
 use std::io::ErrorKind;
 use std::rt::Files;
 
-/// Whether a path leads to a plain file. A pipe isn't one, and is never read twice.
+/// Returns whether `path` leads to a plain file. A pipe isn't one, and is never read twice.
 pub(crate) fn is_plain(rt: &impl Files, path: &str) -> bool {
     match fs::metadata(rt, path) {
         Ok(metadata) => metadata.is_file(),
@@ -12,7 +12,7 @@ pub(crate) fn is_plain(rt: &impl Files, path: &str) -> bool {
     }
 }
 
-/// Why no file can be put into the folder of a path, if the system says so.
+/// Returns why no file can be put into the folder of `path`, if the system says so.
 fn folder_reason(rt: &impl Files, path: &str) -> Option<&'static str> {
     let folder = match path.rsplit_once('/') {
         Some(("", _)) => "/",
@@ -28,7 +28,7 @@ fn folder_reason(rt: &impl Files, path: &str) -> Option<&'static str> {
     }
 }
 
-/// Why no file can be stored under a path, if the system says so.
+/// Returns why no file can be stored under `path`, if the system says so.
 pub(crate) fn closed_reason(rt: &impl Files, path: &str) -> Option<&'static str> {
     match fs::metadata(rt, path) {
         Ok(metadata) if metadata.is_dir() => Some("it is a folder"),
@@ -39,7 +39,7 @@ pub(crate) fn closed_reason(rt: &impl Files, path: &str) -> Option<&'static str>
     }
 }
 
-/// An error of the system in plain words.
+/// Returns an error of the system in plain words.
 pub(crate) fn words_of_reason(reason: ErrorKind) -> &'static str {
     match reason {
         ErrorKind::NotFound => "no such file or folder",

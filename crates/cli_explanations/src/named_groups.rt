@@ -1,4 +1,4 @@
-//! What a person at a terminal is told behind an answer: its groups with the names of their counties, and the findings
+//! What a person at a terminal is told after an answer: its groups with the names of their counties, and the findings
 //! of an audit by kind.
 
 use crate::county_names::push_county;
@@ -13,7 +13,7 @@ use field_lines::Fields;
 use std::alloc::AllocError;
 use std::fmt::Write;
 
-/// What an audit's findings of one kind are, for one of them and for several.
+/// The words for an audit's findings of one kind, for one of them and for several.
 struct Kind {
     one: &'static str,
     several: &'static str,
@@ -47,7 +47,7 @@ const KINDS: [Kind; 6] = [
     },
 ];
 
-/// Appends what stands before a county: a blank before the first, and else a comma and a blank.
+/// Appends what stands before a county: a blank before the first, and a comma and a blank before any other.
 fn push_mark(out: &mut String, is_first: bool) -> Result<(), AllocError> {
     if is_first {
         out.push_str(" ")
@@ -56,7 +56,7 @@ fn push_mark(out: &mut String, is_first: bool) -> Result<(), AllocError> {
     }
 }
 
-/// Appends a line of the answer that lists counties by their codes, with the names in the place of the codes.
+/// Appends a `line` of the answer that lists counties by their codes, with the names of `head` in place of the codes.
 fn push_group(out: &mut String, head: &[u8], line: &[u8]) -> Result<(), AllocError> {
     out.push_str("countygroups:")?;
     let mut is_code = false;
@@ -77,12 +77,12 @@ fn push_group(out: &mut String, head: &[u8], line: &[u8]) -> Result<(), AllocErr
     out.push_str("\n")
 }
 
-/// Appends a word of the answer.
+/// Appends a `word` of the answer.
 fn push_word(out: &mut String, word: &[u8]) -> Result<(), AllocError> {
     write!(out, "{}", start_of(word))
 }
 
-/// Returns whether a line of a listing stands above lines of groups.
+/// Returns whether a `line` of a listing stands above lines of groups.
 fn is_heading(line: &[u8]) -> bool {
     match Fields::new(line, b' ').next() {
         Some(word) => word == b"shared".as_slice()
@@ -92,12 +92,12 @@ fn is_heading(line: &[u8]) -> bool {
     }
 }
 
-/// Returns whether a line of the answer is one of a group.
+/// Returns whether a `line` of the answer is one of a group.
 fn is_group(line: &[u8]) -> bool {
     Fields::new(line, b' ').next() == Some(b"group".as_slice())
 }
 
-/// Appends the groups of an answer with the names of their counties.
+/// Appends the groups of an `answer` with the names of their counties, and the headings above them.
 fn push_groups(out: &mut String, head: &[u8], answer: &[u8]) -> Result<(), AllocError> {
     for line in Fields::new(answer, b'\n') {
         if is_group(line) {
@@ -111,7 +111,7 @@ fn push_groups(out: &mut String, head: &[u8], answer: &[u8]) -> Result<(), Alloc
     Ok(())
 }
 
-/// Returns the place of a finding's kind among those that are counted.
+/// Returns the index in `KINDS` of a finding's kind, or `None` if its kind isn't counted.
 fn kind_of(finding: &Finding) -> Option<usize> {
     match finding {
         Finding::Grouping(_) => None,
@@ -124,7 +124,7 @@ fn kind_of(finding: &Finding) -> Option<usize> {
     }
 }
 
-/// Appends how many findings of each kind there are.
+/// Appends how many findings of each kind there are. A kind without findings has no line.
 fn push_kinds(out: &mut String, findings: &Findings) -> Result<(), AllocError> {
     for (place, kind) in KINDS.iter().enumerate() {
         let count = findings
@@ -141,7 +141,7 @@ fn push_kinds(out: &mut String, findings: &Findings) -> Result<(), AllocError> {
     Ok(())
 }
 
-/// Returns whether a finding names the set.
+/// Returns whether one of the `findings` names `set`.
 fn names_set(findings: &Findings, set: Set) -> bool {
     for finding in &findings.list {
         let is_named = match finding {
@@ -156,7 +156,7 @@ fn names_set(findings: &Findings, set: Set) -> bool {
     false
 }
 
-/// Appends the names of the counties of a set that a finding names.
+/// Appends the names of the counties of a set that a finding names. `noun` and `number` tell which set it is.
 fn push_set(
     out: &mut String,
     head: &[u8],
@@ -197,7 +197,7 @@ fn push_findings(
     Ok(())
 }
 
-/// Returns whether the answer of a command may have lines of groups.
+/// Returns whether the answer of `command` may have lines of groups.
 fn has_groups(command: CommandWords<'_>) -> bool {
     matches!(
         command,
@@ -208,12 +208,12 @@ fn has_groups(command: CommandWords<'_>) -> bool {
     )
 }
 
-/// Appends what a person at a terminal is told behind an answer: the groups of a report or of a listing with the names of
-/// their counties, or the findings of an audit by kind.
+/// Appends what a person at a terminal is told after an answer. This is either the groups of a report or of a listing
+/// with the names of their counties, or the findings of an audit by kind.
 ///
 /// # Errors
 ///
-/// `AllocError` where memory was refused.
+/// Returns `AllocError` if memory was refused.
 pub(crate) fn push_named(
     out: &mut String,
     options: Options<'_>,

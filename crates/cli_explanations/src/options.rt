@@ -10,11 +10,11 @@ use std::fmt;
 pub(crate) struct NamedFile<'a> {
     /// The option.
     pub(crate) option: FileOption,
-    /// The file's path; none where the words are those of a case, which no path leads to.
+    /// The file's path. There is none if the words are those of a case, since no path leads to a file of a case.
     pub(crate) path: Option<&'a str>,
 }
 
-/// `--option PATH`, or `--option of the case`.
+/// Shows `--option PATH`, or `--option of the case`.
 impl fmt::Display for NamedFile<'_> {
     fn fmt<W: fmt::Write>(&self, f: &mut fmt::Formatter<W>) -> fmt::Result {
         match self.path {
@@ -24,7 +24,7 @@ impl fmt::Display for NamedFile<'_> {
     }
 }
 
-/// The options that give a problem, where the command has them.
+/// Returns the options of `command` that give a problem, if it has them.
 fn problem_of<'a>(command: CommandWords<'a>) -> Option<ProblemWords<'a>> {
     match command {
         CommandWords::Size(_) => None,
@@ -38,7 +38,7 @@ fn problem_of<'a>(command: CommandWords<'a>) -> Option<ProblemWords<'a>> {
     }
 }
 
-/// The options that each command has.
+/// Returns the options of `command` that every command has.
 pub(crate) fn common_of<'a>(command: CommandWords<'a>) -> CommonWords<'a> {
     match command {
         CommandWords::Size(words) => words,
@@ -52,7 +52,7 @@ pub(crate) fn common_of<'a>(command: CommandWords<'a>) -> CommonWords<'a> {
     }
 }
 
-/// The path that a command has for an option.
+/// Returns the path that `command` has for `option`, if it has one.
 pub(crate) fn path_in<'a>(command: CommandWords<'a>, option: FileOption) -> Option<&'a str> {
     match (command, option) {
         (_, FileOption::Geo) => Some(common_of(command).geo),
@@ -85,15 +85,15 @@ pub(crate) fn path_in<'a>(command: CommandWords<'a>, option: FileOption) -> Opti
     }
 }
 
-/// The words of a run: those of a command, or none that are known, as those of a case.
+/// The words of a run. They are those of a command, or they are unknown, as at a case.
 #[derive(Clone, Copy)]
 pub(crate) struct Options<'a> {
-    /// The command.
+    /// The command, if it is known.
     pub(crate) command: Option<CommandWords<'a>>,
 }
 
 impl<'a> Options<'a> {
-    /// An option with its file.
+    /// Returns an `option` with the file that the words give it.
     pub(crate) fn file(self, option: FileOption) -> NamedFile<'a> {
         let path = match self.command {
             Some(command) => path_in(command, option),

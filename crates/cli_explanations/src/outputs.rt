@@ -33,7 +33,7 @@ const OUTPUTS: [(FileOption, &str); 6] = [
     (FileOption::Record, "record"),
 ];
 
-/// Whether the run stored the file of an option.
+/// Returns whether the run stored the file of `option`.
 fn has_stored_option(end: &End, option: FileOption) -> bool {
     match option {
         FileOption::CertificateOut => end.has_stored_certificate,
@@ -46,7 +46,7 @@ fn has_stored_option(end: &End, option: FileOption) -> bool {
     }
 }
 
-/// Whether the run stored a file under a path.
+/// Returns whether the run stored a file under `path`.
 fn has_stored(command: CommandWords<'_>, end: &End, path: &str) -> bool {
     for (option, _) in OUTPUTS {
         if has_stored_option(end, option) && path_in(command, option) == Some(path) {
@@ -56,7 +56,7 @@ fn has_stored(command: CommandWords<'_>, end: &End, path: &str) -> bool {
     false
 }
 
-/// Warns where an output has the name of an input.
+/// Warns if the output of `option`, whose name is `path`, has the name of an input.
 fn warn_of_inputs(
     out: &mut String,
     command: CommandWords<'_>,
@@ -75,7 +75,7 @@ fn warn_of_inputs(
     Ok(())
 }
 
-/// Warns where no file can be stored under the name of an output.
+/// Warns if no file can be stored under `path`, the name of the output of `option`.
 fn warn_of_name(
     rt: &impl Files,
     out: &mut String,
@@ -94,7 +94,8 @@ fn warn_of_name(
     }
 }
 
-/// Warns where an output that is stored before another one has that one's name.
+/// Warns if an output that is stored before the one of `second` has its name, which is `path`. `later` tells what the
+/// file of `second` is.
 fn warn_of_one_name(
     out: &mut String,
     command: CommandWords<'_>,
@@ -116,7 +117,7 @@ fn warn_of_one_name(
     Ok(())
 }
 
-/// Warns where two outputs have one name.
+/// Warns if two outputs have one name.
 fn warn_of_shared_names(out: &mut String, command: CommandWords<'_>) -> Result<(), AllocError> {
     for (option, noun) in OUTPUTS {
         if let Some(path) = path_in(command, option) {
@@ -126,11 +127,11 @@ fn warn_of_shared_names(out: &mut String, command: CommandWords<'_>) -> Result<(
     Ok(())
 }
 
-/// Warns of the names of the outputs before the run.
+/// Warns of what is amiss with the names of the outputs, before the run.
 ///
 /// # Errors
 ///
-/// `AllocError` where memory was refused.
+/// Returns `AllocError` if memory was refused.
 pub(crate) fn warn_of_outputs(
     rt: &impl Files,
     out: &mut String,
@@ -146,11 +147,11 @@ pub(crate) fn warn_of_outputs(
     Ok(())
 }
 
-/// Warns of older files that stay under the names of outputs, because the run stored nothing there.
+/// Warns of older files that stay under the names of outputs because the run stored nothing there.
 ///
 /// # Errors
 ///
-/// `AllocError` where memory was refused.
+/// Returns `AllocError` if memory was refused.
 pub(crate) fn warn_of_older_files(
     rt: &impl Files,
     out: &mut String,

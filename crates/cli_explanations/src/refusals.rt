@@ -18,7 +18,7 @@ const UTF_16: &str = "countygroups: the file is UTF-16: store it as UTF-8\n";
 const QUOTES: &str =
     "countygroups: the fields stand between quotes: store the file without quotes round its fields\n";
 
-/// What a file has to be.
+/// Returns what the file of `option` has to be.
 fn remedy(option: FileOption) -> &'static str {
     match option {
         FileOption::Geo => {
@@ -45,7 +45,7 @@ fn remedy(option: FileOption) -> &'static str {
     }
 }
 
-/// Says what is wrong and where, and shows the line if it is known.
+/// Says what is wrong with `file` and where, and shows the `line` if it is known.
 fn explain_line(
     out: &mut String,
     file: NamedFile<'_>,
@@ -66,7 +66,7 @@ fn explain_line(
     }
 }
 
-/// Says that fields stand between quotes, where the line at fault begins with one.
+/// Says that fields stand between quotes, if the `line` at fault begins with a quote.
 fn explain_quotes(out: &mut String, line: Option<&[u8]>) -> Result<(), AllocError> {
     match line {
         Some(line) if line.starts_with(b"\"") => out.push_str(QUOTES),
@@ -74,7 +74,8 @@ fn explain_quotes(out: &mut String, line: Option<&[u8]>) -> Result<(), AllocErro
     }
 }
 
-/// Says of which state a geographic header is, where another one was asked for.
+/// Says which state a geographic header is of, where another one was asked for. If `text` has no county line, says what
+/// `--geo` has to be.
 fn explain_state(out: &mut String, text: &[u8]) -> Result<(), AllocError> {
     match county_state(text) {
         Some(other) => {
@@ -91,7 +92,7 @@ fn explain_state(out: &mut String, text: &[u8]) -> Result<(), AllocError> {
     }
 }
 
-/// The census file that an `audit` could not read a second time, because it is a pipe.
+/// Returns the census file that an `audit` could not read a second time because it is a pipe. Returns `None` otherwise.
 fn spent_file<'a>(
     rt: &impl Files,
     options: Options<'a>,
@@ -108,7 +109,7 @@ fn spent_file<'a>(
     }
 }
 
-/// Says what helps against a fault of geographic header or segment 1.
+/// Says what helps against a fault of the geographic header or of segment 1.
 fn explain_census(
     rt: &impl Files,
     out: &mut String,
@@ -147,7 +148,7 @@ fn explain_census(
     }
 }
 
-/// The NAME of a county line.
+/// Returns the NAME of a county `line`, which is its field 88. Returns no bytes if there is no such line or field.
 fn name_on(line: Option<&[u8]>) -> &[u8] {
     match line {
         Some(line) => field_at(line, b'|', 87).unwrap_or(b""),
@@ -164,7 +165,7 @@ fn explain_name(out: &mut String, line: Option<&[u8]>) -> Result<(), AllocError>
     )
 }
 
-/// Says what helps against a fault.
+/// Says what helps against a `fault` of the file of `option`.
 fn explain_help(
     rt: &impl Files,
     out: &mut String,
@@ -190,11 +191,11 @@ fn explain_help(
     }
 }
 
-/// Explains why a file is refused: what is wrong, the line at fault, and what to do.
+/// Explains why the file of `option` is refused: what is wrong, the line at fault, and what to do.
 ///
 /// # Errors
 ///
-/// `AllocError` where memory was refused.
+/// Returns `AllocError` if memory was refused.
 pub(crate) fn explain_refused(
     rt: &impl Files,
     out: &mut String,
@@ -211,7 +212,7 @@ pub(crate) fn explain_refused(
 ///
 /// # Errors
 ///
-/// `AllocError` where memory was refused.
+/// Returns `AllocError` if memory was refused.
 pub(crate) fn explain_problem(
     out: &mut String,
     options: Options<'_>,

@@ -2,22 +2,24 @@
 
 use std::fmt;
 
-/// How many characters of a line or a field are shown.
+/// The most characters of a line or a field that are shown.
 const MOST: usize = 120;
 
-/// Bytes as text: control characters, byte order marks and bytes that aren't UTF-8 are escaped, as `\n` and `\x1b`.
+/// Bytes as text. Control characters, byte order marks and bytes that aren't UTF-8 are escaped, such as `\n` and
+/// `\x1b`.
 #[derive(Clone, Copy)]
 pub(crate) struct Shown<'a> {
     bytes: &'a [u8],
     most: usize,
 }
 
-/// The start of a line or a field, up to 120 characters; dots stand for the rest.
+/// Returns the start of a line or a field as it may be shown, up to 120 characters. After 120 characters, dots stand
+/// for the rest.
 pub(crate) fn start_of(bytes: &[u8]) -> Shown<'_> {
     Shown { bytes, most: MOST }
 }
 
-/// A whole text.
+/// Returns a whole `text` as it may be shown.
 pub(crate) fn whole(text: &str) -> Shown<'_> {
     Shown {
         bytes: text.as_bytes(),
@@ -25,7 +27,7 @@ pub(crate) fn whole(text: &str) -> Shown<'_> {
     }
 }
 
-/// A whole name. An empty name is shown as two quotes.
+/// Returns a whole `name` as it may be shown. An empty name is shown as two quotes.
 pub(crate) fn name_of(name: &str) -> Shown<'_> {
     if name.is_empty() {
         whole("''")
@@ -34,7 +36,7 @@ pub(crate) fn name_of(name: &str) -> Shown<'_> {
     }
 }
 
-/// Writes a character, or its escape where it is a control character or a byte order mark.
+/// Writes a `character`, or its escape if it is a control character or a byte order mark.
 fn write_character<W: fmt::Write>(f: &mut fmt::Formatter<W>, character: char) -> fmt::Result {
     match character {
         '\n' => f.write_str("\\n"),
@@ -46,7 +48,7 @@ fn write_character<W: fmt::Write>(f: &mut fmt::Formatter<W>, character: char) ->
     }
 }
 
-/// Writes the characters of a text, up to the most that are shown, and answers how many more may follow.
+/// Writes the characters of `text`, up to `most` of them, and returns how many more may follow.
 fn write_text<W: fmt::Write>(
     f: &mut fmt::Formatter<W>,
     text: &str,
@@ -63,7 +65,7 @@ fn write_text<W: fmt::Write>(
     Ok(left)
 }
 
-/// Writes the escapes of bytes that aren't UTF-8.
+/// Writes the escapes of `bytes` that aren't UTF-8.
 fn write_bytes<W: fmt::Write>(f: &mut fmt::Formatter<W>, bytes: &[u8]) -> fmt::Result {
     for byte in bytes {
         write!(f, "\\x{byte:02x}")?;

@@ -7,11 +7,11 @@ use cli_words::CommandWords;
 use std::alloc::AllocError;
 use std::fmt::Write;
 
-/// Warns where the counties that were read have other people than the state's own line.
+/// Warns if the counties that were read have another number of people in all than the state's own line.
 ///
 /// # Errors
 ///
-/// `AllocError` where memory was refused.
+/// Returns `AllocError` if memory was refused.
 pub(crate) fn warn_of_state(
     out: &mut String,
     command: CommandWords<'_>,
@@ -36,18 +36,18 @@ fn are_letters(letters: [u8; 2]) -> bool {
     first.is_ascii_alphabetic() && second.is_ascii_alphabetic()
 }
 
-/// Appends two ASCII letters.
+/// Appends the two ASCII `letters`.
 fn push_letters(out: &mut String, letters: [u8; 2]) -> Result<(), AllocError> {
     let [first, second] = letters;
     let (first, second) = (char::from(first), char::from(second));
     write!(out, "{first}{second}")
 }
 
-/// Warns where geographic header and segment 1 name two states.
+/// Warns if the geographic header and segment 1 name two states.
 ///
 /// # Errors
 ///
-/// `AllocError` where memory was refused.
+/// Returns `AllocError` if memory was refused.
 pub(crate) fn warn_of_two_states(
     out: &mut String,
     options: Options<'_>,

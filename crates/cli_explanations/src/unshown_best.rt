@@ -14,8 +14,8 @@ const NO_PROOF: &str =
 const SMALL_BUDGET: &str =
     "countygroups: the grouping is lawful; the steps of --budget ran out before the certificate was checked: give a greater number\n";
 
-/// The first size, in counties, of which two groupings have different numbers of groups. The second has the longest
-/// group of a size that the first lacks.
+/// Returns the first size, in counties, of which `own` and `best` have different numbers of groups. Sizes are compared
+/// up to that of the longest group of `best`. Returns `None` if there is no difference up to there.
 fn first_difference(own: &Counts, best: &Counts) -> Option<u16> {
     for size in 1..=best.longest() {
         if own.of(size) != best.of(size) {
@@ -25,7 +25,8 @@ fn first_difference(own: &Counts, best: &Counts) -> Option<u16> {
     None
 }
 
-/// Explains that the certificate's grouping has greater counts.
+/// Explains that the certificate's grouping has greater counts than the lawful grouping. Names the first size at which
+/// they differ.
 fn explain_lesser(
     out: &mut String,
     options: Options<'_>,
@@ -53,7 +54,7 @@ fn explain_lesser(
 ///
 /// # Errors
 ///
-/// `AllocError` where memory was refused.
+/// Returns `AllocError` if memory was refused.
 pub(crate) fn explain_unshown(
     out: &mut String,
     options: Options<'_>,

@@ -4,13 +4,13 @@ use crate::shown_bytes::whole;
 use std::alloc::AllocError;
 use std::fmt::Write;
 
-/// What the words that `clap` uses for a value that is no number say.
+/// The words that `clap` uses for a value that is no number.
 const NO_NUMBER: [&str; 2] = [
     "invalid digit found in string",
     "cannot parse integer from empty string",
 ];
 
-/// Options whose numbers a person may take for words, as `clap` names them, and which numbers are meant.
+/// Options that take a number where a person may give a word, as `clap` names them, and which numbers are meant.
 const MEANT: [(&str, &str); 2] = [
     (
         "for '--state <CODE>'",
@@ -22,7 +22,8 @@ const MEANT: [(&str, &str); 2] = [
     ),
 ];
 
-/// The name of the command that the text of `clap` names in its usage, or that the first word is.
+/// Returns the name of the command that the `text` of `clap` names in its usage, or else the first of `words`. Returns
+/// an empty name if that doesn't begin with a small letter.
 fn command_named<'a>(words: &[&'a str], text: &'a str) -> &'a str {
     let name = match text.split_once("\nUsage: countygroups ") {
         Some((_, usage)) => usage.split(' ').next().unwrap_or(""),
@@ -34,7 +35,7 @@ fn command_named<'a>(words: &[&'a str], text: &'a str) -> &'a str {
     }
 }
 
-/// Appends the first lines of a text, up to a blank one, and its tip.
+/// Appends the first lines of `text`, up to a blank one, and its tip.
 fn push_error(out: &mut String, text: &str) -> Result<(), AllocError> {
     let (error, rest) = text.split_once("\n\n").unwrap_or((text, ""));
     for line in error.lines() {
@@ -51,7 +52,7 @@ fn push_error(out: &mut String, text: &str) -> Result<(), AllocError> {
     }
 }
 
-/// Says which numbers an option takes, where its value is none.
+/// Says which numbers an option takes, if `text` tells that its value is no number.
 fn push_meaning(out: &mut String, text: &str) -> Result<(), AllocError> {
     let is_word = NO_NUMBER.iter().any(|words| text.contains(*words));
     for (option, meaning) in MEANT {
@@ -62,12 +63,12 @@ fn push_meaning(out: &mut String, text: &str) -> Result<(), AllocError> {
     Ok(())
 }
 
-/// Explains words that are no command: what `clap` says of them, unless it is `shown` on the same terminal already, which
-/// numbers are meant, and which help tells the words.
+/// Explains `words` that are no command: what `clap` says of them, which numbers are meant, and which help tells the
+/// words. What `clap` says is left out if it is `shown` on the same terminal already.
 ///
 /// # Errors
 ///
-/// `AllocError` where memory was refused.
+/// Returns `AllocError` if memory was refused.
 pub(crate) fn explain_usage(
     out: &mut String,
     words: &[&str],

@@ -12,7 +12,7 @@ use std::fmt::Write;
 #[derive(Clone, Copy)]
 struct Seats(u16);
 
-/// `1 seat`, or `2 seats`.
+/// Shows `1 seat`, or `2 seats`.
 impl fmt::Display for Seats {
     fn fmt<W: fmt::Write>(&self, f: &mut fmt::Formatter<W>) -> fmt::Result {
         match self.0 {
@@ -22,7 +22,7 @@ impl fmt::Display for Seats {
     }
 }
 
-/// Says which numbers of people suit `seats`.
+/// Says which numbers of people suit `seats`: those from `least` to `greatest`, or none if `least` is above `greatest`.
 fn push_bounds(out: &mut String, seats: u16, least: u64, greatest: u64) -> Result<(), AllocError> {
     let verb = if seats == 1 { "suits" } else { "suit" };
     let seats = Seats(seats);
@@ -33,8 +33,8 @@ fn push_bounds(out: &mut String, seats: u16, least: u64, greatest: u64) -> Resul
     }
 }
 
-/// Warns of a withdrawn set whose people don't suit its seats. `county` is its first county, and `bounds` are the least
-/// and the greatest number of people that suit.
+/// Warns of a withdrawn set whose people don't suit its seats. `county` is its first county. `bounds` are the least and
+/// the greatest number of people that suit.
 fn warn_of_seats(
     out: &mut String,
     options: Options<'_>,
@@ -65,7 +65,7 @@ fn warn_of_parts(
     )
 }
 
-/// Warns of counties that are neighbours in one direction only.
+/// Warns that the counties `a` and `b` are neighbours in one direction only.
 fn warn_of_direction(
     out: &mut String,
     options: Options<'_>,
@@ -79,7 +79,7 @@ fn warn_of_direction(
     )
 }
 
-/// Warns of a link that cuts a border which isn't there.
+/// Warns of a link that cuts a border between `a` and `b` which isn't there.
 fn warn_of_cut(
     out: &mut String,
     options: Options<'_>,
@@ -93,7 +93,7 @@ fn warn_of_cut(
     )
 }
 
-/// Warns of a link that names a county which isn't listed.
+/// Warns of a link that names a county (`code`) which isn't listed.
 fn warn_of_county(
     out: &mut String,
     options: Options<'_>,
@@ -106,7 +106,7 @@ fn warn_of_county(
     )
 }
 
-/// Returns whether the run was refused because a link adds a county that isn't listed, which the refusal says.
+/// Returns whether the run was refused because a link adds a county that isn't listed. The refusal says so already.
 fn is_unknown_pair(end: &End) -> bool {
     matches!(
         &end.ending,
@@ -114,7 +114,7 @@ fn is_unknown_pair(end: &End) -> bool {
     )
 }
 
-/// Appends a warning.
+/// Appends a `warning`, unless the refusal of the run says the same.
 fn push_warning(
     out: &mut String,
     options: Options<'_>,
@@ -147,7 +147,7 @@ fn push_warning(
 ///
 /// # Errors
 ///
-/// `AllocError` where memory was refused.
+/// Returns `AllocError` if memory was refused.
 pub(crate) fn push_warnings(
     out: &mut String,
     options: Options<'_>,

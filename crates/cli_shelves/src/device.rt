@@ -27,7 +27,7 @@ pub struct FileShelf<R> {
 }
 
 impl<R: Files + AllocGlobal> FileShelf<R> {
-    /// The files that the runtime reaches, with no failure and no event so far.
+    /// Creates a shelf of the files that `rt` reaches, with no failure and no event so far.
     pub fn new(rt: R) -> Self
         ensures { ⟦<FileShelf<R> as Shelf>⟧.history result ≡ no_history }
     {
@@ -39,14 +39,15 @@ impl<R: Files + AllocGlobal> FileShelf<R> {
         }
     }
 
-    /// What sort of error the system gave at the last load, opening, reading or store that failed. `None` where none
-    /// has failed, or where the system gave no error: the file was too large, or memory was refused.
+    /// Returns the kind of error that the system gave at the last load, opening, reading or store that failed. Returns
+    /// `None` if none has failed, or if the system gave no error. It gives none where a file was too large, or where
+    /// memory was refused for the bytes of a load.
     pub fn reason(&self) -> Option<ErrorKind> {
         self.reason
     }
 }
 
-/// A reader that keeps what sort of error its last read gave.
+/// A reader that notes the kind of error that its last read gave.
 #[derive(Drop)]
 struct Noting<'a, R> {
     reader: R,
@@ -68,7 +69,7 @@ impl<R: Read> Read for Noting<'_, R> {
     }
 }
 
-/// Whether the system says that the file is above the limit.
+/// Returns whether the system says that `file` has more than `MAX_FILE` bytes.
 fn is_too_large(file: &impl OpenFile) -> bool {
     match file.metadata() {
         Ok(metadata) => metadata.len() > MAX_FILE as u64,
@@ -76,7 +77,8 @@ fn is_too_large(file: &impl OpenFile) -> bool {
     }
 }
 
-/// Counts a failure of the device. Where the count is at its last value it stays, and the fault is `Missing`.
+/// Counts a failure of the device in `failures`, and returns `Device`. At 2^64 - 1 the count stays, and the fault is
+/// `Missing`.
 fn device_fault(failures: &mut u64) -> ShelfFault
     ensures counted { CountsFault failures.old failures.new result }
     ensures missing { result ≡ Missing → failures.old ≡ 2 ^ 64 - 1 }
@@ -91,8 +93,8 @@ fn device_fault(failures: &mut u64) -> ShelfFault
     }
 }
 
-/// The fault that an error of the system is at a store: `Memory` where memory was refused, else a failure of the
-/// device, also where the name's folder isn't there.
+/// Returns the fault that an `error` of the system at a store stands for. It is `Memory` if memory was refused. Any
+/// other error is counted in `failures` as a failure of the device, even if the folder of the name isn't there.
 fn store_fault(error: &Error, failures: &mut u64) -> ShelfFault
     ensures counted { CountsFault failures.old failures.new result }
     ensures missing { result ≡ Missing → failures.old ≡ 2 ^ 64 - 1 }
@@ -104,7 +106,8 @@ fn store_fault(error: &Error, failures: &mut u64) -> ShelfFault
     }
 }
 
-/// The fault that an error of the system is at a load: as at a store, but for a file that isn't there.
+/// Returns the fault that an `error` of the system at a load stands for. It is `Missing` if the file isn't there, and
+/// otherwise the fault that it would be at a store.
 fn load_fault(error: &Error, failures: &mut u64) -> ShelfFault
     ensures { CountsFault failures.old failures.new result }
 {
@@ -114,7 +117,8 @@ fn load_fault(error: &Error, failures: &mut u64) -> ShelfFault
     }
 }
 
-/// The fault of the shelf that a fault of reading a file is.
+/// Returns the shelf's fault for a `fault` of reading a file. `Failed` is counted in `failures` as a failure of the
+/// device.
 fn read_fault(fault: WholeFault, failures: &mut u64) -> ShelfFault
     ensures { CountsFault failures.old failures.new result }
 {
@@ -126,7 +130,8 @@ fn read_fault(fault: WholeFault, failures: &mut u64) -> ShelfFault
 }
 
 impl<R: Files + AllocGlobal> FileShelf<R> {
-    /// A file is read up to its limit and no further, and one that the system says is larger not at all.
+    /// Reads the file of this `name` whole. Reading stops once more than `MAX_FILE` bytes have come. A file that the
+    /// system says is larger isn't read at all.
     fn read_file(&mut self, alloc: Global, name: &str) -> Result<Vec<u8>, ShelfFault>
         ensures small { IfOk result (λ v. vec_len v ≤ 1073741824) }
         ensures counted { CountsFailures self.old.failures self.new.failures result }
@@ -204,11 +209,13 @@ impl<R: Files + AllocGlobal> Shelf for FileShelf<R> {
         answer
     }
 
-    /// A file is put under its name whole or not at all. The bytes go to a new file beside it, in the same folder,
-    /// whose name is this one with `.part` behind it (where a file has that name, the first free one of `.part2`,
-    /// `.part3` and `.part4`). That file is renamed once the device has all bytes, and has the permissions of a new
-    /// file; a link of the name is replaced. At a fault what stood under the name is as it was, and the new file is
-    /// removed if that can be done. A name that is a folder, a device or a read-only file is a failure of the device.
+    /// Puts a file under `name` whole or not at all. The bytes go to a new file beside it, in the same folder. The new
+    /// file's name is `name` with `.part` behind it. If a file has that name already, the first free one of the
+    /// suffixes `.part2`, `.part3` and `.part4` is taken. The new file is renamed once the device has all bytes, and
+    /// has the permissions of a new file. A link of the name is replaced.
+    ///
+    /// At a fault, what stood under the name is as it was, and the new file is removed if that can be done. A name that
+    /// is a folder, a device or a read-only file is a failure of the device.
     fn store(&mut self, alloc: Global, name: &str, bytes: &[u8]) -> Result<(), ShelfFault> {
         let answer = match replace_file(&self.rt, alloc, name, bytes) {
             Ok(()) => Ok(()),

@@ -13,11 +13,11 @@ use cli_record_text::ByteSum;
 use field_lines::{Source, SourceFault};
 use std::io::{ErrorKind, Read};
 
-/// How often a read is made before one that was interrupted each time counts as failed.
+/// How often a read is tried before it counts as failed, if it was interrupted each time.
 const MAX_TRIES: u32 = 1_000;
 
-/// A file of the machine that is read from its beginning on. A read that was interrupted is made again, up to 1,000
-/// times in all; past that it is a failed read, as one with any other error is at once.
+/// A file of the machine that is read from its beginning on. A read that was interrupted is tried again, up to 1,000
+/// times in all. If all tries were interrupted, the read has failed. Any other error makes it fail at once.
 #[derive(Drop)]
 pub struct FileReader<F> {
     file: F,
@@ -27,8 +27,8 @@ pub struct FileReader<F> {
 }
 
 impl<F: Read> FileReader<F> {
-    /// A reader of what is left in a file. It has given nothing, and hasn't failed. If a sum is asked for, it sums what
-    /// it gives.
+    /// Creates a reader of what is left in `file`. It has given nothing, and hasn't failed. It sums what it gives if
+    /// `is_summed` is true.
     pub(crate) fn new(file: F, is_summed: bool) -> Self
         ensures given { ⟦<FileReader<F> as Source>⟧.given result ≡ nothing_given }
         ensures failed { ⟦<FileReader<F> as Source>⟧.is_failed result ≡ false }
@@ -41,7 +41,7 @@ impl<F: Read> FileReader<F> {
         }
     }
 
-    /// Returns where it stands: at the end of its file, if a pull gave no byte.
+    /// Returns where the reader stands. It is at the end of its file if its last pull that didn't fail gave no byte.
     pub(crate) fn end(&self) -> ReadEnd
         ensures { result ≡ read_end (⟦<FileReader<F> as Source>⟧.given self.now).ended }
     {
@@ -52,7 +52,7 @@ impl<F: Read> FileReader<F> {
         }
     }
 
-    /// What sort of error the last pull met; none where it didn't fail.
+    /// Returns the kind of error that the last pull met, or `None` if it didn't fail.
     pub(crate) fn reason(&self) -> Option<ErrorKind>
         ensures { is_some result ≡ ⟦<FileReader<F> as Source>⟧.is_failed self.now }
     {
@@ -61,7 +61,7 @@ impl<F: Read> FileReader<F> {
 }
 
 impl<F: Read + Drop> FileReader<F> {
-    /// The bytes that were given, as the log has them, and their sum if it was asked for.
+    /// Returns the bytes that were given, as the log has them, and their sum if it was asked for.
     pub(crate) fn into_given(self) -> (GivenBytes, Option<ByteSum>)
         ensures given { result.0.bytes ≡ (⟦<FileReader<F> as Source>⟧.given self).bytes }
         ensures sum { IfSome result.1 (λ sum. sum ≡ sum_of_bytes (⟦<FileReader<F> as Source>⟧.given self).bytes) }

@@ -5,8 +5,8 @@ ghost use Rattle.std.specs.Borrow.{ftrue};
 
 use std::marker::Model;
 
-/// The bytes that a reader gave so far, which only proofs read: it takes no memory, and its calls do nothing. A reader
-/// notes each pull in it.
+/// The bytes that a reader gave so far, which only proofs read. The log takes no memory, and its calls do nothing. A
+/// reader notes each pull in it.
 #[derive(Drop)]
 pub struct GivenBytes {
     pub ghost bytes: { List ℕ },
@@ -17,14 +17,14 @@ impl Model for GivenBytes {
 }
 
 impl GivenBytes {
-    /// No byte so far.
+    /// Creates a log without bytes.
     pub fn new() -> Self
         ensures { result.bytes ≡ [] }
     {
         GivenBytes {}
     }
 
-    /// Puts bytes at the end.
+    /// Appends the bytes of `_bytes`.
     pub fn note(&mut self, _bytes: &[u8])
         ensures { self.new.bytes ≡ self.old.bytes ++ _bytes.now }
     {}

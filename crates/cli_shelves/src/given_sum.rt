@@ -1,4 +1,4 @@
-//! What a reader gave, and its sum if the sum is asked for.
+//! What a reader gave, and its sum if it is asked for.
 
 ghost use Rattle.std.specs.Prelude.{◌≡◌, ◌++◌, [], IfSome};
 ghost use Rattle.cli_record_text.specs.Sums.{sum_of as sum_of_bytes};
@@ -7,7 +7,7 @@ use crate::given_bytes::GivenBytes;
 use cli_record_text::{ByteSum, RunningSum};
 use std::marker::Model;
 
-/// The bytes that a reader gave so far, which only proofs read, and the running sum of them if it is asked for.
+/// The bytes that a reader gave so far, which only proofs read, and their running sum if it is asked for.
 #[derive(Drop)]
 pub struct GivenSum {
     log: GivenBytes,
@@ -27,7 +27,7 @@ impl Model for GivenSum {
 }
 
 impl GivenSum {
-    /// No byte so far.
+    /// Creates a log without bytes. It keeps their sum if `is_summed` is true.
     pub(crate) fn new(is_summed: bool) -> Self
         ensures { result ≡ [] }
     {
@@ -42,7 +42,7 @@ impl GivenSum {
         }
     }
 
-    /// Puts bytes at the end.
+    /// Appends the bytes of `piece`.
     pub(crate) fn note(&mut self, piece: &[u8])
         ensures { self.new ≡ self.old ++ piece.now }
     {
@@ -52,7 +52,7 @@ impl GivenSum {
         }
     }
 
-    /// The bytes that were given, as proofs read them, and their sum if it is asked for.
+    /// Returns the bytes that were given, as proofs read them, and their sum if it was asked for.
     pub(crate) fn finish(self) -> (GivenBytes, Option<ByteSum>)
         ensures given { result.0.bytes ≡ self }
         ensures sum { IfSome result.1 (λ sum. sum ≡ sum_of_bytes self) }

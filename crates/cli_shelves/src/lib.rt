@@ -1,5 +1,5 @@
-//! Named files, and where bytes come from and go. A shelf has the machine's files or some in memory, a source is read
-//! whole, and a sink tells whether it failed.
+//! Named files, and the sources and sinks of bytes. A shelf has the machine's files or files in memory. A source is
+//! read whole, and a sink tells whether it failed.
 #![tactic(auto)]
 
 mod device;

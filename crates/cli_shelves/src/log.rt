@@ -8,8 +8,8 @@ use crate::given_bytes::GivenBytes;
 use crate::shelf::{ReadEnd, ShelfFault};
 use std::marker::Model;
 
-/// The events of a shelf so far, which only proofs read: it takes no memory, and its calls do nothing. A shelf that
-/// keeps one notes each event in it, and tells it in its history.
+/// The events of a shelf so far, which only proofs read. The log takes no memory, and its calls do nothing. A shelf
+/// that keeps one notes each event in it, and tells the events in its history.
 #[derive(Drop)]
 pub struct EventLog {
     pub ghost events: { List ShelfEvent },
@@ -20,20 +20,20 @@ impl Model for EventLog {
 }
 
 impl EventLog {
-    /// No event so far.
+    /// Creates a log without events.
     pub fn new() -> Self
         ensures { result.events ≡ [] }
     {
         EventLog {}
     }
 
-    /// Puts a load at the end: the bytes of the file's name, and what the load answers.
+    /// Appends a load: the bytes of the file's name (`_name`), and what the load answered (`_answer`).
     pub fn note_load(&mut self, _name: &[u8], _answer: &Result<Vec<u8>, ShelfFault>)
         ensures { self.new.events ≡ with_load (λ v. v.items) self.old.events _name.now _answer.now }
     {}
 
-    /// Puts a reader at the end that is given back: the bytes of the file's name, what it gave, and what the call
-    /// answers.
+    /// Appends a reader that was given back: the bytes of the file's name (`_name`), what the reader gave (`_given`),
+    /// and what the call answered (`_answer`).
     pub fn note_read(
         &mut self,
         _name: &[u8],
@@ -43,7 +43,8 @@ impl EventLog {
         ensures { self.new.events ≡ with_read self.old.events _name.now _given.now.bytes _answer.now }
     {}
 
-    /// Puts a file at the end that is handed over: the bytes of its name, its bytes, and what the call answers.
+    /// Appends a file that was handed over: the bytes of its name (`_name`), its bytes (`_bytes`), and whether
+    /// `_answer` says that it was taken.
     pub fn note_store(&mut self, _name: &[u8], _bytes: &[u8], _answer: &Result<(), ShelfFault>)
         ensures { self.new.events ≡ with_store self.old.events _name.now _bytes.now _answer.now }
     {}

@@ -40,7 +40,7 @@ impl Model for MemoryShelf {
     ghost view = { λ s. record { files = files_of s.files.items; stored = files_of s.stored.items; events = s.log } };
 }
 
-/// The first file of the name.
+/// Returns the first of `files` that has this `name`.
 fn file_named<'a>(files: &'a [MemoryFile], name: &str) -> Option<&'a MemoryFile>
     ensures { bytes_in result ≡ held (files_of files.now) name.now }
 {
@@ -52,7 +52,7 @@ fn file_named<'a>(files: &'a [MemoryFile], name: &str) -> Option<&'a MemoryFile>
     None
 }
 
-/// The place of the first file of the name.
+/// Returns the index in `files` of the first file that has this `name`.
 fn place_of(files: &[MemoryFile], name: &str) -> Option<usize>
     ensures { HasPlace (files_of files.now) name.now result }
 {
@@ -64,7 +64,8 @@ fn place_of(files: &[MemoryFile], name: &str) -> Option<usize>
     None
 }
 
-/// Puts the bytes in the place of the file of that name, or last.
+/// Puts a file of these `bytes` in the place of the first one in `files` that has this `name`, or last if there is
+/// none. If memory was refused, `files` stays as it was.
 fn put_file(
     alloc: Global,
     files: &mut Vec<MemoryFile>,
@@ -87,7 +88,7 @@ fn put_file(
 }
 
 impl MemoryShelf {
-    /// A shelf of these files; of several of one name the first counts.
+    /// Creates a shelf of these `files`. Where several have one name, the first counts.
     pub fn new(alloc: Global, files: Vec<MemoryFile>) -> Self
         ensures files { result.files ≡ files_of files.items }
         ensures stored { result.stored ≡ [] }
@@ -100,7 +101,8 @@ impl MemoryShelf {
         }
     }
 
-    /// The file that was stored under the name, else the first of those that it began with.
+    /// Returns the file that was stored under `name`, or else the first of that name among those that the shelf began
+    /// with.
     fn file(&self, name: &str) -> Option<&MemoryFile>
         ensures { bytes_in result ≡ option_or (held self.now.stored name.now) (held self.now.files name.now) }
     {
@@ -111,7 +113,7 @@ impl MemoryShelf {
         file_named(self.files.as_slice(), name)
     }
 
-    /// A copy of the bytes of the file of the name, however many they are.
+    /// Returns a copy of the bytes of the file of this `name`, however many they are.
     fn copy_of(&self, alloc: Global, name: &str) -> Result<Vec<u8>, ShelfFault>
         ensures opened { Opens (Some (λ n. option_or (held self.now.stored n) (held self.now.files n))) 0 name.now result }
         ensures counted { CountsFailures 0 0 result }
@@ -122,7 +124,7 @@ impl MemoryShelf {
         }
     }
 
-    /// Puts a copy of the bytes under the name.
+    /// Stores a copy of `bytes` under `name`. If memory was refused, the stored files stay as they were.
     fn put(&mut self, alloc: Global, name: &str, bytes: &[u8]) -> Result<(), ShelfFault>
         ensures put { OnOk result (self.new.stored ≡ with_file self.old.stored name.now bytes.now) }
         ensures same { OnErr result (self.new.stored ≡ self.old.stored) }
@@ -135,7 +137,7 @@ impl MemoryShelf {
         Ok(())
     }
 
-    /// A copy of the bytes of the file of the name.
+    /// Returns a copy of the bytes of the file of this `name`, if they are at most `MAX_FILE`.
     fn bytes(&self, alloc: Global, name: &str) -> Result<Vec<u8>, ShelfFault>
         ensures small { IfOk result (λ v. vec_len v ≤ 1073741824) }
         ensures loaded { Loads (λ v. v.items) (λ n. option_or (held self.now.stored n) (held self.now.files n)) 0 name.now result }
@@ -148,7 +150,7 @@ impl MemoryShelf {
         }
     }
 
-    /// The files that were stored, in order of storing, each name once.
+    /// Returns the files that were stored, each name once, in the order in which the names were first stored.
     pub fn stored_files(&self) -> &[MemoryFile]
         ensures { files_of result.now ≡ self.now.stored }
     {
@@ -156,7 +158,7 @@ impl MemoryShelf {
     }
 }
 
-/// What stands behind the given bytes, if they are the first.
+/// Returns what follows `given` in `bytes`, or `None` if `bytes` doesn't begin with `given`.
 fn rest_behind<'a>(bytes: &'a [u8], given: &[u8]) -> Option<&'a [u8]>
     ensures { IfSome result (λ rest. bytes.now ≡ given.now ++ rest.now) }
 {
@@ -167,8 +169,9 @@ fn rest_behind<'a>(bytes: &'a [u8], given: &[u8]) -> Option<&'a [u8]>
     if front == given { Some(rest) } else { None }
 }
 
-/// Returns where a reader stood that gave the bytes `given` of `file`: at the end of the file if the reader has ended.
-/// `Missing` where there is no such file, where it doesn't begin with them, or where the reader has ended before it.
+/// Returns where a reader stood that gave the bytes `given` of `file`: at the end of the file if `has_ended` is true.
+/// Returns `Missing` if there is no such file, if it doesn't begin with these bytes, or if the reader ended before the
+/// end of the file.
 fn end_in(file: Option<&MemoryFile>, given: &[u8], has_ended: bool) -> Result<ReadEnd, ShelfFault>
     ensures told { ReaderEndsIn (bytes_in file.entry) given.now result }
     ensures end { IfOk result (λ end. end ≡ read_end has_ended) }

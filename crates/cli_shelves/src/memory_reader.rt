@@ -22,7 +22,7 @@ impl Model for MemoryReader {
     ghost use Rattle.std.specs.Prelude.{◌≡◌, ◌≤◌, vec_len, take};
     ghost use Rattle.cli_shelves.specs.Memory.{ReaderValue};
 
-    /// The bytes of the file, those that were given, how many these are, and whether a pull gave none.
+    /// The bytes of the file, those that were given, how many these are, and whether the last pull gave none.
     ghost Value = { ReaderValue };
 
     ghost view = { λ r. record { bytes = r.bytes.items; given = r.log.bytes; at = r.at; ended = r.ended } };
@@ -30,7 +30,7 @@ impl Model for MemoryReader {
     ghost invariant = { λ r. (r.at ≤ vec_len r.bytes) × (r.log.bytes ≡ take r.at r.bytes.items) };
 }
 
-/// Copies bytes from the front, as many as there are and fit, and says how many.
+/// Copies the front of `bytes` to the front of `buffer`, as many bytes as there are and fit. Returns how many.
 fn copy_front(bytes: &[u8], buffer: &mut [u8]) -> usize
     ensures few { result ≤ length bytes.now }
     ensures bound { result ≤ length buffer.new }
@@ -43,7 +43,7 @@ fn copy_front(bytes: &[u8], buffer: &mut [u8]) -> usize
 }
 
 impl MemoryReader {
-    /// A reader of these bytes that has given none.
+    /// Creates a reader of these `bytes` that has given none.
     pub(crate) fn new(bytes: Vec<u8>) -> Self
         ensures bytes { result.bytes ≡ bytes.items }
         ensures given { result.given ≡ [] }
@@ -57,14 +57,14 @@ impl MemoryReader {
         }
     }
 
-    /// The bytes that were given.
+    /// Returns the bytes that were given.
     pub(crate) fn given(&self) -> &[u8]
         ensures { result.now ≡ self.now.given }
     {
         &self.bytes[..self.at]
     }
 
-    /// The sum of the bytes that were given, if it is asked for.
+    /// Returns the sum of the bytes that were given, or `None` if it isn't `asked` for.
     pub(crate) fn sum_if(&self, asked: bool) -> Option<ByteSum>
         ensures { IfSome result (λ sum. sum ≡ sum_of_bytes self.now.given) }
     {
@@ -75,14 +75,14 @@ impl MemoryReader {
         }
     }
 
-    /// Returns whether a pull gave no byte.
+    /// Returns whether the last pull gave no byte.
     pub(crate) fn has_ended(&self) -> bool
         ensures { result ≡ self.now.ended }
     {
         self.ended
     }
 
-    /// The bytes that were given, as the log has them.
+    /// Returns the bytes that were given, as the log has them.
     pub(crate) fn log(&self) -> &GivenBytes
         ensures { result.now.bytes ≡ self.now.given }
     {

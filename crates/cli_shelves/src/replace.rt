@@ -6,10 +6,12 @@ use std::io::{Error, ErrorKind, Write};
 use std::rt::Files;
 use std::{fs, io};
 
-/// What stands behind the wanted name in that of the new file: the first that no file has.
+/// The suffixes that follow the wanted name in the name of the new file. The first one is taken that gives a name which
+/// no file has.
 const SUFFIXES: &[&str] = &[".part", ".part2", ".part3", ".part4"];
 
-/// Why no file may be put under the name: it is that of a folder, a device or a read-only file.
+/// Returns why no file may be put under `name`: `IsADirectory` for the name of a folder, and `PermissionDenied` for
+/// that of a device or a read-only file. Returns `None` for any other name.
 fn refusal<R: Files>(rt: &R, name: &str) -> Option<ErrorKind> {
     match fs::metadata(rt, name) {
         Ok(metadata) if metadata.is_dir() => Some(ErrorKind::IsADirectory),
@@ -20,7 +22,7 @@ fn refusal<R: Files>(rt: &R, name: &str) -> Option<ErrorKind> {
     }
 }
 
-/// A new file beside the wanted one, and its name. No file that was there is opened.
+/// Creates a new file beside the one of `name`, and returns it with its own name. Opens no file that was there.
 fn new_file_beside<R: Files>(rt: &R, alloc: Global, name: &str) -> io::Result<(R::File, String)> {
     for suffix in SUFFIXES {
         let part = format!(in alloc; "{name}{suffix}")?;
@@ -33,20 +35,21 @@ fn new_file_beside<R: Files>(rt: &R, alloc: Global, name: &str) -> io::Result<(R
     Err(Error::from(ErrorKind::AlreadyExists))
 }
 
-/// Writes the bytes to a file, up to the device, and closes it.
+/// Writes all `bytes` to `file`, up to the device, and closes it.
 fn fill<F: Write + OpenFile + Drop>(mut file: F, bytes: &[u8]) -> io::Result<()> {
     file.write_all(bytes)?;
     file.sync_all()
 }
 
-/// Puts a file of these bytes under a name whole or not at all: they go to a new file beside it, which is then
+/// Puts a file of these `bytes` under `name` whole or not at all. The bytes go to a new file beside it, which is then
 /// renamed.
 ///
 /// # Errors
 ///
-/// `OutOfMemory` where a growth was refused, `IsADirectory` where the name is that of a folder, `PermissionDenied`
-/// where it is that of a device or a read-only file, `AlreadyExists` where all names of new files are taken, else what
-/// the system says. What stood under the name is then as it was, and the new file is removed if that can be done.
+/// Returns `OutOfMemory` if memory was refused, `IsADirectory` if the name is that of a folder, and `PermissionDenied`
+/// if it is that of a device or a read-only file. Returns `AlreadyExists` if all names of new files are taken, and any
+/// other error as the system gives it. What stood under the name is then as it was, and the new file is removed if that
+/// can be done.
 pub(crate) fn replace_file<R: Files>(
     rt: &R,
     alloc: Global,

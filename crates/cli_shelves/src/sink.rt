@@ -13,29 +13,30 @@ use thiserror::Error;
 #[error("the output could not be written")]
 pub struct SinkFault;
 
-/// What bytes are written to, as standard output.
+/// What bytes are written to, such as standard output.
 pub trait Sink {
-    /// The bytes that it holds, where it tells them.
+    /// The bytes that the sink holds, where it tells them.
     ghost contents: { Self → Option (List ℕ) };
 
-    /// Whether the last write answered an error.
+    /// Whether the last write returned an error.
     ghost is_failed: { Self → Bool };
 
-    /// Writes all the bytes, and keeps none back.
+    /// Writes all `bytes`, and keeps none back.
     ///
     /// # Errors
     ///
-    /// `SinkFault` where they could not be written; how many went out is not said.
+    /// Returns `SinkFault` if they could not be written. How many of them went out isn't told.
     fn put(&mut self, bytes: &[u8]) -> Result<(), SinkFault>
         ensures bytes { OnOk result (Appends (contents self.old) (contents self.new) bytes.now) }
         ensures failed { is_failed self.new ≡ is_err result };
 
-    /// Whether the last write answered an error.
+    /// Returns whether the last write returned an error.
     fn failed(&self) -> bool
         ensures { result ≡ is_failed self.now };
 }
 
-/// A writer of std as a sink. Each `put` flushes it, so that what it keeps back and can't pass on is a fault too.
+/// A writer of std as a sink. Each `put` flushes it, so that bytes which it held back and can't pass on are a fault
+/// too.
 #[derive(Drop)]
 pub struct Writing<W> {
     writer: W,
@@ -43,7 +44,7 @@ pub struct Writing<W> {
 }
 
 impl<W: Write> Writing<W> {
-    /// A sink that has not failed, with what the writer holds.
+    /// Creates a sink that has not failed, and that holds what `writer` holds.
     pub fn new(writer: W) -> Self
         ensures contents { ⟦<Writing<W> as Sink>⟧.contents result ≡ W.contents writer }
         ensures failed { ⟦<Writing<W> as Sink>⟧.is_failed result ≡ false }
@@ -55,7 +56,7 @@ impl<W: Write> Writing<W> {
     }
 }
 
-/// Writes all the bytes and flushes the writer.
+/// Writes all `bytes` to `writer`, and flushes it.
 fn write_through<W: Write>(writer: &mut W, bytes: &[u8]) -> io::Result<()>
     ensures { OnOk result (Appends (W.contents writer.old) (W.contents writer.new) bytes.now) }
 {

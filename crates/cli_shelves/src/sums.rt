@@ -1,4 +1,4 @@
-//! The sums of what a shelf gave and took, where they are asked for.
+//! The sums of what a shelf gave and took, kept if they are asked for.
 
 ghost use Rattle.std.specs.Prelude.{◌≡◌, ℕ, ◌-◌, ◌^◌, ◌++◌, ◌∷◌, [], List, IfSome, length, map, min};
 ghost use Rattle.std.specs.Option.{IsSomeAnd};
@@ -24,7 +24,7 @@ pub enum EventKind {
     Part,
     /// A file was stored.
     Taken,
-    /// A file was not given, not read to where it was asked, or not stored.
+    /// A file was not given, not read as far as was asked, or not stored.
     Failed,
 }
 
@@ -60,7 +60,7 @@ impl Model for EventSums {
     ghost invariant = { λ s. (s.count ≡ min (length s.log.events) (2 ^ 64 - 1)) × IfSome s.sums (λ v. AreOfLast s.log.events v.items) };
 }
 
-/// How a load went, and the sum of what it gave.
+/// Returns how a load with this `answer` went, and the sum of what it gave. A load that failed gave no bytes.
 fn sum_of_load(answer: &Result<Vec<u8>, ShelfFault>) -> (EventKind, ByteSum)
     ensures { (name : List ℕ)
         → ◌≡◌ {A = SumOfEvent} (record { kind = result.0; name = name; sum = result.1 }) (sum_of_event (Loaded name (bytes_of_answer (λ v. v.items) answer.now))) }
@@ -71,7 +71,7 @@ fn sum_of_load(answer: &Result<Vec<u8>, ShelfFault>) -> (EventKind, ByteSum)
     }
 }
 
-/// How a reading went.
+/// Returns how a reading with this `answer` went.
 fn kind_of_read(answer: &Result<ReadEnd, ShelfFault>) -> EventKind
     ensures { (name bytes : List ℕ)
         → ◌≡◌ {A = SumOfEvent} (record { kind = result; name = name; sum = sum_of_bytes bytes }) (sum_of_event (Read name bytes answer.now)) }
@@ -83,7 +83,7 @@ fn kind_of_read(answer: &Result<ReadEnd, ShelfFault>) -> EventKind
     }
 }
 
-/// How a store went.
+/// Returns how a store with this `answer` went.
 fn kind_of_store(answer: &Result<(), ShelfFault>) -> EventKind
     ensures { (name bytes : List ℕ)
         → ◌≡◌ {A = SumOfEvent} (record { kind = result; name = name; sum = sum_of_bytes bytes }) (sum_of_event (Stored name bytes (is_taken answer.now))) }
@@ -94,7 +94,7 @@ fn kind_of_store(answer: &Result<(), ShelfFault>) -> EventKind
     }
 }
 
-/// Sums with one more. None if a growth was refused.
+/// Returns `sums` with one more at the end, made of `kind`, `name` and `sum`. Returns `None` if memory was refused.
 fn with_sum(
     mut sums: Vec<EventSum>,
     kind: EventKind,
@@ -114,7 +114,7 @@ fn with_sum(
     }
 }
 
-/// Sums with one more, if sums are kept. None if a growth was refused.
+/// Returns `sums` with one more at the end, if sums are kept. Returns `None` if they aren't, or if memory was refused.
 fn with_sum_if_kept(
     sums: Option<Vec<EventSum>>,
     kind: EventKind,
@@ -131,7 +131,7 @@ fn with_sum_if_kept(
 }
 
 impl EventSums {
-    /// No event so far, and no sums are kept.
+    /// Creates a list without events that keeps no sums.
     pub(crate) fn new() -> Self
         ensures { result ≡ [] }
     {
@@ -142,27 +142,27 @@ impl EventSums {
         }
     }
 
-    /// Keeps the sums of the events from now on. Sums kept before are dropped.
+    /// Starts to keep the sums of the events from now on. Drops the sums that were kept before.
     pub(crate) fn keep(&mut self, alloc: Global)
         ensures { self.new ≡ self.old }
     {
         self.sums = Some(Vec::new(alloc));
     }
 
-    /// Whether sums are kept.
+    /// Returns whether sums are kept.
     pub(crate) fn are_kept(&self) -> bool {
         self.sums.is_some()
     }
 
-    /// How many events there are, or 2^64 - 1 if there are more.
+    /// Returns how many events there are, or 2^64 - 1 if there are more.
     pub(crate) fn count(&self) -> u64
         ensures { result ≡ min (length self.now) (2 ^ 64 - 1) }
     {
         self.count
     }
 
-    /// The sums of the last events, which are those since sums are kept. None if no sums are kept, or if a growth was
-    /// refused for one of them.
+    /// Returns the sums of the last events, one for each event since sums are kept. Returns `None` if no sums are kept,
+    /// or if memory was refused for one of them.
     pub(crate) fn sums(&self) -> Option<&[EventSum]>
         ensures { IfSome result (λ sums. AreOfLast self.now sums.now) }
     {
@@ -172,7 +172,7 @@ impl EventSums {
         }
     }
 
-    /// Puts a load at the end: the file's name, and what the load answers.
+    /// Appends a load: the file's `name`, and what the load answered.
     pub(crate) fn note_load(&mut self, name: &str, answer: &Result<Vec<u8>, ShelfFault>)
         ensures { self.new ≡ with_load (λ v. v.items) self.old name.now answer.now }
     {
@@ -184,8 +184,8 @@ impl EventSums {
         }
     }
 
-    /// Puts a reader at the end that is given back: the file's name, what it gave with its sum, and what the call
-    /// answers. If sums are kept and this sum is missing, they are kept no more.
+    /// Appends a reader that was given back: the file's `name`, what the reader gave (`given`) with its `sum`, and what
+    /// the call answered. If sums are kept and `sum` is missing, they are kept no more.
     pub(crate) fn note_read(
         &mut self,
         name: &str,
@@ -204,7 +204,7 @@ impl EventSums {
         }
     }
 
-    /// Puts a file at the end that is handed over: its name, its bytes, and what the call answers.
+    /// Appends a file that was handed over: its `name`, its `bytes`, and what the call answered.
     pub(crate) fn note_store(&mut self, name: &str, bytes: &[u8], answer: &Result<(), ShelfFault>)
         ensures { self.new ≡ with_store self.old name.now bytes.now answer.now }
     {

@@ -13,20 +13,20 @@ pub enum WholeFault {
     /// The source has more bytes than the limit.
     #[error("the source has too many bytes")]
     TooLarge,
-    /// A pull answered an error.
+    /// A pull returned an error.
     #[error("the source could not be read")]
     Failed,
-    /// Memory ran out.
+    /// Memory was refused.
     #[error("out of memory")]
     Memory,
 }
 
-/// All bytes that are left in a source, if they are no more than the limit.
+/// Returns all bytes that are left in `source`, if they are at most `limit`.
 ///
 /// # Errors
 ///
-/// `Failed` exactly where a pull failed, as the source then tells; `TooLarge` where more than
-/// `limit` bytes are left; `Memory` where memory ran out. What was pulled before is lost.
+/// Returns `Failed` exactly if a pull failed, as `source` then tells. Returns `TooLarge` if more than `limit` bytes are
+/// left, and `Memory` if memory was refused. What was pulled before is lost.
 pub fn read_whole<S: Source>(
     alloc: Global,
     source: &mut S,

@@ -5,7 +5,7 @@ use std::alloc::AllocFailed;
 use thiserror::Error;
 
 /// What is wrong with a file whose lines have county codes: adjacency, links, withdrawn sets or a grouping. The first
-/// four are faults of a line, and the first of them answers.
+/// four are faults of a line. Of several on one line, the first is told.
 #[derive(Clone, Copy, Debug, PartialEq, Eq, Error)]
 pub enum CodeLineKind {
     /// The line has fewer fields than its file asks for.
@@ -20,7 +20,7 @@ pub enum CodeLineKind {
     /// A county code isn't five digits.
     #[error("a county code has five digits")]
     BadCode,
-    /// The text has a line that can't be read; this comes after the faults of the lines before it.
+    /// The text has a line that can't be read. The faults of the lines before it come first.
     #[error("{0}")]
     Lower(LineFault),
     /// Memory was refused.
@@ -39,7 +39,7 @@ impl<T: Drop> From<AllocFailed<T>> for CodeLineKind {
     }
 }
 
-/// Why a file whose lines have county codes gives nothing. The line counts from 1, with blank lines counted; for
+/// Why a file whose lines have county codes gives nothing. The line counts from 1, with blank lines counted. For
 /// `Lower` it is that of the line fault, and for `Memory` it is left open.
 #[derive(Clone, Copy, Debug, PartialEq, Eq, Error)]
 #[error("line {line}: {kind}")]
@@ -55,7 +55,7 @@ impl CodeLineFault {
     ghost use Rattle.field_lines.specs.Fault.{line_of_fault};
     ghost use Rattle.grouping_reader.specs.Faults.{code_line_cut_fault};
 
-    /// The fault of a text whose lines end in a fault.
+    /// Creates the fault of a text whose lines end in `fault`.
     pub fn of_cut(fault: LineFault) -> Self
         requires { line_of_fault fault < 2 ^ 32 }
         ensures { result ≡ code_line_cut_fault fault }

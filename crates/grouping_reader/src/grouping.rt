@@ -12,7 +12,7 @@ use county_codes::{Group, Grouping};
 use field_lines::Lines;
 use std::alloc::Global;
 
-/// The group on a line.
+/// Reads the group on a `line`.
 fn group_in(alloc: Global, line: &[u8]) -> Result<Group, CodeLineKind>
     ensures { GivesUnless (λ k. k ≡ Memory) (λ s. s) result (group_on line.now) }
 {
@@ -20,7 +20,7 @@ fn group_in(alloc: Global, line: &[u8]) -> Result<Group, CodeLineKind>
     Ok(Group { seats, codes })
 }
 
-/// Adds the group on a line to those of the lines before.
+/// Reads the group on a `line`, and appends it to `groups`.
 fn add_group(alloc: Global, groups: &mut Vec<Group>, line: &[u8]) -> Result<(), CodeLineKind>
     ensures { AddsUnless (λ k. k ≡ Memory) groups.old.items (group_on line.now) result groups.new.items }
 {
@@ -29,15 +29,15 @@ fn add_group(alloc: Global, groups: &mut Vec<Group>, line: &[u8]) -> Result<(), 
     Ok(())
 }
 
-/// The grouping of a text, its groups in the order of the lines. The text is a cut text (`Lines` of
-/// `field_lines`), and a line is cut into fields at each pipe: field 1 is the number of seats, 0 to 65,535,
-/// and each field from the second on is a code of five digits. A text without lines gives no groups.
+/// Reads the grouping of a text, with its groups in the order of the lines. The text is a cut text (`Lines` of
+/// `field_lines`), and a line is cut into fields at each pipe. Field 1 is the number of seats, 0 to 65,535. Each field
+/// from the second on is a code of five digits. A text without lines gives no groups.
 ///
 /// # Errors
 ///
-/// The first line at fault answers, on it the first kind: `TooFewFields` where it has fewer than 2 fields,
-/// then `BadSeats`, then `BadCode`. A line that can't be read (`Lower`) answers after the lines before it,
-/// and `Memory` in the place of any answer.
+/// Returns the fault of the first line at fault. Of several kinds on that line the first is told: `TooFewFields` if it
+/// has fewer than 2 fields, then `BadSeats`, then `BadCode`. A line that can't be read (`Lower`) is told after the
+/// faults of the lines before it. `Memory` may come in the place of any answer if memory was refused.
 pub fn read_grouping(alloc: Global, bytes: &[u8]) -> Result<Grouping, CodeLineFault>
     ensures { GivesUnless IsCodeLineMemory (λ g. g.groups.items) result (grouping_list bytes.now) }
 {

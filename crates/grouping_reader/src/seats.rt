@@ -13,17 +13,17 @@ use county_codes::{Codes, CountyCode};
 use field_lines::{Fields, field_at, five_digits, number_in};
 use std::alloc::Global;
 
-/// What stands between two fields of a line.
+/// The byte between two fields of a line.
 pub const DELIMITER: u8 = b'|';
 
-/// The county code that a field of exactly five ASCII digits spells. `None` for any other field.
+/// Returns the county code that a `field` of exactly five ASCII digits spells. Returns `None` for any other field.
 pub fn code_in(field: &[u8]) -> Option<CountyCode>
     ensures { result ≡ digits_of 5 field.now }
 {
     CountyCode::new(five_digits(field)?)
 }
 
-/// The codes of a line's fields from the second on.
+/// Reads the codes of a line's fields from the second on.
 fn codes_in(alloc: Global, line: &[u8]) -> Result<Codes, CodeLineKind>
     ensures { GivesUnless (λ f. f ≡ Memory) (λ c. c) result (codes_on (drop 1 (fields_of 124 line.now))) }
 {
@@ -37,15 +37,15 @@ fn codes_in(alloc: Global, line: &[u8]) -> Result<Codes, CodeLineKind>
     Ok(Codes::new(codes))
 }
 
-/// The seats and the county codes of a line that is cut into fields at each pipe: field 1 is a number of
-/// seats from `least` to `greatest` (one or more ASCII digits, leading zeros allowed), and each field from
-/// the second on is a code of exactly five digits.
+/// Reads the seats and the county codes of a `line`, which is cut into fields at each pipe. Field 1 is a number of
+/// seats from `least` to `greatest`: one or more ASCII digits, with leading zeros allowed. Each field from the second
+/// on is a code of exactly five digits.
 ///
 /// # Errors
 ///
-/// `TooFewFields` where the line has fewer than 2 fields; else `BadSeats` where field 1 isn't such a
-/// number; else `BadCode` where a later field isn't five digits. `Memory` comes only where a growth was
-/// refused, in the place of `BadCode` or of an answer, and never in that of the first two.
+/// Returns `TooFewFields` if the line has fewer than 2 fields. Otherwise returns `BadSeats` if field 1 isn't such a
+/// number, and then `BadCode` if a later field isn't five digits. Returns `Memory` only if memory was refused. It may
+/// take the place of `BadCode` or of an answer, but never that of `TooFewFields` or `BadSeats`.
 #[tactic(auto, unfolding(crate::specs::SeatLine::seat_line))]
 pub fn seats_and_codes(
     alloc: Global,

@@ -1,4 +1,4 @@
-//! Lists of sets: equal sets, and sets by size and then by places.
+//! Lists of sets: equal sets, and sets ordered by size and then by places.
 
 ghost use Rattle.std.specs.Prelude.{◌≡◌, ℕ, map, IfOk};
 ghost use Rattle.std.specs.Cmp.Lexicographic.{slice_cmp};
@@ -10,7 +10,7 @@ use crate::county_set::CountySet;
 use crate::size_order::by_size_and_places;
 use std::alloc::{AllocError, Global};
 
-/// Equal sets.
+/// Returns sets that equal `sets`, in the same order.
 pub fn copy_sets<C: CountySet>(alloc: Global, sets: &[C]) -> Result<Vec<C>, AllocError>
     ensures tests { IfOk result (λ v. map C.test v.items ≡ map C.test sets.now) }
     ensures places { IfOk result (λ v. (n : ℕ) → lists_of n C.test v.items ≡ lists_of n C.test sets.now) }
@@ -22,7 +22,7 @@ pub fn copy_sets<C: CountySet>(alloc: Global, sets: &[C]) -> Result<Vec<C>, Allo
     Ok(copies)
 }
 
-/// The sets by size, and sets of one size by their lists of places. No list of places is made.
+/// Returns `sets` sorted by size, and sets of one size by their lists of places. No list of places is made.
 pub fn sorted<C: CountySet>(sets: Vec<C>) -> Result<Vec<C>, AllocError>
     ensures same { IfOk result (λ v. IsPermutation sets.items v.items) }
     ensures sorted { IfOk

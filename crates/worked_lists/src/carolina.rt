@@ -11,7 +11,7 @@ use std::fs;
 /// The state's FIPS code.
 const STATE: u8 = 37;
 
-/// The problem of a chamber.
+/// Builds the problem of a `chamber` from the state's files.
 fn problem(rt: &HostRuntime, chamber: u16) -> Result<Problem> {
     let alloc = rt.alloc();
     let geo = fs::read(rt, "nc2020geo.pl")?;
@@ -22,7 +22,7 @@ fn problem(rt: &HostRuntime, chamber: u16) -> Result<Problem> {
     Ok(Problem::build(alloc, &counties, &pairs, &[], chamber)?)
 }
 
-/// Prints all best groupings of Senate and House.
+/// Prints all best groupings of the Senate and of the House.
 pub(crate) fn show(rt: &HostRuntime) -> Result<()> {
     for chamber in [50, 120] {
         show_solved(rt, &problem(rt, chamber)?)?;

@@ -1,6 +1,6 @@
-//! Worked lists: all best groupings of small problems and of North Carolina 2020, by the certificates that the desk
-//! writes. The gate runs it and compares what it prints with `stdout`: of the small problems it was written by hand
-//! from the rules, and of North Carolina by `bench/best_list.py`.
+//! Worked lists: all best groupings of small problems and of North Carolina 2020, by the certificates that the solver
+//! writes. The gate runs this program and compares what it prints with `stdout`. For the small problems, `stdout` was
+//! written by hand from the rules. For North Carolina, `bench/best_list.py` wrote it.
 #![tactic(auto)]
 
 mod carolina;
@@ -14,10 +14,10 @@ use county_problem::Problem;
 use list_groupings::{Listing, all_best};
 use list_report::listing;
 
-/// More steps than the desk takes here, and a greater budget than its certificates cost.
+/// More steps than the solver takes here, and a greater budget than its certificates cost.
 const ENOUGH: u64 = 10_000_000;
 
-/// Prints the text of a list of groupings.
+/// Prints the text of a `list` of groupings, or that the list is empty.
 fn show_list(rt: &HostRuntime, problem: &Problem, list: &[Grouping]) -> Result<()> {
     if list.is_empty() {
         println!(rt; "an empty list")?;
@@ -28,7 +28,7 @@ fn show_list(rt: &HostRuntime, problem: &Problem, list: &[Grouping]) -> Result<(
     Ok(())
 }
 
-/// Prints all best groupings by the text of a certificate, or what else is answered.
+/// Prints all best groupings by the `text` of a certificate, or what else is answered.
 pub(crate) fn show_listed(rt: &HostRuntime, problem: &Problem, text: &[u8]) -> Result<()> {
     match all_best(rt.alloc(), problem, text, ENOUGH)? {
         Listing::All(list) => show_list(rt, problem, &list),
@@ -51,7 +51,7 @@ pub(crate) fn show_listed(rt: &HostRuntime, problem: &Problem, text: &[u8]) -> R
     }
 }
 
-/// Prints all best groupings by the desk's certificate.
+/// Prints all best groupings by the solver's certificate, or that the answer is open.
 pub(crate) fn show_solved(rt: &HostRuntime, problem: &Problem) -> Result<()> {
     match solve(rt.alloc(), problem, ENOUGH)? {
         Answer::Best(_, certificate) => {

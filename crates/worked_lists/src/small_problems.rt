@@ -59,17 +59,17 @@ const NO_SEAT_COUNT: Sketch = Sketch {
     chamber: 2,
 };
 
-/// The wide leaf alone is a certificate of the stranding path: it comes to the target's counts with three counties
-/// left.
+/// A certificate of the stranding path that consists of the wide leaf alone. The leaf comes to the target's counts with
+/// three counties left.
 const LONE_LEAF: &[u8] =
     b"county-groups wide certificate 1\norder 37001 37003 37005\nlimit 3\ntarget 1\ngroup 2 37001 37003 37005\nbound 3\nweigh 1\nweigh 1\nroom\nend\n";
 
-/// A code by its last three digits.
+/// Returns the county code whose last three digits are `number`.
 fn code(number: u32) -> Result<CountyCode> {
     CountyCode::new(37_000_u32.saturating_add(number)).context("a code")
 }
 
-/// The withdrawn set of one county, with one seat.
+/// Builds the withdrawn set of one county, with one seat.
 fn withdrawn_set(alloc: Global, number: u32) -> Result<Withdrawn> {
     let mut codes = Vec::new(alloc);
     codes.push(code(number)?)?;
@@ -80,7 +80,7 @@ fn withdrawn_set(alloc: Global, number: u32) -> Result<Withdrawn> {
 }
 
 impl Sketch<'_> {
-    /// The counties with their people.
+    /// Returns the counties with their people.
     fn counties(self, alloc: Global) -> Result<Vec<County>> {
         let mut counties = Vec::new(alloc);
         for (number, people) in self.people {
@@ -92,7 +92,7 @@ impl Sketch<'_> {
         Ok(counties)
     }
 
-    /// The pairs of adjacent counties.
+    /// Returns the pairs of adjacent counties.
     fn adjacent(self, alloc: Global) -> Result<Vec<(CountyCode, CountyCode)>> {
         let mut pairs = Vec::new(alloc);
         for (a, b) in self.pairs {
@@ -101,7 +101,7 @@ impl Sketch<'_> {
         Ok(pairs)
     }
 
-    /// The problem.
+    /// Builds the problem.
     fn problem(self, alloc: Global) -> Result<Problem> {
         let mut sets = Vec::new(alloc);
         if let Some(number) = self.withdrawn {

@@ -1,6 +1,6 @@
-//! Worked texts: the table of a small state, the records of two runs, and the answers that texts give.
-//! The gate runs it and compares what it prints with `stdout`, which was written by hand from the rules. The digests
-//! come from another program.
+//! Worked texts: the table of a small state, the records of two runs, and the answers that texts give. The gate runs
+//! this program and compares what it prints with `stdout`, which was written by hand from the rules. The digests come
+//! from another program.
 #![tactic(auto)]
 
 mod records;

@@ -5,12 +5,12 @@ use cli_record_text::{
     FileRead, FileStored, ReadFile, Run, RunningSum, StoreOption, answer_of, record_text, sum_of,
 };
 
-/// A text.
+/// Returns the text of `from` as a `String`.
 fn text(rt: &HostRuntime, from: &str) -> Result<String> {
     Ok(String::from_str(rt.alloc(), from)?)
 }
 
-/// The words of a command.
+/// Returns the words of a command as a list of `String`s.
 fn words(rt: &HostRuntime, from: &[&str]) -> Result<Vec<String>> {
     let mut list = Vec::new(rt.alloc());
     for word in from {
@@ -19,7 +19,7 @@ fn words(rt: &HostRuntime, from: &[&str]) -> Result<Vec<String>> {
     Ok(list)
 }
 
-/// The files that a run read: the first in pieces, the second left before its end.
+/// Returns the files that a run read. The first was read in pieces, and the second was left before its end.
 fn reads(rt: &HostRuntime) -> Result<Vec<FileRead>> {
     let mut sum = RunningSum::new();
     sum.update(b"a");
@@ -41,7 +41,7 @@ fn reads(rt: &HostRuntime) -> Result<Vec<FileRead>> {
     Ok(list)
 }
 
-/// The file that a run stored.
+/// Returns the file that a run stored.
 fn stores(rt: &HostRuntime) -> Result<Vec<FileStored>> {
     let mut list = Vec::new(rt.alloc());
     list.push(FileStored {
@@ -52,20 +52,20 @@ fn stores(rt: &HostRuntime) -> Result<Vec<FileStored>> {
     Ok(list)
 }
 
-/// Prints the record of a run.
+/// Prints the record of `run`.
 fn show_record(rt: &HostRuntime, run: &Run) -> Result<()> {
     let text = record_text(rt.alloc(), run)?;
     print!(rt; "{}", str::from_utf8(&text)?)?;
     Ok(())
 }
 
-/// Prints the answer that a text gives, between brackets.
+/// Prints the answer that `text` gives, between brackets.
 fn show_answer(rt: &HostRuntime, text: &str) -> Result<()> {
     println!(rt; "[{}]", str::from_utf8(answer_of(text.as_bytes()))?)?;
     Ok(())
 }
 
-/// A run with words, files and an answer.
+/// Builds a run with words, files and an answer.
 fn full_run(rt: &HostRuntime) -> Result<Run> {
     Ok(Run {
         version: text(rt, "1.2.3")?,
@@ -77,7 +77,7 @@ fn full_run(rt: &HostRuntime) -> Result<Run> {
     })
 }
 
-/// A run without any.
+/// Builds a run without words, files or an answer.
 fn empty_run(rt: &HostRuntime) -> Result<Run> {
     Ok(Run {
         version: text(rt, "")?,
@@ -89,7 +89,7 @@ fn empty_run(rt: &HostRuntime) -> Result<Run> {
     })
 }
 
-/// Prints two records, and answers.
+/// Prints two records, and the answers that texts give.
 pub(crate) fn show(rt: &HostRuntime) -> Result<()> {
     show_record(rt, &full_run(rt)?)?;
     show_record(rt, &empty_run(rt)?)?;

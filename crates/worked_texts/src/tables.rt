@@ -5,12 +5,12 @@ use county_codes::{Codes, County, CountyCode, Group, Withdrawn};
 use grouping_table::county_table;
 use pl94_counties::NamedCounty;
 
-/// A code.
+/// Returns the county code of this `number`.
 fn code(number: u32) -> Result<CountyCode> {
     CountyCode::new(number).context("a code")
 }
 
-/// A list of codes.
+/// Returns the county codes of these `numbers`, as a list.
 fn codes(rt: &HostRuntime, numbers: &[u32]) -> Result<Codes> {
     let mut list = Vec::new(rt.alloc());
     for number in numbers {
@@ -19,7 +19,7 @@ fn codes(rt: &HostRuntime, numbers: &[u32]) -> Result<Codes> {
     Ok(Codes::new(list))
 }
 
-/// A county with its name.
+/// Builds a county with its `people` and its `name`.
 fn named(rt: &HostRuntime, number: u32, people: u32, name: &str) -> Result<NamedCounty> {
     Ok(NamedCounty {
         county: County {
@@ -30,7 +30,7 @@ fn named(rt: &HostRuntime, number: u32, people: u32, name: &str) -> Result<Named
     })
 }
 
-/// Counties whose names call for no quotes, for each kind of quotes, and for both ways of quoting.
+/// Builds counties whose names call for no quotes, for each kind of quotes, and for both ways of quoting.
 fn listed(rt: &HostRuntime) -> Result<Vec<NamedCounty>> {
     let mut counties = Vec::new(rt.alloc());
     for (number, people, name) in [
@@ -46,7 +46,7 @@ fn listed(rt: &HostRuntime) -> Result<Vec<NamedCounty>> {
     Ok(counties)
 }
 
-/// Prints the table of withdrawn sets and groups.
+/// Prints the table of the `withdrawn` sets and the `groups`.
 fn show_table(rt: &HostRuntime, withdrawn: &[Withdrawn], groups: &[Group]) -> Result<()> {
     let text = county_table(rt.alloc(), &listed(rt)?, withdrawn, groups)?;
     print!(rt; "{}", str::from_utf8(&text)?)?;
