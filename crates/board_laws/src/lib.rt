@@ -3,8 +3,8 @@
 //!
 //! A *skeleton* is a proof tree in which numbered *pieces* stand. A piece waits, has its tree, or was split at a county
 //! of a wide round. A split gives one piece for each group up to a limit in which the county may lie, and one piece for
-//! the case that its group is larger. Each piece stands for one *state*, in which the groups on its way are closed and
-//! the counties raised. If no piece waits, the trees of the pieces, put where they stand, are a proof tree.
+//! the case that the county's group is larger. Each piece stands for one *state*, in which the groups on its way are
+//! closed and the counties raised. If no piece waits, the trees of the pieces, put where they stand, are a proof tree.
 //!
 //! If two boards of a round hold the same splits and trees, each at its state, they join to the same text, byte for
 //! byte, whichever numbers their pieces have.

@@ -48,13 +48,13 @@ pub fn searches_end()
     ensures { SearchEnds }
 {}
 
-/// States that one leaf at the empty state is enough where no grouping is lawful, in a round of either language.
+/// States that if no grouping is lawful, one leaf at the empty state shows it, in a round of either language.
 pub fn impossible_is_a_leaf()
     ensures { ImpossibleIsLeaf }
 {}
 
 /// States that a search that keeps a list of groups for each size has all that a branch and an end need. The takes are
-/// groups of the lists, and after a branch each list is a filter of the old one.
+/// groups of the lists, and after a branch each list is the old one, filtered.
 pub fn lists_serve()
     ensures { ListsServe }
 {}
@@ -84,8 +84,8 @@ pub fn trees_are_shallow()
     ensures { TreesAreShallow }
 {}
 
-/// States that the states, leaves and trees of a plain round are those of the rules with marks. There a county is
-/// marked if it lies in a group above the one limit.
+/// States that the states, leaves and trees of a plain round are those of the rules with marks. These rules mark a
+/// county as lying in a group above the one limit.
 pub fn plain_rules_are_the_marked_ones()
     ensures { PlainIsMarked }
 {}

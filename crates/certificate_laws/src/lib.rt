@@ -1,4 +1,4 @@
-//! Certificates that a grouping is best, or that none is lawful. What they show is told in definitions and laws.
+//! Certificates that a grouping is best, or that none is lawful. Definitions and laws say what they show.
 //!
 //! A *round* names an order of the counties, a limit of sizes, a target (or none) and one of two languages. A *state*
 //! has closed groups, the rest of the counties, and for each of these the least size of a group in which it may lie. A

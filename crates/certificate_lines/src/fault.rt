@@ -60,8 +60,8 @@ impl TextKind {
     }
 }
 
-/// The first fault of a text, for which the text isn't a certificate. Lines are counted from 1. The line of a `Memory`
-/// fault is left open.
+/// The first fault of a text, which is why the text isn't a certificate. Lines are counted from 1. The line of a
+/// `Memory` fault is left open.
 #[derive(Clone, Copy, Debug, PartialEq, Eq, Error)]
 #[error("line {line}: {kind}")]
 pub struct TextFault {

@@ -43,7 +43,7 @@ fn has_few_codes(codes: &[CountyCode]) -> bool
     are_few(codes.len()) && all_codes(codes)
 }
 
-/// Returns whether there is at least one of the `codes`, and no more than a group may have.
+/// Returns whether there is at least one code, and there are no more `codes` than a group may have.
 fn has_some_codes(codes: &[CountyCode]) -> bool
     ensures { result ≡ (nat_le 1 (length codes.now)
         && (nat_le (length codes.now) most && list_all (λ c. nat_le c 99999) codes.now)) }
@@ -58,7 +58,7 @@ pub fn order_fits(order: &[CountyCode]) -> bool
     has_few_codes(order)
 }
 
-/// Returns whether a line spells a group with these `codes` that is taken.
+/// Returns whether a line spells the take of a group with these `codes`.
 pub fn take_fits(codes: &[CountyCode]) -> bool
     ensures { IsTrue result ↔ IsSet codes.now }
 {

@@ -107,7 +107,7 @@ impl<'a> Items<'a> {
         Items::wanting(alloc, text, Wanted::Tree(language, counties))
     }
 
-    /// Creates the items of a `text` where this is `wanted`.
+    /// Creates the items of a `text`, where `wanted` says what is wanted first.
     fn wanting(alloc: Global, text: &'a [u8], wanted: Wanted) -> Self
         requires { HasRoom 0 wanted }
         ensures { result ≡ course_from (wanted ∷ []) 1 (raw_lines text.now) }

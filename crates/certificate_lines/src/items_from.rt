@@ -28,7 +28,8 @@ fn fault_of_reader(fault: LineFault, long: TextKind, line: u64) -> TextFault
     TextFault { kind, line }
 }
 
-/// Reads the item of the next line, where this is `wanted`. What is wanted after it is pushed onto the `stack`.
+/// Reads the item of the next line, where `wanted` says what is wanted. What is wanted after it is pushed onto the
+/// `stack`.
 fn read_item<S: Source>(
     alloc: Global,
     pieces: &mut RawReader,

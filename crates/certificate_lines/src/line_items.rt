@@ -236,8 +236,8 @@ fn end_item(bytes: &[u8], ended: bool) -> Result<Item, TextKind>
     Ok(Item::End)
 }
 
-/// Reads the item on a line where this is `wanted`. What is wanted after it is pushed onto the `stack`, whose top is
-/// its last element.
+/// Reads the item on a line, where `wanted` says what is wanted. What is wanted after it is pushed onto the `stack`,
+/// whose top is its last element.
 pub(crate) fn item_at(
     alloc: Global,
     bytes: &[u8],

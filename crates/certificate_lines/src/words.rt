@@ -18,7 +18,7 @@ use memchr::memchr;
 use std::alloc::Global;
 use std::marker::Model;
 
-/// Returns the `bytes` of a line if there are at most 65,536 of them and an LF `ended` them.
+/// Returns the `bytes` of a line if there are at most 65,536 of them and an LF ended the line, as `ended` says.
 #[tactic(auto, unfolding(crate::specs::Words::line_bytes))]
 pub(crate) fn bytes_of_line(bytes: &[u8], ended: bool) -> Result<&[u8], TextKind>
     ensures { result_map_both (λ s. s.now) (λ k. k) result ≡ line_bytes bytes.now ended }

@@ -1,5 +1,6 @@
-//! The text of a certificate, read and written. Each certificate has one spelling. Its lines, and the items that they
-//! say, are those of `certificate_lines`. Public names of that crate and of `certificate_data` are exported again.
+//! The text of a certificate, read and written. Each certificate has at most one spelling. Its lines, and the items
+//! that they say, are those of `certificate_lines`. The public names of that crate for them are re-exported, and so are
+//! those of `certificate_data`.
 //!
 //! A tree is written with its numbers as they stand. If its lines meet no fault, they spell it; otherwise nothing does.
 //! `write` and `write_tree` first test by the values whether a text spells them.

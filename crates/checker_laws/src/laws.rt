@@ -14,8 +14,8 @@ pub fn trees_end()
     ensures { TreesEnd }
 {}
 
-/// States that a certificate has one verdict. The verdict is Best or Impossible if the certificate holds, which then
-/// shows it. Otherwise the verdict is the first fault.
+/// States that a certificate has one verdict. If the certificate holds, the verdict is Best or Impossible, and the
+/// certificate shows it. Otherwise the verdict is the first fault.
 pub fn verdicts_show()
     ensures { VerdictsShow }
 {}

@@ -7,7 +7,7 @@
 //!
 //! In a bound leaf the lines are judged up to the first that allows fewer groups than the target has. Lines behind that
 //! one are a fault of the line that opens the leaf, whatever they hold. A county of a `weigh` line is wrong only if it
-//! is none of the problem. A county that is not open weighs nothing.
+//! isn't one of the problem's counties. A county that isn't open weighs nothing.
 //!
 //! A text without a fault spells one certificate, and the verdict on the text is that certificate's. If a text has a
 //! fault of its words, that fault comes before all that is said of a certificate. A tree without a text has the first

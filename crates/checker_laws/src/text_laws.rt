@@ -8,8 +8,8 @@ pub fn texts_spell()
     ensures { TextsSpell }
 {}
 
-/// States that a text has at most one verdict. The verdict is Best or Impossible if the text spells a certificate that
-/// holds, which then shows it.
+/// States that a text has at most one verdict. If the text spells a certificate that holds, the verdict is Best or
+/// Impossible, and the certificate shows it.
 pub fn text_verdicts_show()
     ensures { TextVerdictsShow }
 {}

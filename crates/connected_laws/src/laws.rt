@@ -3,8 +3,8 @@
 ghost use Rattle.connected_laws.specs.Laws.{LeafIsFound, ForkIsFound, NothingIsLost, KeptAreGroups, ExtensionsAreSets};
 
 /// States how growing a connected set finds all sets that contain it, each once. If no free place is adjacent to the
-/// set, or it is as large as it may be, the set alone is all of them. Otherwise they are those with some free place and
-/// those without it, and none is both. If none of them passes the test, the search may stop early.
+/// set, or it is as large as it may be, the set alone is all of them. Otherwise they are those that have a given free
+/// place and those that lack it, and no set is both. If none of them passes the test, the search may stop early.
 pub fn growing_finds_each_once()
     ensures leaf { LeafIsFound }
     ensures fork { ForkIsFound }
