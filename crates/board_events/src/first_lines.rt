@@ -8,7 +8,7 @@ ghost use Rattle.board_events.specs.Lines.{greatest, hand_on, result_on, split_o
 use crate::line::EventLine;
 use certificate_lines::{MOST, TextKind, Words};
 
-/// Takes the next word, where it is this one, and says whether it was.
+/// Takes the next word if it is `name`, and returns whether it was.
 fn skipped(words: &mut Words, name: &[u8]) -> bool
     ensures was { result ≡ begins name.now words.old }
     ensures rest { words.new ≡ (if result then drop 1 words.old else words.old) }
@@ -20,14 +20,14 @@ fn skipped(words: &mut Words, name: &[u8]) -> bool
     is
 }
 
-/// The number that the next word spells: of a round or of a piece.
+/// Takes the next word and returns the number that it spells, of a round or of a piece.
 fn next_number(words: &mut Words) -> Result<u32, TextKind>
     ensures { Leaves (number_at 0 greatest words.old) result words.new }
 {
     words.number(0, u32::MAX)
 }
 
-/// A piece is asked for, from the words after the first.
+/// Reads a request for a piece from the `words` after the first.
 #[tactic(auto, unfolding(crate::specs::Lines::hand_on))]
 fn hand_on(words: &mut Words) -> Result<EventLine, TextKind>
     ensures { result ≡ hand_on words.old }
@@ -36,7 +36,7 @@ fn hand_on(words: &mut Words) -> Result<EventLine, TextKind>
     Ok(EventLine::Hand(next_number(words)?))
 }
 
-/// A tree for a piece, from the words after the first.
+/// Reads the round and the piece of a tree from the `words` after the first.
 #[tactic(auto, unfolding(crate::specs::Lines::result_on))]
 fn result_on(words: &mut Words) -> Result<EventLine, TextKind>
     ensures { result ≡ result_on words.old }
@@ -47,7 +47,7 @@ fn result_on(words: &mut Words) -> Result<EventLine, TextKind>
     Ok(EventLine::Result(round, piece))
 }
 
-/// A split of a piece, from the words after the first.
+/// Reads a split of a piece from the `words` after the first.
 #[tactic(auto, unfolding(crate::specs::Lines::split_on))]
 fn split_on(words: &mut Words) -> Result<EventLine, TextKind>
     ensures { result ≡ split_on words.old }
@@ -60,7 +60,7 @@ fn split_on(words: &mut Words) -> Result<EventLine, TextKind>
     Ok(EventLine::Split(round, piece, county, limit))
 }
 
-/// A better target, from the words after the first.
+/// Reads the round and the number of groups of a better target from the `words` after the first.
 #[tactic(auto, unfolding(crate::specs::Lines::better_on))]
 fn better_on(words: &mut Words) -> Result<EventLine, TextKind>
     ensures { result ≡ better_on words.old }
@@ -71,7 +71,7 @@ fn better_on(words: &mut Words) -> Result<EventLine, TextKind>
     Ok(EventLine::Better(round, groups))
 }
 
-/// A greater limit, from the words after the first.
+/// Reads a request for a greater limit from the `words` after the first.
 #[tactic(auto, unfolding(crate::specs::Lines::wider_on))]
 fn wider_on(words: &mut Words) -> Result<EventLine, TextKind>
     ensures { result ≡ wider_on words.old }
@@ -80,12 +80,12 @@ fn wider_on(words: &mut Words) -> Result<EventLine, TextKind>
     Ok(EventLine::Wider(next_number(words)?))
 }
 
-/// What the first line of an event says.
+/// Reads what the first line of an event says.
 ///
 /// # Errors
 ///
-/// `BadWord` where the first word may not stand there, or the number of words is wrong; then the fault of the first
-/// word that is at fault.
+/// Returns `BadWord` if the first word may not stand there or the number of words is wrong. Otherwise returns the fault
+/// of the first word that is at fault.
 #[tactic(auto, unfolding(crate::specs::Lines::event_on))]
 pub(crate) fn event_on(words: &mut Words) -> Result<EventLine, TextKind>
     ensures { result ≡ event_on words.old }

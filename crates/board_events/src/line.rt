@@ -9,9 +9,10 @@ pub enum EventLine {
     Hand(u32),
     /// A tree follows: the number of its round and that of its piece.
     Result(u32, u32),
-    /// A piece is to be split at a county, by groups of at most so many counties: round, piece, county, limit.
+    /// A piece is to be split at a county, by groups of at most a limit of counties. The fields are the round, the
+    /// piece, the county and the limit.
     Split(u32, u32, CountyCode, u16),
-    /// So many groups follow: the number of the round, and how many.
+    /// Groups follow: the number of the round, and how many groups.
     Better(u32, u16),
     /// The limit is to be one greater than in the round of this number.
     Wider(u32),

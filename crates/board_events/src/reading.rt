@@ -27,7 +27,7 @@ use county_codes::{Group, Grouping};
 use share_board::Event;
 use std::alloc::Global;
 
-/// What the first line of an event says.
+/// Reads the first line of an event.
 fn first_line(cursor: &mut Cursor) -> Result<EventLine, TextFault>
     ensures { ReadsLine (λ r. r) (by_words event_on) cursor.old result cursor.new }
 {
@@ -38,7 +38,7 @@ fn first_line(cursor: &mut Cursor) -> Result<EventLine, TextFault>
     }
 }
 
-/// So many groups of a target.
+/// Reads `count` groups of a target.
 fn groups_at(alloc: Global, cursor: &mut Cursor, count: u16) -> Result<Vec<Group>, TextFault>
     ensures read { ReadsAll (groups_wanted count) (λ v. map item.Grouped v.items) [] cursor.old result cursor.new }
     ensures number { IfOk result (λ v. length v.items ≡ count) }
@@ -51,7 +51,7 @@ fn groups_at(alloc: Global, cursor: &mut Cursor, count: u16) -> Result<Vec<Group
     Ok(groups)
 }
 
-/// The groups that a text begins with, so many, and how many bytes spell them.
+/// Reads the `count` groups with which a `text` begins. Returns them and how many bytes spell them.
 fn front_groups(alloc: Global, text: &[u8], count: u16) -> Result<(Vec<Group>, usize), TextFault>
     ensures place { IfOk result (λ r. r.1 ≤ length text.now) }
     ensures number { IfOk result (λ r. length r.0.items ≡ count) }
@@ -65,7 +65,8 @@ fn front_groups(alloc: Global, text: &[u8], count: u16) -> Result<(Vec<Group>, u
     Ok((groups, text.len() - cursor.rest().len()))
 }
 
-/// The event whose first line says this, by the text behind that line, and how many bytes of it are its own.
+/// Reads the event whose first line says `line`, from the `text` behind that line. Returns the event and how many bytes
+/// of `text` are its own.
 fn event_behind(
     alloc: Global,
     line: EventLine,
@@ -96,7 +97,7 @@ fn event_behind(
     }
 }
 
-/// A fault so many lines further on. Where memory was refused, its line is left open.
+/// Moves a `fault` further on by this number of `lines`. If memory was refused, the line of the fault is left open.
 fn moved(fault: TextFault, lines: u64) -> TextFault
     ensures kind { result.kind ≡ fault.kind }
     ensures line { fault.line + lines < 2 ^ 64 → result.line ≡ fault.line + lines }
@@ -107,7 +108,7 @@ fn moved(fault: TextFault, lines: u64) -> TextFault
     }
 }
 
-/// The event that a text begins with, and how many bytes spell it.
+/// Reads the event with which a `text` begins. Returns it and how many bytes spell it.
 fn front_event(
     alloc: Global,
     text: &[u8],
@@ -130,7 +131,7 @@ fn front_event(
     }
 }
 
-/// How many lines LFs end in a text.
+/// Counts the lines of a `text` that an LF ends.
 fn lines_in(text: &[u8]) -> u64
     ensures value { result ≡ length (filter is_lf text.now) }
     ensures few { result ≤ length text.now }
@@ -138,7 +139,7 @@ fn lines_in(text: &[u8]) -> u64
     text.iter().filter(|b| **b == b'\n').count() as u64
 }
 
-/// The events of a text, one after the other.
+/// Reads the events of a `text`, one after the other.
 fn events_of(
     alloc: Global,
     text: &[u8],
@@ -165,12 +166,13 @@ fn events_of(
     Ok(events)
 }
 
-/// The events that a text spells, where trees are of this language and for an order of so many counties. An empty text
-/// is the list of no events.
+/// Reads the events that a `text` spells, in order. Trees are of this `language` and for an order of `counties`
+/// counties. An empty text is the list of no events.
 ///
 /// # Errors
 ///
-/// The first fault of the text, with its line. `Memory` in the place of any answer.
+/// Returns the first fault of the text, with its line. If memory was refused, it returns `Memory` in place of any
+/// answer.
 pub fn read_events(
     alloc: Global,
     text: &[u8],
@@ -178,12 +180,12 @@ pub fn read_events(
     counties: u16,
 ) -> Result<Vec<Event>, TextFault>
     requires { counties ≤ most }
-    // What is read is spelled so, and has its numbers in their ranges.
+    // The text spells the events that are read, whose numbers are in their ranges.
     ensures found { IfOk result (λ v. EventsAreSpelled language counties text.now (map event_of v.items)) }
-    // What is spelled so is read, unless memory is refused.
+    // Events that the text spells are read, unless memory is refused.
     ensures only { (es : List EventValue) → EventsAreSpelled language counties text.now es
         → IsUnlessMemory (λ v. map event_of v.items) result es }
-    // Which fault it is.
+    // Unless memory was refused, the fault is that of the text.
     ensures fault { IfErr result (λ f. (IsTextMemory f → ⊥) → events_fault language counties text.now ≡ Some f) }
 {
     events_of(alloc, text, language, counties)

@@ -1,4 +1,4 @@
-//! Replies, written as their lines.
+//! Writing of replies as their lines.
 
 ghost use Rattle.std.specs.Prelude.{◌≡◌, ◌++◌, ℕ, Bool, List, OnOk};
 ghost use Rattle.share_board.specs.BoardValue.{reply_of};
@@ -9,7 +9,7 @@ use certificate_lines::push_number_line;
 use share_board::Reply;
 use std::alloc::AllocError;
 
-/// Appends the line of a piece.
+/// Appends the line of a `piece` of a `round`.
 fn push_piece(out: &mut Vec<u8>, round: u32, piece: u32) -> Result<(), AllocError>
     ensures { OnOk result (out.new.items ≡ out.old.items ++ piece_line round piece) }
 {
@@ -17,7 +17,7 @@ fn push_piece(out: &mut Vec<u8>, round: u32, piece: u32) -> Result<(), AllocErro
     push_number_line(out, b" ", piece)
 }
 
-/// Appends the line of a split, by its first piece and how many there are.
+/// Appends the line of a split into `many` pieces, from the `first` piece on.
 fn push_pieces(out: &mut Vec<u8>, first: u32, many: u32) -> Result<(), AllocError>
     ensures { OnOk result (out.new.items ≡ out.old.items ++ split_line first many) }
 {
@@ -27,11 +27,11 @@ fn push_pieces(out: &mut Vec<u8>, first: u32, many: u32) -> Result<(), AllocErro
     out.extend_from_slice(b"\n")
 }
 
-/// Appends the line of a reply.
+/// Appends the line of a `reply`.
 ///
 /// # Errors
 ///
-/// An error where memory was refused.
+/// Returns an error if memory was refused.
 pub fn push_reply<C>(out: &mut Vec<u8>, reply: &Reply<C>) -> Result<(), AllocError>
     ensures { (order : List ℕ) (test : C → ℕ → Bool)
         → OnOk result (out.new.items ≡ out.old.items ++ reply_line (reply_of order test reply.now)) }

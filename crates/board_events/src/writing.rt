@@ -23,7 +23,7 @@ use county_codes::{CountyCode, Group};
 use share_board::Event;
 use std::alloc::Global;
 
-/// Appends the line by which a piece is asked for.
+/// Appends the line that asks for a piece.
 fn push_hand(out: &mut Vec<u8>, from: u32) -> Result<(), WriteFault>
     ensures { (language : Language) (counties : ℕ)
         → WritesEvent language counties (hand from) out.old.items result out.new.items }
@@ -32,7 +32,7 @@ fn push_hand(out: &mut Vec<u8>, from: u32) -> Result<(), WriteFault>
     Ok(())
 }
 
-/// Appends the lines of a tree for a piece.
+/// Appends the lines of a `tree` for a `piece`.
 fn push_result(
     out: &mut Vec<u8>,
     round: u32,
@@ -71,7 +71,7 @@ fn push_split(
     Ok(())
 }
 
-/// Appends the lines of groups.
+/// Appends the lines of the `groups`.
 fn push_groups(out: &mut Vec<u8>, groups: &[Group]) -> Result<(), WriteFault>
     ensures { Writes (groups_wanted (length groups.now)) (map item.Grouped groups.now) [] out.old.items result out.new.items }
 {
@@ -94,7 +94,7 @@ fn push_better(out: &mut Vec<u8>, round: u32, groups: &[Group]) -> Result<(), Wr
     push_groups(out, groups)
 }
 
-/// Appends the line by which the limit is to be greater.
+/// Appends the line that asks for a greater limit.
 fn push_wider(out: &mut Vec<u8>, round: u32) -> Result<(), WriteFault>
     ensures { (language : Language) (counties : ℕ)
         → WritesEvent language counties (wider round) out.old.items result out.new.items }
@@ -103,7 +103,7 @@ fn push_wider(out: &mut Vec<u8>, round: u32) -> Result<(), WriteFault>
     Ok(())
 }
 
-/// Appends the text of an event.
+/// Appends the text of an `event`.
 fn push_event(
     out: &mut Vec<u8>,
     event: &Event,
@@ -126,11 +126,11 @@ fn push_event(
     }
 }
 
-/// The text that spells an event, where trees are of this language and for an order of so many counties.
+/// Returns the text that spells an `event`. Trees are of this `language` and for an order of `counties` counties.
 ///
 /// # Errors
 ///
-/// `NoSpelling` exactly where no text spells it, or `Memory`.
+/// Returns `NoSpelling` exactly if no text spells the event, and `Memory` if memory was refused.
 pub fn write_event(
     alloc: Global,
     event: &Event,

@@ -2,8 +2,9 @@
 
 ghost use Rattle.board_laws.specs.JoinedTexts.{JoinedTextsAreOne};
 
-/// If two lists of events lead to boards of the same round that hold the same splits and trees, each at the same
-/// states, both boards join or neither does. The texts of what they join are the same.
+/// States that boards that hold the same join to the same text. Two lists of events may lead to boards of the same
+/// round that hold the same splits and trees, each at the same states. Then both boards join or neither does, and the
+/// texts of what they join are the same.
 pub fn joined_texts_are_one()
     ensures { JoinedTextsAreOne }
 {}

@@ -10,17 +10,17 @@ use std::alloc::AllocError;
 pub enum Allowance {
     /// As many as the room allows.
     Room,
-    /// As many as weights allow, too.
+    /// As many as the room and the weights allow.
     Weigh {
-        /// What each group weighs at least, 1 to 256,000,000.
+        /// The least weight of each group, 1 to 256,000,000.
         quota: u32,
-        /// The weights, their codes strictly ascending.
+        /// The weights, with strictly ascending codes.
         weights: Weights,
     },
 }
 
 impl Allowance {
-    /// An equal line, or an error where memory was refused.
+    /// Returns an equal line, or an error if memory was refused.
     pub fn copy(&self) -> Result<Allowance, AllocError>
         ensures { IfOk result (λ line. line ≡ self.now) }
     {

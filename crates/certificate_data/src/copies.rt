@@ -1,4 +1,4 @@
-//! Equal values of their own. They go as deep as takes nest.
+//! Copies of trees and certificates, equal and separate. Copying goes as deep as takes nest.
 
 ghost use Rattle.std.specs.Prelude.{◌≡◌, IfOk};
 ghost use Rattle.certificate_data.specs.Tree.{Tree as TreeValue, Takes};
@@ -9,7 +9,7 @@ use crate::certificate::Certificate;
 use crate::tree::{Branch, Leaf, Take, Tree};
 use std::alloc::{AllocError, Global};
 
-/// Equal lines of a bound leaf.
+/// Returns equal lines of a bound leaf, or an error if memory was refused.
 fn copy_lines(alloc: Global, lines: &[Allowance]) -> Result<Vec<Allowance>, AllocError>
     ensures { IfOk result (λ v. v.items ≡ lines.now) }
 {
@@ -21,7 +21,7 @@ fn copy_lines(alloc: Global, lines: &[Allowance]) -> Result<Vec<Allowance>, Allo
 }
 
 impl Leaf {
-    /// An equal leaf, or an error where memory was refused.
+    /// Returns an equal leaf, or an error if memory was refused.
     pub fn copy(&self) -> Result<Leaf, AllocError>
         ensures { IfOk result (λ leaf. leaf_of leaf ≡ leaf_of self.now) }
     {
@@ -34,7 +34,7 @@ impl Leaf {
 }
 
 impl Tree {
-    /// An equal tree, or an error where memory was refused.
+    /// Returns an equal tree, or an error if memory was refused.
     #[cycle(copies)]
     pub fn copy(&self) -> Result<Tree, AllocError>
         ensures { IfOk result (λ tree. tree_of tree ≡ tree_of self.now) }
@@ -49,7 +49,7 @@ impl Tree {
 }
 
 impl Branch {
-    /// An equal branch, or an error where memory was refused.
+    /// Returns an equal branch, or an error if memory was refused.
     #[cycle(copies)]
     pub fn copy(&self) -> Result<Branch, AllocError>
         ensures { IfOk result (λ branch. (raised : TreeValue)
@@ -68,7 +68,7 @@ impl Branch {
 }
 
 impl Take {
-    /// An equal take, or an error where memory was refused.
+    /// Returns an equal take, or an error if memory was refused.
     #[cycle(copies)]
     pub fn copy(&self) -> Result<Take, AllocError>
         ensures { IfOk result (λ take. (others : Takes) → take_onto take others ≡ take_onto self.now others) }
@@ -81,7 +81,7 @@ impl Take {
 }
 
 impl Certificate {
-    /// An equal certificate, or an error where memory was refused.
+    /// Returns an equal certificate, or an error if memory was refused.
     pub fn copy(&self) -> Result<Certificate, AllocError>
         ensures { IfOk result (λ certificate. certificate_of certificate ≡ certificate_of self.now) }
     {

@@ -2,9 +2,9 @@
 
 /// The two languages of certificates.
 ///
-/// In a plain one the round's limit serves the whole tree, and branches stand at the first open county of the
-/// order. In a wide one each branch has a county and a limit of its own, and groups that leave a stuck part
-/// behind are left out.
+/// In a plain certificate the limit of the round serves the whole tree, and each branch is at the first open county of
+/// the order. In a wide one each branch has a county and a limit of its own, and groups that leave a stuck part behind
+/// are left out.
 #[derive(Clone, Copy, Debug, PartialEq, Eq)]
 pub enum Language {
     /// One limit for the whole tree.

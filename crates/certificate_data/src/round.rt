@@ -7,26 +7,26 @@ use crate::language::Language;
 use county_codes::{Codes, Grouping, Window};
 use std::alloc::AllocError;
 
-/// What a search for groupings greater than a target goes by, and a certificate's tree is made for.
+/// The terms of a search for groupings greater than a target, and of the tree of a certificate.
 ///
-/// The type stands here, below the certificate text, the checker and the desk, since each of them is told of a
-/// round; their contracts speak of its value, `round_of`.
+/// The type stands here, below the certificate text, the checker and the solver, since each of them is given a round.
+/// Their contracts speak of its value, `round_of`.
 #[derive(Debug, Drop)]
 pub struct Round {
     /// The counties of the problem, each once; the first has place 0.
     pub order: Codes,
     /// The greatest size of a group that a branch may close, in counties.
     pub limit: u16,
-    /// The grouping that is to be shown best; without one, no grouping is to be lawful.
+    /// The grouping that is to be shown best. If there is none, it is to be shown that no grouping is lawful.
     pub target: Option<Grouping>,
     /// The language of the certificate.
     pub language: Language,
-    /// The allowance that the certificate names; one that names none is for a twentieth.
+    /// The allowance that the certificate names. A certificate that names none is for a twentieth.
     pub window: Option<Window>,
 }
 
 impl Round {
-    /// An equal round, or an error where memory was refused.
+    /// Returns an equal round, or an error if memory was refused.
     pub fn copy(&self) -> Result<Round, AllocError>
         ensures { IfOk result (λ round. round_of round ≡ round_of self.now) }
     {
@@ -40,7 +40,7 @@ impl Round {
     }
 }
 
-/// An equal target.
+/// Returns an equal target, or an error if memory was refused.
 fn copy_target(target: &Option<Grouping>) -> Result<Option<Grouping>, AllocError>
     ensures { IfOk result (λ copy. target_of copy ≡ target_of target.now) }
 {

@@ -3,7 +3,7 @@
 use crate::allowance::Allowance;
 use county_codes::{Codes, CountyCode};
 
-/// Why no lawful grouping that agrees with a state is greater.
+/// The reason why no lawful grouping that agrees with a state is greater than the target.
 #[derive(Debug, Drop)]
 pub enum Leaf {
     /// The connected part around the county is stuck.
@@ -14,8 +14,8 @@ pub enum Leaf {
     Bound(Vec<Allowance>),
 }
 
-/// Branches, of which each stands in the case that its forerunners' takes leave, and the leaf that ends
-/// them.
+/// Branches, and the leaf that ends them. Each branch stands in the case that the takes of the branches before it
+/// leave.
 #[derive(Debug, Drop)]
 #[cycle(tree)]
 pub struct Tree {
@@ -43,6 +43,6 @@ pub struct Branch {
 pub struct Take {
     /// The codes of the group.
     pub codes: Codes,
-    /// The tree where it is closed.
+    /// The tree for the state where the group is closed.
     pub tree: Tree,
 }

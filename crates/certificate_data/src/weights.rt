@@ -32,21 +32,21 @@ impl Model for Weights {
 }
 
 impl Weights {
-    /// The list of these weights. It takes no memory.
+    /// Creates the list of these `weights`. It takes no memory.
     pub fn new(weights: Vec<Weight>) -> Self
         ensures { result ≡ weights.items }
     {
         Weights { weights }
     }
 
-    /// The weights as a slice.
+    /// Returns the weights as a slice.
     pub fn as_slice(&self) -> &[Weight]
         ensures { result.now ≡ self.now }
     {
         self.weights.as_slice()
     }
 
-    /// An equal list, or an error where memory was refused.
+    /// Returns an equal list, or an error if memory was refused.
     pub fn copy(&self) -> Result<Weights, AllocError>
         ensures { IfOk result (λ weights. weights ≡ self.now) }
     {

@@ -20,11 +20,11 @@ use field_lines::split_piece;
 use std::alloc::Global;
 use std::marker::Model;
 
-/// Adds an item at the end, or answers that memory was refused, at a line.
+/// Appends an `item` to `items`. If memory was refused, the fault stands at the given `line`.
 ///
 /// # Errors
 ///
-/// `Memory`.
+/// Returns `Memory` if memory was refused.
 pub fn push_on<T: Drop>(items: &mut Vec<T>, item: T, line: u64) -> Result<(), TextFault>
     ensures pushed { OnOk result (items.new.items ≡ items.old.items ++ item ∷ []) }
     ensures refused { IfErr result (λ f. IsTextMemory f) }
@@ -38,7 +38,8 @@ pub fn push_on<T: Drop>(items: &mut Vec<T>, item: T, line: u64) -> Result<(), Te
     }
 }
 
-/// The language and the version that the first line names, from its bytes without LF, and whether an LF ended them.
+/// Returns the language and the version that the first line names. `bytes` are the line's bytes without the LF, and
+/// `ended` says whether an LF ended them.
 pub(crate) fn head_of(bytes: &[u8], ended: bool) -> Result<(Language, Version), TextKind>
     ensures { result ≡ head_in bytes.now ended }
 {
@@ -47,11 +48,12 @@ pub(crate) fn head_of(bytes: &[u8], ended: bool) -> Result<(Language, Version), 
 
 /// What is left of a text, and the number of its next line.
 ///
-/// Each call that reads takes the next line and answers what it says.
+/// Each method that reads takes the next line and returns what it says.
 ///
 /// # Errors
 ///
-/// The fault of that line, with its number, or `CutShort` where there is none; `Memory` in the place of any answer.
+/// Returns the fault of that line with its number, or `CutShort` if there is no line. If memory was refused, `Memory`
+/// comes in place of any answer.
 #[derive(Drop)]
 pub struct Cursor<'a> {
     text: &'a [u8],
@@ -71,28 +73,28 @@ impl<'a> Model for Cursor<'a> {
 }
 
 impl<'a> Cursor<'a> {
-    /// The whole of a text.
+    /// Creates a cursor that has the whole `text` left.
     pub fn new(text: &'a [u8]) -> Self
         ensures { result ≡ record { number = 1; text = text.now } }
     {
         Cursor { text, number: 1 }
     }
 
-    /// The text that is left.
+    /// Returns the text that is left.
     pub fn rest(&self) -> &'a [u8]
         ensures { result.now ≡ self.now.text }
     {
         self.text
     }
 
-    /// The number of the next line.
+    /// Returns the number of the next line.
     pub fn number(&self) -> u64
         ensures { result ≡ self.now.number }
     {
         self.number
     }
 
-    /// Takes the bytes of the next line; whether an LF ended it is the second answer.
+    /// Takes the next line. Returns its bytes without the LF and whether an LF ended it, or `None` if no line is left.
     pub(crate) fn next_piece(&mut self) -> Option<(&'a [u8], bool)>
         ensures { TakesTextPiece self.old result self.new }
     {
@@ -102,7 +104,7 @@ impl<'a> Cursor<'a> {
         Some((bytes, ended))
     }
 
-    /// Takes the words of the next line; the second answer is its number.
+    /// Takes the next line, and returns its words and its number.
     pub fn next_words(&mut self) -> Result<(Words<'a>, u64), TextFault>
         ensures line { IfOk result (λ r. r.1 ≡ self.old.number) }
         ensures words { ReadsLine (λ r. r.0) (λ p. line_words p.bytes p.ended) self.old result self.new }
@@ -120,7 +122,7 @@ impl<'a> Cursor<'a> {
         }
     }
 
-    /// The head.
+    /// Reads the head.
     pub fn head(&mut self) -> Result<(Language, Version), TextFault>
         ensures { ReadsLine (λ r. r) (λ p. head_in p.bytes p.ended) self.old result self.new }
     {
@@ -137,7 +139,7 @@ impl<'a> Cursor<'a> {
         }
     }
 
-    /// The allowance that the certificate names.
+    /// Reads the allowance that the certificate names.
     pub fn window(&mut self) -> Result<Window, TextFault>
         ensures { ReadsLine (λ r. r) (by_words line.window_on) self.old result self.new }
     {
@@ -148,7 +150,7 @@ impl<'a> Cursor<'a> {
         }
     }
 
-    /// The order.
+    /// Reads the order.
     pub fn order(&mut self, alloc: Global) -> Result<Codes, TextFault>
         ensures { ReadsLine (λ r. r) (by_words line.order_on) self.old result self.new }
     {
@@ -159,7 +161,7 @@ impl<'a> Cursor<'a> {
         }
     }
 
-    /// The limit.
+    /// Reads the limit.
     pub fn limit(&mut self) -> Result<u16, TextFault>
         ensures { ReadsLine (λ r. r) (by_words line.limit_on) self.old result self.new }
     {
@@ -170,7 +172,7 @@ impl<'a> Cursor<'a> {
         }
     }
 
-    /// The number of groups of the target.
+    /// Reads the number of groups of the target, or `None` if there is no target.
     pub fn target(&mut self) -> Result<Option<u16>, TextFault>
         ensures { ReadsLine (λ r. r) (by_words line.target_on) self.old result self.new }
     {
@@ -181,7 +183,7 @@ impl<'a> Cursor<'a> {
         }
     }
 
-    /// A group.
+    /// Reads a group of the target.
     pub fn group(&mut self, alloc: Global) -> Result<Group, TextFault>
         ensures { ReadsLine (λ r. r) (by_words line.group_on) self.old result self.new }
     {
@@ -192,7 +194,7 @@ impl<'a> Cursor<'a> {
         }
     }
 
-    /// A branch or a leaf.
+    /// Reads a branch or a leaf, where branches may still open `levels` levels.
     pub fn opening(&mut self, language: Language, levels: u16) -> Result<Opening, TextFault>
         ensures read { ReadsLine (λ r. r) (by_words (line.opening_on language levels)) self.old result self.new }
         ensures level { IfOk result (λ o. line.HasLevel levels o) }
@@ -204,7 +206,7 @@ impl<'a> Cursor<'a> {
         }
     }
 
-    /// The codes of a take, or none at the mark.
+    /// Reads the codes of a take, or `None` at the mark.
     pub fn take(&mut self, alloc: Global) -> Result<Option<Codes>, TextFault>
         ensures { ReadsLine (λ r. r) (by_words line.take_on) self.old result self.new }
     {
@@ -215,7 +217,7 @@ impl<'a> Cursor<'a> {
         }
     }
 
-    /// A line of a bound leaf.
+    /// Reads a line of a bound leaf.
     pub fn allowance(&mut self, alloc: Global) -> Result<Allowance, TextFault>
         ensures { ReadsLine (λ r. r) (by_words line.allowance_on) self.old result self.new }
     {
@@ -226,7 +228,7 @@ impl<'a> Cursor<'a> {
         }
     }
 
-    /// The end.
+    /// Reads the end.
     pub fn end(&mut self) -> Result<(), TextFault>
         ensures { ReadsLine (λ r. r) (by_words line.end_on) self.old result self.new }
     {
@@ -238,11 +240,11 @@ impl<'a> Cursor<'a> {
     }
 }
 
-/// Nothing may be left.
+/// Checks that nothing is left.
 ///
 /// # Errors
 ///
-/// `AfterEnd` where bytes are left.
+/// Returns `AfterEnd` if bytes are left.
 pub fn ended(cursor: &Cursor) -> Result<(), TextFault>
     ensures { EndsUnless cursor.now result }
 {

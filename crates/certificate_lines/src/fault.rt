@@ -11,7 +11,7 @@ use thiserror::Error;
 /// What is wrong with a line of a certificate.
 #[derive(Clone, Copy, Debug, PartialEq, Eq, Error)]
 pub enum TextKind {
-    /// The first line is no head.
+    /// The first line isn't a head.
     #[error("the first line is no head")]
     BadHead,
     /// The line is too long, its first word may not stand there, or the number of words is wrong.
@@ -20,8 +20,8 @@ pub enum TextKind {
     /// A word isn't the number, the code or the pair that it has to be, or is out of range.
     #[error("a word is no number in its range, no code or no pair")]
     BadNumber,
-    /// The line spells nothing so: a byte that isn't printed, a blank first, last or doubled, no byte at
-    /// all, a leading zero, or weights whose codes don't ascend.
+    /// The line isn't in its one spelling. It has no byte at all, a byte that isn't printable, a blank that is first,
+    /// last or doubled, a number with a leading zero, or weights whose codes don't ascend.
     #[error("the line is not in the one spelling of what it says")]
     NotCanonical,
     /// No LF ends the line, or there is no line where one must stand.
@@ -42,7 +42,7 @@ pub enum TextKind {
 }
 
 impl TextKind {
-    /// The word of the kind in the lines of the program, such as `BadHead`.
+    /// Returns the word of the kind in the lines of the program, such as `BadHead`.
     pub fn word(self) -> &'static [u8]
         ensures { result.now ≡ text_kind_word self }
     {
@@ -60,13 +60,14 @@ impl TextKind {
     }
 }
 
-/// Why a text is no certificate: its first fault. The line counts from 1; for `Memory` it is left open.
+/// The first fault of a text, which is why the text isn't a certificate. Lines are counted from 1. The line of a
+/// `Memory` fault is left open.
 #[derive(Clone, Copy, Debug, PartialEq, Eq, Error)]
 #[error("line {line}: {kind}")]
 pub struct TextFault {
     /// What is wrong.
     pub kind: TextKind,
-    /// The line, from 1.
+    /// The number of the line, from 1.
     pub line: u64,
 }
 

@@ -1,4 +1,4 @@
-//! Whether a line spells a value: a test for each form of line whose values may be out of range.
+//! Tests of whether a line spells a value. There is one for each form of line whose values may be out of range.
 
 ghost use Rattle.std.specs.Prelude.{◌≡◌, ◌≤◌, ◌↔◌, ◌&&◌, ◌∷◌, ◌++◌, nat_le, length, IsTrue, codes, decimal};
 ghost use Rattle.std.specs.List.{list_all, flat_map};
@@ -15,35 +15,35 @@ use certificate_data::{Allowance, Language, Weight};
 use county_codes::{CountyCode, Group};
 use field_lines::{MAX_LINE, decimal_length};
 
-/// Whether a line, a target or a leaf may have so many.
+/// Returns whether `count` is no more than a line, a target or a leaf may have.
 pub fn are_few(count: usize) -> bool
     ensures { result ≡ nat_le count most }
 {
     count <= MOST as usize
 }
 
-/// Whether the code has five digits, as every code has.
+/// Returns whether the `code` has at most five digits, as every code has.
 pub fn is_code(code: CountyCode) -> bool
     ensures { result ≡ nat_le code 99999 }
 {
     code.get() <= 99_999
 }
 
-/// Whether each code has five digits, as every code has.
+/// Returns whether each of the `codes` has at most five digits, as every code has.
 fn all_codes(codes: &[CountyCode]) -> bool
     ensures { result ≡ list_all (λ c. nat_le c 99999) codes.now }
 {
     codes.iter().all(|code| is_code(*code))
 }
 
-/// Whether the codes are no more than an order may have.
+/// Returns whether there are no more `codes` than an order may have.
 fn has_few_codes(codes: &[CountyCode]) -> bool
     ensures { result ≡ (nat_le (length codes.now) most && list_all (λ c. nat_le c 99999) codes.now) }
 {
     are_few(codes.len()) && all_codes(codes)
 }
 
-/// Whether the codes are one at least, and no more than a group may have.
+/// Returns whether there is at least one code, and there are no more `codes` than a group may have.
 fn has_some_codes(codes: &[CountyCode]) -> bool
     ensures { result ≡ (nat_le 1 (length codes.now)
         && (nat_le (length codes.now) most && list_all (λ c. nat_le c 99999) codes.now)) }
@@ -51,28 +51,28 @@ fn has_some_codes(codes: &[CountyCode]) -> bool
     !codes.is_empty() && has_few_codes(codes)
 }
 
-/// Whether a line spells the order.
+/// Returns whether a line spells the `order`.
 pub fn order_fits(order: &[CountyCode]) -> bool
     ensures { IsTrue result ↔ ((length order.now ≤ most) × AreCodes order.now) }
 {
     has_few_codes(order)
 }
 
-/// Whether a line spells a group that is taken.
+/// Returns whether a line spells the take of a group with these `codes`.
 pub fn take_fits(codes: &[CountyCode]) -> bool
     ensures { IsTrue result ↔ IsSet codes.now }
 {
     has_some_codes(codes)
 }
 
-/// Whether a group may have so many seats, as every number of seats is one that it may have.
+/// Returns whether a group may have this number of `seats`. It may have every number of the type.
 fn are_seats(seats: u16) -> bool
     ensures { result ≡ nat_le seats 65535 }
 {
     u32::from(seats) <= 65_535
 }
 
-/// Whether a line spells a group of the target.
+/// Returns whether a line spells the `group` of a target.
 pub fn group_fits(group: &Group) -> bool
     ensures { IsTrue result ↔ ((group.now.seats ≤ 65535) × IsSet group.now.codes) }
 {
@@ -82,7 +82,7 @@ pub fn group_fits(group: &Group) -> bool
     take_fits(group.codes.as_slice())
 }
 
-/// Whether a line spells a branch, where it may open so many levels.
+/// Returns whether a line spells the branch, where branches may still open `levels` levels.
 pub fn branch_fits(language: Language, levels: u16, county: CountyCode, limit: Option<u16>) -> bool
     ensures { IsTrue result ↔ IsWanted (want.Tree language levels) (item.Opens (opening.Branch county limit)) }
 {
@@ -96,14 +96,14 @@ pub fn branch_fits(language: Language, levels: u16, county: CountyCode, limit: O
     }
 }
 
-/// Whether a county's weight is in its range, and its code has five digits.
+/// Returns whether the county's `weight` is in its range, and its code has at most five digits.
 fn is_weight(weight: Weight) -> bool
     ensures { result ≡ (nat_le weight.county 99999 && (nat_le 1 weight.weight && nat_le weight.weight 1000000)) }
 {
     is_code(weight.county) && 1 <= weight.weight && weight.weight <= 1_000_000
 }
 
-/// Whether each weight is such.
+/// Returns whether each of the `weights` is in its range, with a code of at most five digits.
 fn are_weights(weights: &[Weight]) -> bool
     ensures { result ≡ list_all (λ w. nat_le w.county 99999
         && (nat_le 1 w.weight && nat_le w.weight 1000000)) weights.now }
@@ -111,7 +111,7 @@ fn are_weights(weights: &[Weight]) -> bool
     weights.iter().all(|weight| is_weight(*weight))
 }
 
-/// Whether the quota and the weights are in their ranges, and the codes ascend.
+/// Returns whether the `quota` and the `weights` are in their ranges, and the codes ascend.
 fn have_ranges(quota: u32, weights: &[Weight]) -> bool
     ensures { result ≡ (nat_le 1 quota
         && (nat_le quota 256000000
@@ -121,7 +121,7 @@ fn have_ranges(quota: u32, weights: &[Weight]) -> bool
     1 <= quota && quota <= 256_000_000 && are_weights(weights) && ascend(weights)
 }
 
-/// Whether the line of weights is no longer than a line may be.
+/// Returns whether the line of the `quota` and the `weights` is no longer than a line may be.
 fn is_short(quota: u32, weights: &[Weight]) -> bool
     ensures { result ≡ nat_le (length (codes "weigh "
         ++ (decimal quota ++ flat_map (λ w. 32 ∷ weight_word w) weights.now))) most_bytes }
@@ -136,7 +136,7 @@ fn is_short(quota: u32, weights: &[Weight]) -> bool
     length <= MAX_LINE
 }
 
-/// Whether a line spells weights of a bound leaf.
+/// Returns whether a line of a bound leaf spells the `quota` and the `weights`.
 fn weigh_fits(quota: u32, weights: &[Weight]) -> bool
     ensures { IsTrue result ↔ AreWeights quota weights.now }
 {
@@ -146,7 +146,7 @@ fn weigh_fits(quota: u32, weights: &[Weight]) -> bool
     is_short(quota, weights)
 }
 
-/// Whether a line spells a line of a bound leaf.
+/// Returns whether a line spells the `allowance` of a bound leaf.
 pub fn allowance_fits(allowance: &Allowance) -> bool
     ensures { IsTrue result ↔ IsWanted (want.Allowances 1) (item.Allows allowance.now) }
 {

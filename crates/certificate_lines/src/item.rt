@@ -3,7 +3,7 @@
 use certificate_data::{Allowance, Language};
 use county_codes::{Codes, CountyCode, Group, Window};
 
-/// The line that opens a tree, or is one.
+/// The line that opens a tree, or that is all of it.
 #[derive(Clone, Copy, Debug, PartialEq, Eq)]
 pub enum Opening {
     /// A branch: its county, and in a wide certificate its limit.
@@ -17,7 +17,7 @@ pub enum Opening {
     Stuck(CountyCode),
     /// A seats leaf.
     Seats,
-    /// A bound leaf of so many lines.
+    /// A bound leaf, with the number of the lines that follow.
     Bound(u16),
 }
 
@@ -44,7 +44,7 @@ pub enum Item {
     Order(Codes),
     /// The greatest size of a group of the target.
     Limit(u16),
-    /// How many groups the target has, or that there is none.
+    /// The number of groups of the target, or `None` if there is no target.
     Target(Option<u16>),
     /// A group of the target.
     Grouped(Group),
@@ -60,7 +60,7 @@ pub enum Item {
     End,
 }
 
-/// What is wanted next. A level is one more branch that may stand inside those that are open.
+/// What is wanted next. A level stands for one more branch that may be opened inside those that are open.
 #[derive(Clone, Copy, Debug, Default, PartialEq, Eq)]
 pub enum Wanted {
     /// The head.
@@ -74,13 +74,13 @@ pub enum Wanted {
     Limit,
     /// The target.
     Target,
-    /// So many groups.
+    /// Groups of the target, with how many are wanted.
     Groups(u16),
-    /// A tree, with so many levels.
+    /// A tree, with the number of its levels.
     Tree(Language, u16),
-    /// Groups that are taken, or the mark, inside a branch that was opened with so many levels.
+    /// A group that is taken, or the mark, inside a branch. The number is how many levels the branch was opened with.
     Takes(Language, u16),
-    /// So many lines of a bound leaf.
+    /// Lines of a bound leaf, with how many are wanted.
     Allowances(u16),
     /// The end.
     End,

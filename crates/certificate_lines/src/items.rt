@@ -18,28 +18,32 @@ use certificate_data::Language;
 use std::alloc::Global;
 use std::marker::Model;
 
-/// Items, one at a time, of a text in memory or of one that is pulled from a source: one body reads both.
+/// A source of items that come one at a time, from a text in memory or from one that is pulled from elsewhere. The same
+/// code reads both.
 pub trait ItemSource<F> {
-    /// The items to come, by the bytes that come later.
+    /// The items to come, as a function of the bytes that come later.
     ghost left: { Self → ItemsLeft };
 
-    /// What was given so far, and whether more may come.
+    /// The bytes that were given so far, and whether more may come.
     ghost given: { F → Given };
 
-    /// The next item, or `None` after the last, then and at each later call. Each call is lent the same source.
+    /// Returns the next item, or `None` after the last one and at each later call. The same `from` is lent to each
+    /// call.
     ///
     /// # Errors
     ///
-    /// The first fault, or `Memory` or `ReadFault` in the place of any answer. Each later call answers the same fault.
+    /// Returns the first fault of the text, or `Memory` or `ReadFault` in place of any answer. Each later call returns
+    /// the same fault.
     fn next_item(&mut self, from: &mut F) -> Result<Option<Item>, TextFault>
         ensures { IsNextItemOf (left self.old) (given from.old) result (left self.new) (given from.new) };
 
-    /// Returns the bytes of the line at which the source stands, for whoever shows it to a person; none of a text in
-    /// memory, whose caller has the text. No clause speaks of them.
+    /// Returns the bytes of the line at which the source stands, for whoever shows it to a person. A text in memory
+    /// gives no bytes, since its caller has the text. No clause speaks of these bytes.
     fn line(&self) -> &[u8];
 }
 
-/// The next item, where these things are wanted in turn, the top of the stack being the last.
+/// Reads the next item from the `cursor`, or `None` at the end. The `stack` holds what is wanted in turn, and its top
+/// is its last element.
 fn next_at(alloc: Global, cursor: &mut Cursor, stack: &mut Stack) -> Result<Option<Item>, TextFault>
     requires { IsBounded stack.old.items }
     ensures next { IsNextItemRead (course_left stack.old.items cursor.old None) result (course_left stack.new.items cursor.new None) }
@@ -66,7 +70,7 @@ fn next_at(alloc: Global, cursor: &mut Cursor, stack: &mut Stack) -> Result<Opti
     }
 }
 
-/// The items of a text, one at a time. They ask for the memory of a line's values, and for no other.
+/// The items of a text in memory, one at a time. They ask for the memory of a line's values and for no other.
 #[derive(Drop)]
 pub struct Items<'a> {
     alloc: Global,
@@ -88,14 +92,14 @@ impl<'a> Model for Items<'a> {
 }
 
 impl<'a> Items<'a> {
-    /// The items of a certificate's text.
+    /// Creates the items of a certificate's `text`.
     pub fn of_certificate(alloc: Global, text: &'a [u8]) -> Self
         ensures { result ≡ certificate_course text.now }
     {
         Items::wanting(alloc, text, Wanted::Head)
     }
 
-    /// The items of a tree's text, for an order of so many counties.
+    /// Creates the items of a tree's `text`, for an order of `counties` counties.
     pub fn of_tree(alloc: Global, text: &'a [u8], language: Language, counties: u16) -> Self
         requires { counties ≤ most }
         ensures { result ≡ tree_course language counties text.now }
@@ -103,7 +107,7 @@ impl<'a> Items<'a> {
         Items::wanting(alloc, text, Wanted::Tree(language, counties))
     }
 
-    /// The items of a text where this is wanted.
+    /// Creates the items of a `text`, where `wanted` says what is wanted first.
     fn wanting(alloc: Global, text: &'a [u8], wanted: Wanted) -> Self
         requires { HasRoom 0 wanted }
         ensures { result ≡ course_from (wanted ∷ []) 1 (raw_lines text.now) }
@@ -119,7 +123,7 @@ impl<'a> Items<'a> {
     }
 }
 
-/// Nothing is pulled: the text stands in memory.
+/// Nothing is pulled, since the text stands in memory.
 impl<'a> ItemSource<()> for Items<'a> {
     ghost left = { in_memory };
 

@@ -15,7 +15,8 @@ use field_lines::{LineFault, RawReader, Source};
 use std::alloc::Global;
 use std::marker::Model;
 
-/// The fault of a reader at a line, where a line that is too long is a fault of this kind.
+/// Returns the `fault` of a reader of lines as a fault at the `line`. A line that is too long gives a fault of the kind
+/// `long`.
 fn fault_of_reader(fault: LineFault, long: TextKind, line: u64) -> TextFault
     ensures { result ≡ fault_of_reader fault long line }
 {
@@ -27,7 +28,8 @@ fn fault_of_reader(fault: LineFault, long: TextKind, line: u64) -> TextFault
     TextFault { kind, line }
 }
 
-/// The item of the next line, where this is wanted. What is wanted after it is put on the stack.
+/// Reads the item of the next line, where `wanted` says what is wanted. What is wanted after it is pushed onto the
+/// `stack`.
 fn read_item<S: Source>(
     alloc: Global,
     pieces: &mut RawReader,
@@ -58,7 +60,7 @@ fn read_item<S: Source>(
     }
 }
 
-/// No line may be left.
+/// Checks that no line is left.
 fn read_end<S: Source>(pieces: &mut RawReader, line: u64, from: &mut S) -> Result<(), TextFault>
     requires { pieces.old.fault ≡ None }
     ensures read { ReadsEnd (left_at [] line pieces.old) (S.given from.old) result (left_at [] line pieces.new) (S.given from.new) }
@@ -74,7 +76,8 @@ fn read_end<S: Source>(pieces: &mut RawReader, line: u64, from: &mut S) -> Resul
     }
 }
 
-/// The next item, where these things are wanted in turn, the top of the stack being the last. The line is counted.
+/// Reads the next item and counts its `line`, or returns `None` at the end. The `stack` holds what is wanted in turn,
+/// and its top is its last element.
 fn next_read<S: Source>(
     alloc: Global,
     pieces: &mut RawReader,
@@ -112,7 +115,7 @@ fn next_read<S: Source>(
     }
 }
 
-/// The items of a text that is pulled from a source, one at a time. It holds one line, and what is wanted after it.
+/// The items of a text that is pulled from a source, one at a time. One line is held, and what is wanted after it.
 #[derive(Drop)]
 pub struct ItemsFrom {
     alloc: Global,
@@ -127,7 +130,7 @@ impl Model for ItemsFrom {
     ghost use Rattle.certificate_lines.specs.ItemsLeft.{ItemsHeld};
     ghost use Rattle.certificate_lines.specs.Stacks.{IsBounded};
 
-    /// What is wanted, the number of the next line, what the reader of lines has, and the fault that was answered.
+    /// What is wanted, the number of the next line, what the reader of lines has, and the fault that was returned.
     ghost Value = { ItemsHeld };
 
     ghost view = { λ s. record { wanted = s.wanted.items; number = s.line; held = s.pieces; fault = s.fault } };
@@ -136,11 +139,11 @@ impl Model for ItemsFrom {
 }
 
 impl ItemsFrom {
-    /// The items of a certificate, of which nothing was pulled.
+    /// Creates the items of a certificate of which nothing was pulled yet.
     ///
     /// # Errors
     ///
-    /// `Memory` where memory was refused.
+    /// Returns `Memory` if memory was refused.
     pub fn of_certificate(alloc: Global) -> Result<Self, TextKind>
         ensures made { IfOk result (λ items. items ≡ nothing_taken) }
         ensures refused { IfErr result (λ kind. kind ≡ Memory) }

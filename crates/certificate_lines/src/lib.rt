@@ -1,11 +1,11 @@
-//! The lines of a certificate: one spelling for each, read word by word and written.
+//! The lines of a certificate, read word by word and written. Each line has one spelling.
 //!
 //! ```
 //! let mut items = Items::of_certificate(alloc, text);
 //! items.next_item(&mut ())        // Ok(Some(Item::Head(Language::Plain, Version::One)))
 //! ```
 //!
-//! `Items` takes the items of a text in memory, and `ItemsFrom` those of a text that is pulled from a source.
+//! `Items` reads the items of a text in memory, and `ItemsFrom` those of a text that is pulled from a source.
 #![tactic(auto)]
 
 mod cursor;

@@ -1,4 +1,4 @@
-//! The item of one line, where something is wanted, and what is wanted after it.
+//! The item of one line where something is wanted, and what is wanted after it.
 
 ghost use Rattle.std.specs.Prelude.{◌≡◌, ◌-◌, List, [], ◌∷◌, ◌++◌};
 ghost use Rattle.arrayvec.specs.ArrayVec.{array_vec_len};
@@ -22,13 +22,14 @@ use certificate_data::Language;
 use county_codes::MAX_COUNTIES;
 use std::alloc::Global;
 
-/// How many things may be wanted at once: the end, the groups of a branch at each level, and the tree inside them.
+/// The greatest number of things that may be wanted at once. They are the end, the groups of a branch at each level,
+/// and the tree inside them.
 const DEPTH: usize = MAX_COUNTIES + 2;
 
-/// What is wanted next: the top is the last.
+/// What is wanted, as a stack. Its top, which is wanted next, is its last element.
 pub(crate) type Stack = ArrayVec<Wanted, DEPTH>;
 
-/// What is wanted after a head.
+/// Returns what is wanted after a head.
 fn after_head(language: Language, version: Version) -> Wanted
     ensures { result ∷ [] ≡ wanted_after want.Head (item.Head language version) }
 {
@@ -38,7 +39,7 @@ fn after_head(language: Language, version: Version) -> Wanted
     }
 }
 
-/// The head, where it is wanted.
+/// Reads the head, and pushes what is wanted after it onto the `stack`.
 fn head_item(bytes: &[u8], ended: bool, stack: &mut Stack) -> Result<Item, TextKind>
     requires room { HasRoom (array_vec_len stack.old) want.Head }
     ensures read { HasItem want.Head bytes.now ended result }
@@ -49,7 +50,7 @@ fn head_item(bytes: &[u8], ended: bool, stack: &mut Stack) -> Result<Item, TextK
     Ok(Item::Head(language, version))
 }
 
-/// The line that names the allowance, where it is wanted.
+/// Reads the line that names the allowance, and pushes what is wanted after it onto the `stack`.
 fn window_item(
     bytes: &[u8],
     ended: bool,
@@ -66,7 +67,7 @@ fn window_item(
     Ok(Item::Within(window))
 }
 
-/// Puts what is wanted after the order on the stack, for an order of so many counties.
+/// Pushes what is wanted after an order of `counties` counties onto the `stack`.
 fn want_after_order(stack: &mut Stack, language: Language, counties: u16)
     requires { HasRoom (array_vec_len stack.old) (want.Order language) }
     ensures { stack.new.items
@@ -78,7 +79,7 @@ fn want_after_order(stack: &mut Stack, language: Language, counties: u16)
     stack.push(Wanted::Limit);
 }
 
-/// The order, where it is wanted.
+/// Reads the order, and pushes what is wanted after it onto the `stack`.
 fn order_item(
     alloc: Global,
     bytes: &[u8],
@@ -97,7 +98,7 @@ fn order_item(
     Ok(Item::Order(order))
 }
 
-/// The line of the target, where it is wanted.
+/// Reads the line of the target, and pushes what is wanted after it onto the `stack`.
 fn target_item(bytes: &[u8], ended: bool, stack: &mut Stack) -> Result<Item, TextKind>
     requires room { HasRoom (array_vec_len stack.old) want.Target }
     ensures read { HasItem want.Target bytes.now ended result }
@@ -113,7 +114,7 @@ fn target_item(bytes: &[u8], ended: bool, stack: &mut Stack) -> Result<Item, Tex
     Ok(Item::Target(target))
 }
 
-/// A group of the target, where so many are wanted.
+/// Reads a group of the target where `left` groups are wanted, and pushes what is wanted after it onto the `stack`.
 fn group_item(
     alloc: Global,
     bytes: &[u8],
@@ -133,7 +134,8 @@ fn group_item(
     Ok(Item::Grouped(group))
 }
 
-/// The first line of a tree, where one is wanted.
+/// Reads the first line of a tree, and pushes what is wanted after it onto the `stack`. Branches may still open
+/// `levels` levels.
 fn opening_item(
     bytes: &[u8],
     ended: bool,
@@ -159,7 +161,7 @@ fn opening_item(
     Ok(Item::Opens(opening))
 }
 
-/// Puts what is wanted after a group that is taken on the stack.
+/// Pushes what is wanted after a group that is taken onto the `stack`.
 fn want_after_take(stack: &mut Stack, language: Language, levels: u16)
     requires { HasRoom (array_vec_len stack.old) (want.Takes language levels) }
     ensures { stack.new.items ≡ stack.old.items ++ (want.Takes language levels ∷ want.Tree language (levels - 1) ∷ []) }
@@ -168,7 +170,7 @@ fn want_after_take(stack: &mut Stack, language: Language, levels: u16)
     stack.push(Wanted::Tree(language, levels.saturating_sub(1)));
 }
 
-/// A take or a mark, where they are wanted.
+/// Reads a take or a mark, and pushes what is wanted after it onto the `stack`.
 fn take_item(
     alloc: Global,
     bytes: &[u8],
@@ -195,7 +197,7 @@ fn take_item(
     }
 }
 
-/// A line of a bound leaf, where so many are wanted.
+/// Reads a line of a bound leaf where `left` lines are wanted, and pushes what is wanted after it onto the `stack`.
 fn allowance_item(
     alloc: Global,
     bytes: &[u8],
@@ -215,7 +217,7 @@ fn allowance_item(
     Ok(Item::Allows(allowance))
 }
 
-/// The limit, where it is wanted.
+/// Reads the limit, where it is wanted.
 fn limit_item(bytes: &[u8], ended: bool) -> Result<Item, TextKind>
     ensures read { HasItem want.Limit bytes.now ended result }
     ensures stacked { (stack : List WantedValue) → IsStacked want.Limit result stack stack }
@@ -224,7 +226,7 @@ fn limit_item(bytes: &[u8], ended: bool) -> Result<Item, TextKind>
     Ok(Item::Limit(limit_on(&mut words)?))
 }
 
-/// The end, where it is wanted.
+/// Reads the end, where it is wanted.
 fn end_item(bytes: &[u8], ended: bool) -> Result<Item, TextKind>
     ensures read { HasItem want.End bytes.now ended result }
     ensures stacked { (stack : List WantedValue) → IsStacked want.End result stack stack }
@@ -234,7 +236,8 @@ fn end_item(bytes: &[u8], ended: bool) -> Result<Item, TextKind>
     Ok(Item::End)
 }
 
-/// The item on a line, where this is wanted. What is wanted after it is put on the stack, whose top is its last.
+/// Reads the item on a line, where `wanted` says what is wanted. What is wanted after it is pushed onto the `stack`,
+/// whose top is its last element.
 pub(crate) fn item_at(
     alloc: Global,
     bytes: &[u8],

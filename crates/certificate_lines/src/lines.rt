@@ -17,7 +17,7 @@ use certificate_data::{Allowance, Language, Weight};
 use county_codes::{Codes, CountyCode, Group, MAX_COUNTIES, Window};
 use std::alloc::Global;
 
-/// How many counties, groups, lines of a bound and levels of branches there may be.
+/// The greatest number of counties, groups, lines of a bound leaf and levels of branches.
 pub const MOST: u32 = MAX_COUNTIES as u32;
 
 /// The first line of a plain certificate of version 1.
@@ -32,7 +32,7 @@ pub(crate) const PLAIN_HEAD_TWO: &[u8] = b"county-groups certificate 2";
 /// The first line of a wide certificate of version 2.
 pub(crate) const WIDE_HEAD_TWO: &[u8] = b"county-groups wide certificate 2";
 
-/// The language and the version that the first line names.
+/// Returns the language and the version that the first line names.
 #[tactic(auto, unfolding(crate::specs::Lines::head_on))]
 pub(crate) fn head_on(bytes: &[u8]) -> Result<(Language, Version), TextKind>
     ensures { result ≡ head_on bytes.now }
@@ -50,7 +50,7 @@ pub(crate) fn head_on(bytes: &[u8]) -> Result<(Language, Version), TextKind>
     }
 }
 
-/// The allowance that a certificate names: a fraction of at most a half.
+/// Reads the allowance that a certificate names, which is a fraction of at most a half.
 #[tactic(auto, unfolding(crate::specs::Lines::window_on))]
 pub(crate) fn window_on(words: &mut Words) -> Result<Window, TextKind>
     ensures { result ≡ window_on words.old }
@@ -69,7 +69,7 @@ pub(crate) fn window_on(words: &mut Words) -> Result<Window, TextKind>
     }
 }
 
-/// The order.
+/// Reads the order.
 #[tactic(auto, unfolding(crate::specs::Lines::order_on))]
 pub(crate) fn order_on(alloc: Global, words: &mut Words) -> Result<Codes, TextKind>
     ensures { GivesUnless (λ k. k ≡ Memory) (λ c. c) result (order_on words.old) }
@@ -79,7 +79,7 @@ pub(crate) fn order_on(alloc: Global, words: &mut Words) -> Result<Codes, TextKi
     words.codes_left(alloc)
 }
 
-/// The limit.
+/// Reads the limit.
 #[tactic(auto, unfolding(crate::specs::Lines::limit_on))]
 pub(crate) fn limit_on(words: &mut Words) -> Result<u16, TextKind>
     ensures { result ≡ limit_on words.old }
@@ -89,7 +89,7 @@ pub(crate) fn limit_on(words: &mut Words) -> Result<u16, TextKind>
     Ok(words.number(0, MOST)? as u16)
 }
 
-/// The number of groups of the target, if there is one.
+/// Reads the number of groups of the target, or `None` if there is no target.
 #[tactic(auto, unfolding(crate::specs::Lines::target_on))]
 pub(crate) fn target_on(words: &mut Words) -> Result<Option<u16>, TextKind>
     ensures { result ≡ target_on words.old }
@@ -103,7 +103,7 @@ pub(crate) fn target_on(words: &mut Words) -> Result<Option<u16>, TextKind>
     }
 }
 
-/// A group of the target.
+/// Reads a group of the target.
 #[tactic(auto, unfolding(crate::specs::Lines::group_on))]
 pub(crate) fn group_on(alloc: Global, words: &mut Words) -> Result<Group, TextKind>
     ensures { GivesUnless (λ k. k ≡ Memory) (λ g. g) result (group_on words.old) }
@@ -115,7 +115,7 @@ pub(crate) fn group_on(alloc: Global, words: &mut Words) -> Result<Group, TextKi
     Ok(Group { seats, codes })
 }
 
-/// A branch, where there is a level for it.
+/// Creates a branch at the `county`, if there is a level for it.
 fn branch_with(levels: u16, county: CountyCode, limit: Option<u16>) -> Result<Opening, TextKind>
     ensures value { result ≡ (if nat_lt 0 levels then Ok (Branch county limit) else Err TooDeep) }
     ensures level { IfOk result (λ o. HasLevel levels o) }
@@ -127,7 +127,7 @@ fn branch_with(levels: u16, county: CountyCode, limit: Option<u16>) -> Result<Op
     }
 }
 
-/// A branch of a plain certificate, from the words after the first.
+/// Reads a branch of a plain certificate from the `words` after the first.
 #[tactic(auto, unfolding(crate::specs::Lines::branch_on))]
 fn plain_branch_on(levels: u16, words: &mut Words) -> Result<Opening, TextKind>
     ensures value { result ≡ branch_on Plain levels words.old }
@@ -137,7 +137,7 @@ fn plain_branch_on(levels: u16, words: &mut Words) -> Result<Opening, TextKind>
     branch_with(levels, words.code()?, None)
 }
 
-/// A branch of a wide certificate, from the words after the first.
+/// Reads a branch of a wide certificate from the `words` after the first.
 #[tactic(auto, unfolding(crate::specs::Lines::branch_on))]
 fn wide_branch_on(levels: u16, words: &mut Words) -> Result<Opening, TextKind>
     ensures value { result ≡ branch_on Wide levels words.old }
@@ -149,7 +149,7 @@ fn wide_branch_on(levels: u16, words: &mut Words) -> Result<Opening, TextKind>
     branch_with(levels, county, Some(limit))
 }
 
-/// A branch, from the words after the first.
+/// Reads a branch from the `words` after the first.
 fn branch_on(language: Language, levels: u16, words: &mut Words) -> Result<Opening, TextKind>
     ensures value { result ≡ branch_on language levels words.old }
     ensures level { IfOk result (λ o. HasLevel levels o) }
@@ -160,7 +160,7 @@ fn branch_on(language: Language, levels: u16, words: &mut Words) -> Result<Openi
     }
 }
 
-/// A stuck leaf, from the words after the first.
+/// Reads a stuck leaf from the `words` after the first.
 #[tactic(auto, unfolding(crate::specs::Lines::stuck_on))]
 fn stuck_on(words: &mut Words) -> Result<Opening, TextKind>
     ensures value { result ≡ stuck_on words.old }
@@ -170,7 +170,7 @@ fn stuck_on(words: &mut Words) -> Result<Opening, TextKind>
     Ok(Opening::Stuck(words.code()?))
 }
 
-/// A bound leaf, from the words after the first.
+/// Reads the first line of a bound leaf from the `words` after the first.
 #[tactic(auto, unfolding(crate::specs::Lines::bound_on))]
 fn bound_on(words: &mut Words) -> Result<Opening, TextKind>
     ensures value { result ≡ bound_on words.old }
@@ -180,7 +180,7 @@ fn bound_on(words: &mut Words) -> Result<Opening, TextKind>
     Ok(Opening::Bound(words.number(0, MOST)? as u16))
 }
 
-/// A branch or a leaf, where a branch may still open so many levels.
+/// Reads a branch or a leaf, where branches may still open `levels` levels.
 #[tactic(auto, unfolding(crate::specs::Lines::opening_on))]
 pub(crate) fn opening_on(
     language: Language,
@@ -204,7 +204,7 @@ pub(crate) fn opening_on(
     }
 }
 
-/// The codes of a take, or none at the mark.
+/// Reads the codes of a take, or `None` at the mark.
 #[tactic(auto, unfolding(crate::specs::Lines::take_on))]
 pub(crate) fn take_on(alloc: Global, words: &mut Words) -> Result<Option<Codes>, TextKind>
     ensures { GivesUnless (λ k. k ≡ Memory) (λ c. c) result (take_on words.old) }
@@ -220,7 +220,7 @@ pub(crate) fn take_on(alloc: Global, words: &mut Words) -> Result<Option<Codes>,
     }
 }
 
-/// Whether the codes of weights ascend.
+/// Returns whether the codes of the `weights` strictly ascend.
 pub fn ascend(weights: &[Weight]) -> bool
     ensures { result ≡ ascend weights.now }
 {
@@ -236,7 +236,7 @@ pub fn ascend(weights: &[Weight]) -> bool
     true
 }
 
-/// Weights of a bound leaf's line, from the words after the first.
+/// Reads the quota and the weights of a bound leaf's line from the `words` after the first.
 #[tactic(auto, unfolding(crate::specs::Lines::weigh_on))]
 fn weigh_on(alloc: Global, words: &mut Words) -> Result<Allowance, TextKind>
     ensures { GivesUnless (λ k. k ≡ Memory) (λ a. a) result (weigh_on words.old) }
@@ -250,7 +250,7 @@ fn weigh_on(alloc: Global, words: &mut Words) -> Result<Allowance, TextKind>
     }
 }
 
-/// A line of a bound leaf.
+/// Reads a line of a bound leaf.
 #[tactic(auto, unfolding(crate::specs::Lines::allowance_on))]
 pub(crate) fn allowance_on(alloc: Global, words: &mut Words) -> Result<Allowance, TextKind>
     ensures { GivesUnless (λ k. k ≡ Memory) (λ a. a) result (allowance_on words.old) }
@@ -265,7 +265,7 @@ pub(crate) fn allowance_on(alloc: Global, words: &mut Words) -> Result<Allowance
     }
 }
 
-/// The end.
+/// Reads the end.
 #[tactic(auto, unfolding(crate::specs::Lines::end_on))]
 pub(crate) fn end_on(words: &mut Words) -> Result<(), TextKind>
     ensures { result ≡ end_on words.old }
@@ -274,7 +274,7 @@ pub(crate) fn end_on(words: &mut Words) -> Result<(), TextKind>
     words.counted(0, 0)
 }
 
-/// How many levels are left for the tree of a mark.
+/// Returns how many levels are left for the tree behind the mark of a branch that was opened with `levels`.
 pub fn levels_after(language: Language, levels: u16) -> u16
     ensures { result ≡ after_raise language levels }
 {

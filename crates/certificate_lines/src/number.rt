@@ -11,28 +11,28 @@ use certificate_data::Weight;
 use county_codes::CountyCode;
 use field_lines::{Fields, five_digits, number_in};
 
-/// Whether each byte is a digit.
+/// Returns whether each byte of the `word` is an ASCII digit.
 fn is_digits(word: &[u8]) -> bool
     ensures { result ≡ list_all is_ascii_digit word.now }
 {
     word.iter().all(|b| b.is_ascii_digit())
 }
 
-/// Whether the word is one or more digits.
+/// Returns whether the `word` is one or more ASCII digits.
 fn is_numeral(word: &[u8]) -> bool
     ensures { result ≡ is_numeral word.now }
 {
     !word.is_empty() && is_digits(word)
 }
 
-/// Whether a zero stands in front of other bytes.
+/// Returns whether the `word` begins with a zero in front of other bytes.
 fn has_leading_zero(word: &[u8]) -> bool
     ensures { result ≡ has_leading_zero word.now }
 {
     word.len() > 1 && word[0] == b'0'
 }
 
-/// The number that a word spells, which has no leading zero and lies in the range.
+/// Returns the number that the `word` spells. It has no leading zero and is from `least` to `greatest`.
 #[tactic(auto, unfolding(crate::specs::Words::number))]
 pub(crate) fn number_on(word: &[u8], least: u32, greatest: u32) -> Result<u32, TextKind>
     ensures value { result ≡ number least greatest word.now }
@@ -47,7 +47,7 @@ pub(crate) fn number_on(word: &[u8], least: u32, greatest: u32) -> Result<u32, T
     }
 }
 
-/// The code that a word spells, by five digits.
+/// Returns the code that the `word` spells with five digits.
 #[tactic(auto, unfolding(crate::specs::Words::code))]
 pub(crate) fn code_on(word: &[u8]) -> Result<CountyCode, TextKind>
     ensures { result ≡ code word.now }
@@ -56,7 +56,7 @@ pub(crate) fn code_on(word: &[u8]) -> Result<CountyCode, TextKind>
     CountyCode::new(number).ok_or(TextKind::BadNumber)
 }
 
-/// The weight that a word spells, as a code, a colon and a number.
+/// Returns the weight that the `word` spells as a code, a colon and a number.
 #[tactic(auto, unfolding(crate::specs::Words::pair))]
 pub(crate) fn weight_on(word: &[u8]) -> Result<Weight, TextKind>
     ensures { result ≡ pair word.now }
@@ -75,21 +75,22 @@ pub(crate) fn weight_on(word: &[u8]) -> Result<Weight, TextKind>
     }
 }
 
-/// Whether each byte is a printed one.
+/// Returns whether each byte of the `line` is printable.
 fn is_printed(line: &[u8]) -> bool
     ensures { result ≡ list_all is_printable line.now }
 {
     line.iter().all(|b| 32 <= *b && *b <= 126)
 }
 
-/// Whether there is a byte, and no blank stands first, last or beside another.
+/// Returns whether the `line` has a byte, and no blank stands first, last or beside another.
 fn has_words(line: &[u8]) -> bool
     ensures { result ≡ list_all has_bytes (words_of line.now) }
 {
     Fields::new(line, b' ').all(|word| !word.is_empty())
 }
 
-/// Whether the bytes of a line are printed ones, and no blank stands first, last or beside another.
+/// Returns whether the `line` has only printable bytes, at least one, and no blank stands first, last or beside
+/// another.
 #[tactic(auto, unfolding(crate::specs::Words::is_canonical))]
 pub(crate) fn is_canonical(line: &[u8]) -> bool
     ensures { result ≡ is_canonical line.now }

@@ -18,7 +18,7 @@ use memchr::memchr;
 use std::alloc::Global;
 use std::marker::Model;
 
-/// The bytes of a line: at most 65,536, and an LF ends them.
+/// Returns the `bytes` of a line if there are at most 65,536 of them and an LF ended the line, as `ended` says.
 #[tactic(auto, unfolding(crate::specs::Words::line_bytes))]
 pub(crate) fn bytes_of_line(bytes: &[u8], ended: bool) -> Result<&[u8], TextKind>
     ensures { result_map_both (λ s. s.now) (λ k. k) result ≡ line_bytes bytes.now ended }
@@ -32,7 +32,7 @@ pub(crate) fn bytes_of_line(bytes: &[u8], ended: bool) -> Result<&[u8], TextKind
     }
 }
 
-/// The first word, and the words after its blank, if there is one.
+/// Returns the first of the `words`, and the words after its blank if there is one.
 fn split_word(words: &[u8]) -> (&[u8], Option<&[u8]>)
     ensures { fields_of 32 words.now ≡ result.0.now ∷ fields_left 32 result.1 }
 {
@@ -42,7 +42,7 @@ fn split_word(words: &[u8]) -> (&[u8], Option<&[u8]>)
     }
 }
 
-/// How many blanks there are.
+/// Counts the blanks of the `line`.
 fn blanks(line: &[u8]) -> usize
     ensures value { result ≡ count_by (λ b. b == 32) line.now }
     ensures small { result + 1 < 2 ^ 64 }
@@ -67,7 +67,7 @@ impl<'a> Model for Words<'a> {
 }
 
 impl<'a> Words<'a> {
-    /// The words of a line, from its bytes without LF, and whether an LF ended them.
+    /// Creates the words of a line from its `bytes` without the LF. `ended` says whether an LF ended them.
     #[tactic(auto, unfolding(crate::specs::Words::line_words))]
     pub fn new(bytes: &'a [u8], ended: bool) -> Result<Self, TextKind>
         ensures { result ≡ line_words bytes.now ended }
@@ -80,7 +80,7 @@ impl<'a> Words<'a> {
         }
     }
 
-    /// How many words are left.
+    /// Counts the words that are left.
     pub fn count(&self) -> usize
         ensures { result ≡ length self.now }
     {
@@ -90,7 +90,7 @@ impl<'a> Words<'a> {
         }
     }
 
-    /// The next word.
+    /// Takes the next word, or returns `None` if no word is left.
     pub fn next_word(&mut self) -> Option<&'a [u8]>
         ensures { IsNextWord self.old result self.new }
     {
@@ -100,7 +100,7 @@ impl<'a> Words<'a> {
         Some(word)
     }
 
-    /// Whether the next word is this one.
+    /// Returns whether the next word is `name`.
     pub fn begins(&self, name: &[u8]) -> bool
         ensures { result ≡ begins name.now self.now }
     {
@@ -110,11 +110,11 @@ impl<'a> Words<'a> {
         }
     }
 
-    /// Takes the next word, where it is this one.
+    /// Takes the next word if it is `name`.
     ///
     /// # Errors
     ///
-    /// `BadWord` where it isn't.
+    /// Returns `BadWord` if it isn't.
     pub fn named(&mut self, name: &[u8]) -> Result<(), TextKind>
         ensures { LeavesWords (named name.now self.old) result self.new }
     {
@@ -125,7 +125,7 @@ impl<'a> Words<'a> {
         }
     }
 
-    /// Takes the next word, where it is this one, and says whether it was.
+    /// Takes the next word if it is `name`, and returns whether it was.
     pub(crate) fn skipped(&mut self, name: &[u8]) -> bool
         ensures was { result ≡ begins name.now self.old }
         ensures rest { self.new ≡ (if result then drop 1 self.old else self.old) }
@@ -137,11 +137,11 @@ impl<'a> Words<'a> {
         is
     }
 
-    /// Tests that from `least` to `greatest` words are left.
+    /// Checks that from `least` to `greatest` words are left.
     ///
     /// # Errors
     ///
-    /// `BadWord` where they aren't.
+    /// Returns `BadWord` if fewer or more are left.
     pub fn counted(&self, least: usize, greatest: usize) -> Result<(), TextKind>
         ensures { LeavesWords (counted least greatest self.now) result self.now }
     {
@@ -153,12 +153,13 @@ impl<'a> Words<'a> {
         }
     }
 
-    /// The number that the next word spells, without a leading zero and in the range.
+    /// Takes the next word and returns the number that it spells, without a leading zero and from `least` to
+    /// `greatest`.
     ///
     /// # Errors
     ///
-    /// `BadNumber` where it isn't digits, then `NotCanonical` for a leading zero, then `BadNumber` where it is
-    /// out of range. `BadWord` where no word is left.
+    /// Returns `BadWord` if no word is left. Otherwise the tests come in this order: `BadNumber` if the word isn't
+    /// digits, `NotCanonical` if it has a leading zero, and `BadNumber` if the number is out of range.
     pub fn number(&mut self, least: u32, greatest: u32) -> Result<u32, TextKind>
         ensures value { Leaves (number_at least greatest self.old) result self.new }
         ensures within { IfOk result (λ n. (least ≤ n) × (n ≤ greatest)) }
@@ -167,11 +168,11 @@ impl<'a> Words<'a> {
         number_on(word, least, greatest)
     }
 
-    /// The code that the next word spells.
+    /// Takes the next word and returns the code that it spells.
     ///
     /// # Errors
     ///
-    /// `BadNumber` where it isn't five digits. `BadWord` where no word is left.
+    /// Returns `BadNumber` if the word isn't five digits, and `BadWord` if no word is left.
     pub fn code(&mut self) -> Result<CountyCode, TextKind>
         ensures { Leaves (code_word_at self.old) result self.new }
     {
@@ -179,18 +180,20 @@ impl<'a> Words<'a> {
         code_on(word)
     }
 
-    /// The codes that the words left spell.
+    /// Returns the codes that the words left spell, in order.
     ///
     /// # Errors
     ///
-    /// `BadNumber` where a word isn't five digits; `Memory` in the place of that or of an answer.
+    /// Returns `BadNumber` if a word isn't five digits. If memory was refused, it returns `Memory` in place of that or
+    /// of an answer.
     pub fn codes(mut self, alloc: Global) -> Result<Codes, TextKind>
         ensures { GivesUnless (λ k. k ≡ Memory) (λ c. c) result (each code self.entry) }
     {
         self.codes_left(alloc)
     }
 
-    /// The codes that the words left spell, up to the first that spells none.
+    /// Takes the words that are left and returns the codes that they spell. It stops at the first word that spells
+    /// none, and returns its fault.
     pub(crate) fn codes_left(&mut self, alloc: Global) -> Result<Codes, TextKind>
         ensures { GivesUnless (λ k. k ≡ Memory) (λ c. c) result (each code self.old) }
     {
@@ -202,7 +205,7 @@ impl<'a> Words<'a> {
         Ok(Codes::new(codes))
     }
 
-    /// The weights that the words left spell.
+    /// Takes the words that are left and returns the weights that they spell.
     pub(crate) fn weights(&mut self, alloc: Global) -> Result<Weights, TextKind>
         ensures { GivesUnless (λ k. k ≡ Memory) (λ c. c) result (each pair self.old) }
     {

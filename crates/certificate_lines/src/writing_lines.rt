@@ -1,4 +1,4 @@
-//! The lines in front of a tree, written with their values as they stand.
+//! Writing of the lines in front of a tree, with their values as they stand.
 
 ghost use Rattle.std.specs.Prelude.{◌≡◌, ◌≤◌, ◌++◌, OnOk};
 ghost use Rattle.certificate_lines.specs.Fitting.{IsSet};
@@ -18,7 +18,7 @@ use certificate_data::Language;
 use county_codes::{CountyCode, Group, Window};
 use std::alloc::AllocError;
 
-/// Appends the head.
+/// Appends the head that names the `language` and the `version`.
 pub fn push_head(out: &mut Vec<u8>, language: Language, version: Version) -> Result<(), AllocError>
     ensures { OnOk result (out.new.items ≡ out.old.items ++ item_line (item.Head language version)) }
 {
@@ -43,21 +43,21 @@ pub fn push_window(out: &mut Vec<u8>, window: Window) -> Result<(), AllocError>
     )
 }
 
-/// Appends the order.
+/// Appends the line of the `order`.
 pub fn push_order(out: &mut Vec<u8>, order: &[CountyCode]) -> Result<(), AllocError>
     ensures { OnOk result (out.new.items ≡ out.old.items ++ item_line (item.Order order.now)) }
 {
     push_codes_line(out, b"order", order)
 }
 
-/// Appends the limit.
+/// Appends the line of the `limit`.
 pub fn push_limit(out: &mut Vec<u8>, limit: u16) -> Result<(), AllocError>
     ensures { OnOk result (out.new.items ≡ out.old.items ++ item_line (item.Limit limit)) }
 {
     push_number_line(out, b"limit ", u32::from(limit))
 }
 
-/// Appends how many groups the target has, or that there is none.
+/// Appends the line that says how many `groups` the target has, or that there is no target.
 pub fn push_target_line(out: &mut Vec<u8>, groups: Option<usize>) -> Result<(), AllocError>
     ensures { OnOk result (out.new.items ≡ out.old.items ++ item_line (item.Target groups)) }
 {
@@ -67,18 +67,18 @@ pub fn push_target_line(out: &mut Vec<u8>, groups: Option<usize>) -> Result<(), 
     }
 }
 
-/// Appends the line of a group of the target, whatever its numbers are.
+/// Appends the line of a `group` of the target, whatever its numbers are.
 pub fn push_group_line(out: &mut Vec<u8>, group: &Group) -> Result<(), AllocError>
     ensures { OnOk result (out.new.items ≡ out.old.items ++ item_line (item.Grouped group.now)) }
 {
     push_number_and_codes_line(out, b"group ", group.seats, group.codes.as_slice())
 }
 
-/// Appends a group of the target.
+/// Appends the line of a `group` of the target.
 ///
 /// # Errors
 ///
-/// `NoSpelling` where no line spells it, or `Memory`.
+/// Returns `NoSpelling` if no line spells the group, and `Memory` if memory was refused.
 pub fn push_group(out: &mut Vec<u8>, group: &Group) -> Result<(), WriteFault>
     ensures { WritesLine ((group.now.seats ≤ 65535)
         × IsSet group.now.codes) (item.Grouped group.now) out.old.items result out.new.items }

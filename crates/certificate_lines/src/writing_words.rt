@@ -1,4 +1,4 @@
-//! Numbers, codes and lists of them, written.
+//! Writing of numbers, codes and lists of them.
 
 ghost use Rattle.std.specs.Prelude.{◌≡◌, ◌≤◌, ◌∷◌, ◌++◌, [], OnOk, decimal, All};
 ghost use Rattle.std.specs.List.{flat_map};
@@ -10,7 +10,7 @@ use county_codes::{CountyCode, push_code, push_codes};
 use field_lines::push_number;
 use std::alloc::AllocError;
 
-/// Appends weights, each after a blank.
+/// Appends the `weights`, each after a blank.
 fn push_weights(out: &mut Vec<u8>, weights: &[Weight]) -> Result<(), AllocError>
     ensures text { OnOk result (out.new.items ≡ out.old.items ++ flat_map (λ w. 32 ∷ weight_word w) weights.now) }
     ensures small { OnOk result (All (λ w. w.county ≤ 99999) weights.now) }
@@ -25,7 +25,7 @@ fn push_weights(out: &mut Vec<u8>, weights: &[Weight]) -> Result<(), AllocError>
     Ok(())
 }
 
-/// Appends a line of a name and a code. A name ends with a blank here.
+/// Appends a line of a `name` and a `code`. No blank is added after the `name`, which ends with one.
 pub fn push_code_line(out: &mut Vec<u8>, name: &[u8], code: CountyCode) -> Result<(), AllocError>
     ensures text { OnOk result (out.new.items ≡ out.old.items ++ (name.now ++ (five_digits code ++ 10 ∷ []))) }
     ensures small { OnOk result (code ≤ 99999) }
@@ -35,7 +35,7 @@ pub fn push_code_line(out: &mut Vec<u8>, name: &[u8], code: CountyCode) -> Resul
     out.extend_from_slice(b"\n")
 }
 
-/// Appends a line of a name, a code and a number.
+/// Appends a line of a `name`, a `code` and a `number`. No blank is added after the `name`, which ends with one.
 pub fn push_code_and_number_line(
     out: &mut Vec<u8>,
     name: &[u8],
@@ -53,7 +53,7 @@ pub fn push_code_and_number_line(
     out.extend_from_slice(b"\n")
 }
 
-/// Appends a line of a name and a number. A name ends with a blank here.
+/// Appends a line of a `name` and a `number`. No blank is added after the `name`, which ends with one.
 pub fn push_number_line(out: &mut Vec<u8>, name: &[u8], number: u32) -> Result<(), AllocError>
     ensures { OnOk result (out.new.items ≡ out.old.items ++ (name.now ++ (decimal number ++ 10 ∷ []))) }
 {
@@ -62,7 +62,7 @@ pub fn push_number_line(out: &mut Vec<u8>, name: &[u8], number: u32) -> Result<(
     out.extend_from_slice(b"\n")
 }
 
-/// Appends a line of a name and a count. A name ends with a blank here.
+/// Appends a line of a `name` and a `count`. No blank is added after the `name`, which ends with one.
 pub fn push_count_line(out: &mut Vec<u8>, name: &[u8], count: usize) -> Result<(), AllocError>
     ensures { OnOk result (out.new.items ≡ out.old.items ++ (name.now ++ (decimal count ++ 10 ∷ []))) }
 {
@@ -71,7 +71,7 @@ pub fn push_count_line(out: &mut Vec<u8>, name: &[u8], count: usize) -> Result<(
     out.extend_from_slice(b"\n")
 }
 
-/// Appends a line of a name and two numbers. A name ends with a blank here.
+/// Appends a line of a `name` and two numbers. No blank is added after the `name`, which ends with one.
 pub(crate) fn push_two_numbers_line(
     out: &mut Vec<u8>,
     name: &[u8],
@@ -88,7 +88,7 @@ pub(crate) fn push_two_numbers_line(
     out.extend_from_slice(b"\n")
 }
 
-/// Appends a line of a name and codes, each after a blank.
+/// Appends a line of a `name` and `codes`, each code after a blank.
 pub fn push_codes_line(
     out: &mut Vec<u8>,
     name: &[u8],
@@ -103,7 +103,7 @@ pub fn push_codes_line(
     out.extend_from_slice(b"\n")
 }
 
-/// Appends a line of a name, a number and codes, each after a blank.
+/// Appends a line of a `name`, a `number` and `codes`, each code after a blank.
 pub(crate) fn push_number_and_codes_line(
     out: &mut Vec<u8>,
     name: &[u8],
@@ -122,7 +122,7 @@ pub(crate) fn push_number_and_codes_line(
     out.extend_from_slice(b"\n")
 }
 
-/// Appends a line of a name, a number and weights, each after a blank, without its LF.
+/// Appends a line of a `name`, a `number` and `weights`, each weight after a blank. The LF of the line is left out.
 pub fn push_number_and_weights(
     out: &mut Vec<u8>,
     name: &[u8],

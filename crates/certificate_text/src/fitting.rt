@@ -1,4 +1,4 @@
-//! Which trees and certificates a text spells, told from their values: no line is written.
+//! Tests of whether a text spells a tree or a certificate. They go by the values, and write no line.
 
 ghost use Rattle.std.specs.Prelude.{◌↔◌, ◌<◌, ℕ, List, [], ◌∷◌, ◌++◌, map, length, Some, IsTrue};
 ghost use Rattle.certificate_laws.specs.Depth.{after_raise};
@@ -21,7 +21,7 @@ use certificate_lines::{
 };
 use county_codes::{Group, Grouping, Window};
 
-/// Whether the lines of a bound leaf fit, after its first.
+/// Returns whether the lines of a bound leaf after its first one fit.
 fn allowances_fit(allowances: &[Allowance]) -> bool
     ensures { Tests (allowances_wanted (length allowances.now)) (map item.Allows allowances.now) [] result }
 {
@@ -33,7 +33,7 @@ fn allowances_fit(allowances: &[Allowance]) -> bool
     true
 }
 
-/// Whether the lines of a bound leaf fit.
+/// Returns whether the lines of a bound leaf fit.
 fn bound_fits(allowances: &[Allowance]) -> bool
     ensures { (language : Language) (levels : ℕ)
         → Tests (want.Tree language levels ∷ []) (leaf_items (bound (map allowance_of allowances.now))) [] result }
@@ -44,7 +44,7 @@ fn bound_fits(allowances: &[Allowance]) -> bool
     allowances_fit(allowances)
 }
 
-/// Whether the lines of a leaf fit.
+/// Returns whether the lines of a `leaf` fit.
 fn leaf_fits(leaf: &Leaf) -> bool
     ensures { (language : Language) (levels : ℕ)
         → Tests (want.Tree language levels ∷ []) (leaf_items (leaf_of leaf.now)) [] result }
@@ -56,7 +56,7 @@ fn leaf_fits(leaf: &Leaf) -> bool
     }
 }
 
-/// Whether the lines of the takes of a branch fit, each with its tree, and of its mark.
+/// Returns whether the lines of a branch's `takes` fit, each with its tree, and the line of its mark.
 #[cycle(fitting)]
 fn takes_fit(takes: &[Take], language: Language, levels: u16) -> bool
     requires { 0 < levels }
@@ -74,7 +74,7 @@ fn takes_fit(takes: &[Take], language: Language, levels: u16) -> bool
     true
 }
 
-/// Whether the lines of a tree fit, whose branches may open so many levels.
+/// Returns whether the lines of a `tree` fit, where its branches may open `levels` levels.
 #[cycle(fitting)]
 fn tree_fits(tree: &Tree, language: Language, levels: u16) -> bool
     ensures { Tests (want.Tree language levels ∷ []) (items_of_tree (tree_of tree.now)) [] result }
@@ -92,7 +92,7 @@ fn tree_fits(tree: &Tree, language: Language, levels: u16) -> bool
     leaf_fits(&tree.leaf)
 }
 
-/// Whether the head fits, and the line of the allowance if one is named.
+/// Returns whether the head fits, and the line of the allowance if one is named.
 fn head_fits(window: Option<Window>) -> bool
     ensures { (language : Language)
         → Tests (want.Head ∷ []) (items_of_head language window) (want.Order language ∷ []) result }
@@ -103,7 +103,7 @@ fn head_fits(window: Option<Window>) -> bool
     }
 }
 
-/// Whether the lines of groups fit.
+/// Returns whether the lines of the `groups` fit.
 fn groups_fit(groups: &[Group]) -> bool
     ensures { Tests (groups_wanted (length groups.now)) (map item.Grouped groups.now) [] result }
 {
@@ -115,7 +115,7 @@ fn groups_fit(groups: &[Group]) -> bool
     true
 }
 
-/// Whether the lines of a target with these groups fit.
+/// Returns whether the lines of a target with these `groups` fit.
 fn counted_groups_fit(groups: &[Group]) -> bool
     ensures { Tests (want.Target ∷ []) (items_of_target (Some groups.now)) [] result }
 {
@@ -125,7 +125,7 @@ fn counted_groups_fit(groups: &[Group]) -> bool
     groups_fit(groups)
 }
 
-/// Whether the lines of a target fit, or the line that there is none.
+/// Returns whether the lines of a `target` fit, or the line that says that there is none.
 fn target_fits(target: &Option<Grouping>) -> bool
     ensures { Tests (want.Target ∷ []) (items_of_target (target_of target.now)) [] result }
 {
@@ -135,7 +135,7 @@ fn target_fits(target: &Option<Grouping>) -> bool
     }
 }
 
-/// Whether the lines of a certificate fit.
+/// Returns whether the lines of a `certificate` fit.
 fn certificate_fits(certificate: &Certificate) -> bool
     ensures { IsTrue result ↔ AllFit (want.Head ∷ []) (items_of_certificate (certificate_of certificate.now)) }
 {
@@ -156,14 +156,14 @@ fn certificate_fits(certificate: &Certificate) -> bool
     tree_fits(&certificate.tree, round.language, order.len() as u16)
 }
 
-/// Whether a text spells the tree, for an order of so many counties.
+/// Returns whether a text spells the `tree`, for an order of `counties` counties.
 pub(crate) fn has_tree_text(tree: &Tree, language: Language, counties: u16) -> bool
     ensures { IsTrue result ↔ ((text : List ℕ) × IsTreeSpelling language counties text (tree_of tree.now)) }
 {
     tree_fits(tree, language, counties)
 }
 
-/// Whether a text spells the certificate.
+/// Returns whether a text spells the `certificate`.
 pub(crate) fn has_text(certificate: &Certificate) -> bool
     ensures { IsTrue result ↔ ((text : List ℕ) × IsSpelling text (certificate_of certificate.now)) }
 {

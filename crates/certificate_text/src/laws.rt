@@ -15,7 +15,8 @@ ghost use Rattle.certificate_text.specs.Spelling.{IsSpelling, IsTreeSpelling};
 ghost use Rattle.certificate_text.specs.TextLaws.{ProofTreesHaveTexts};
 ghost use Rattle.certificate_data.specs.TreeValue.{Certificate};
 
-/// Items that fit are read from their text, items that are read fit, and the text they are read from is theirs.
+/// States that items and texts agree. Items that fit are read from their text. Items that are read fit, and the text
+/// from which they are read is theirs.
 pub fn items_and_texts_agree()
     ensures back { (wanted : List Wanted) (n : ℕ) (items : List Item) → AllFit wanted items
         → items_from wanted n (raw_lines_from n (text_of_items items)) ≡ Ok items }
@@ -25,13 +26,13 @@ pub fn items_and_texts_agree()
         → items_from wanted n (raw_lines_from n text) ≡ Ok items → text ≡ text_of_items items }
 {}
 
-/// The items of a text are those that come one at a time, where no fault ends them.
+/// States that the items of a text are those that come one at a time, if no fault ends them.
 pub fn items_come_in_turn()
     ensures { (wanted : List Wanted) (n : ℕ) (lines : List RawLine)
         → whole (course_from wanted n lines).items (course_from wanted n lines).fault ≡ items_from wanted n lines }
 {}
 
-/// A certificate has one text at most, a text spells one certificate at most, and no certificate's text
+/// States that a certificate has at most one text, and a text spells at most one certificate. No certificate's text
 /// begins another's.
 pub fn certificates_have_one_text()
     ensures one_text { (t u : List ℕ) (c : Certificate) → IsSpelling t c → IsSpelling u c → t ≡ u }
@@ -39,8 +40,8 @@ pub fn certificates_have_one_text()
     ensures no_prefix { (t rest : List ℕ) (c d : Certificate) → IsSpelling t c → IsSpelling (t ++ rest) d → rest ≡ [] }
 {}
 
-/// For a language and a number of counties, a tree has one text at most, a text spells one tree at most, and no tree's
-/// text begins another's.
+/// States that a tree has at most one text, and a text spells at most one tree, for a language and a number of
+/// counties. No tree's text begins another's.
 pub fn trees_have_one_text()
     ensures one_text { (language : Language) (counties : ℕ) (t u : List ℕ) (tree : Tree)
         → IsTreeSpelling language counties t tree → IsTreeSpelling language counties u tree → t ≡ u }
@@ -50,13 +51,13 @@ pub fn trees_have_one_text()
         → IsTreeSpelling language counties t a → IsTreeSpelling language counties (t ++ rest) b → rest ≡ [] }
 {}
 
-/// The lines of a tree spell it where they meet no fault, and nothing spells it where they meet one.
+/// States that the lines of a tree spell it if they meet no fault, and that nothing spells it if they meet one.
 pub fn trees_spell()
     ensures { TreesSpell }
 {}
 
-/// A proof tree whose numbers are in range is spelled, and so is a certificate whose numbers are: no branch of it is
-/// too deep, and no line of weights too long.
+/// States that a text spells each proof tree whose numbers are in range, and each certificate whose numbers are. None
+/// of them has a branch that is too deep or a line of weights that is too long.
 pub fn proof_trees_have_texts()
     ensures { ProofTreesHaveTexts }
 {}

@@ -1,7 +1,8 @@
-//! The text of a certificate: one spelling for each, read and written. Its lines, and the items that they
-//! say, are those of `certificate_lines`, whose public names for them are given on, as are those of `certificate_data`.
+//! The text of a certificate, read and written. Each certificate has at most one spelling. Its lines, and the items
+//! that they say, are those of `certificate_lines`. The public names of that crate for them are re-exported, and so are
+//! those of `certificate_data`.
 //!
-//! A tree is written with its numbers as they stand. If its lines meet no fault, they spell it, and else nothing does.
+//! A tree is written with its numbers as they stand. If its lines meet no fault, they spell it; otherwise nothing does.
 //! `write` and `write_tree` first test by the values whether a text spells them.
 //!
 //! ```

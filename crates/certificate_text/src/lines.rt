@@ -21,7 +21,7 @@ use certificate_lines::{
 use county_codes::{CountyCode, Group, Grouping, Window};
 use std::alloc::{AllocError, Global};
 
-/// Appends the first line of a bound leaf, of so many lines.
+/// Appends the first line of a bound leaf, which says how many `lines` follow.
 fn push_bound_line(out: &mut Vec<u8>, lines: usize) -> Result<(), AllocError>
     ensures text { OnOk result (out.new.items ≡ out.old.items ++ (codes "bound " ++ (decimal lines ++ 10 ∷ []))) }
     ensures range { lines < 2 ^ 64 }
@@ -29,7 +29,7 @@ fn push_bound_line(out: &mut Vec<u8>, lines: usize) -> Result<(), AllocError>
     push_count_line(out, b"bound ", lines)
 }
 
-/// Appends the line of weights.
+/// Appends the line of a `quota` and `weights`.
 fn push_weigh_line(out: &mut Vec<u8>, quota: u32, weights: &[Weight]) -> Result<(), AllocError>
     ensures { OnOk result (Added (item.Allows (allowance.Weigh quota weights.now) ∷ []) out.old.items out.new.items) }
 {
@@ -48,7 +48,7 @@ fn push_allowance(out: &mut Vec<u8>, allowance: &Allowance) -> Result<(), AllocE
     }
 }
 
-/// Appends the lines of a bound leaf, after its first.
+/// Appends the lines of a bound leaf after its first one.
 fn push_allowances(out: &mut Vec<u8>, allowances: &[Allowance]) -> Result<(), AllocError>
     ensures { OnOk result (Added (map item.Allows allowances.now) out.old.items out.new.items) }
 {
@@ -58,7 +58,7 @@ fn push_allowances(out: &mut Vec<u8>, allowances: &[Allowance]) -> Result<(), Al
     Ok(())
 }
 
-/// Appends the lines of a leaf.
+/// Appends the lines of a `leaf`.
 fn push_leaf(out: &mut Vec<u8>, leaf: &Leaf) -> Result<(), AllocError>
     ensures { OnOk result (Added (leaf_items (leaf_of leaf.now)) out.old.items out.new.items) }
 {
@@ -100,7 +100,7 @@ fn push_mark_line(out: &mut Vec<u8>) -> Result<(), AllocError>
     out.extend_from_slice(b"mark\n")
 }
 
-/// Appends the lines of a take and its tree.
+/// Appends the lines of a `take` and its tree.
 #[cycle(push_lines)]
 fn push_take(out: &mut Vec<u8>, take: &Take) -> Result<(), AllocError>
     ensures { OnOk result (Added (take_items take.now) out.old.items out.new.items) }
@@ -109,7 +109,7 @@ fn push_take(out: &mut Vec<u8>, take: &Take) -> Result<(), AllocError>
     push_tree(out, &take.tree)
 }
 
-/// Appends the lines of a branch, up to its mark.
+/// Appends the lines of a `branch`, up to its mark.
 #[cycle(push_lines)]
 fn push_branch(out: &mut Vec<u8>, branch: &Branch) -> Result<(), AllocError>
     ensures { OnOk result (Added (branch_items branch.now) out.old.items out.new.items) }
@@ -121,7 +121,7 @@ fn push_branch(out: &mut Vec<u8>, branch: &Branch) -> Result<(), AllocError>
     push_mark_line(out)
 }
 
-/// Appends the lines of a tree.
+/// Appends the lines of a `tree`.
 #[cycle(push_lines)]
 fn push_tree(out: &mut Vec<u8>, tree: &Tree) -> Result<(), AllocError>
     ensures { OnOk result (Added (items_of_tree (tree_of tree.now)) out.old.items out.new.items) }
@@ -132,11 +132,11 @@ fn push_tree(out: &mut Vec<u8>, tree: &Tree) -> Result<(), AllocError>
     push_leaf(out, &tree.leaf)
 }
 
-/// The lines of a tree, whatever its numbers are. Where the tree has a spelling, they are it.
+/// Returns the lines of a `tree`, whatever its numbers are. If the tree has a spelling, these lines are its spelling.
 ///
 /// # Errors
 ///
-/// An error where memory was refused.
+/// Returns an error if memory was refused.
 pub fn tree_lines(alloc: Global, tree: &Tree) -> Result<Vec<u8>, AllocError>
     ensures text { IfOk result (λ text. text.items ≡ text_of_items (items_of_tree (tree_of tree.now))) }
     ensures numbers { IfOk result (λ text. AreTreeNumbers (tree_of tree.now)) }
@@ -163,7 +163,7 @@ fn push_head_lines(
     }
 }
 
-/// Appends the lines of the groups of a target.
+/// Appends the lines of a target's `groups`.
 fn push_groups(out: &mut Vec<u8>, groups: &[Group]) -> Result<(), AllocError>
     ensures { OnOk result (out.new.items ≡ out.old.items ++ text_of_items (map item.Grouped groups.now)) }
 {
@@ -173,7 +173,7 @@ fn push_groups(out: &mut Vec<u8>, groups: &[Group]) -> Result<(), AllocError>
     Ok(())
 }
 
-/// Appends the lines of a target, or that there is none.
+/// Appends the lines of a `target`, or the line that says that there is none.
 fn push_target(out: &mut Vec<u8>, target: &Option<Grouping>) -> Result<(), AllocError>
     ensures { OnOk result (out.new.items ≡ out.old.items ++ text_of_items (items_of_target (target_of target.now))) }
 {
@@ -186,7 +186,7 @@ fn push_target(out: &mut Vec<u8>, target: &Option<Grouping>) -> Result<(), Alloc
     }
 }
 
-/// The lines of a certificate, whatever its numbers are.
+/// Returns the lines of a `certificate`, whatever its numbers are.
 pub(crate) fn lines_of(alloc: Global, certificate: &Certificate) -> Result<Vec<u8>, AllocError>
     ensures { IfOk result (λ text. text.items ≡ text_of_items (items_of_certificate (certificate_of certificate.now))) }
 {

@@ -26,7 +26,7 @@ use certificate_lines::{Cursor, Opening, TextFault, Version, ended, levels_after
 use county_codes::{Group, Grouping, Window};
 use std::alloc::Global;
 
-/// So many lines of a bound leaf.
+/// Reads `count` lines of a bound leaf.
 fn allowances_at(
     alloc: Global,
     cursor: &mut Cursor,
@@ -44,7 +44,7 @@ fn allowances_at(
     Ok(allowances)
 }
 
-/// So many groups of a target.
+/// Reads `count` groups of a target.
 fn groups_at(alloc: Global, cursor: &mut Cursor, count: u16) -> Result<Vec<Group>, TextFault>
     ensures read { ReadsAll (groups_wanted count) (λ v. map item.Grouped v.items) [] cursor.old result cursor.new }
     ensures number { IfOk result (λ v. length v.items ≡ count) }
@@ -57,7 +57,7 @@ fn groups_at(alloc: Global, cursor: &mut Cursor, count: u16) -> Result<Vec<Group
     Ok(groups)
 }
 
-/// The groups that a branch takes, up to its mark.
+/// Reads the groups that a branch takes, each with its tree, up to the mark of the branch.
 #[cycle(tree_lines)]
 fn takes_at(
     alloc: Global,
@@ -78,7 +78,7 @@ fn takes_at(
     Ok(takes)
 }
 
-/// The tree that begins on the next line, whose branches may open so many levels.
+/// Reads the tree that begins on the next line, where its branches may open `levels` levels.
 #[cycle(tree_lines)]
 fn tree_at(
     alloc: Global,
@@ -127,7 +127,7 @@ fn tree_at(
     }
 }
 
-/// The language, and the allowance if one is named.
+/// Reads the language, and the allowance if one is named.
 fn head_at(cursor: &mut Cursor) -> Result<(Language, Option<Window>), TextFault>
     ensures read { IfOk result (λ h. ReadsItems (want.Head ∷ []) cursor.old (items_of_head h.0 h.1) (want.Order h.0
         ∷ []) cursor.new) }
@@ -143,7 +143,7 @@ fn head_at(cursor: &mut Cursor) -> Result<(Language, Option<Window>), TextFault>
     }
 }
 
-/// The target, where there is one.
+/// Reads the target, or `None` if there is none.
 fn target_at(alloc: Global, cursor: &mut Cursor) -> Result<Option<Grouping>, TextFault>
     ensures { ReadsAll (want.Target ∷ []) (λ t. items_of_target (target_of t)) [] cursor.old result cursor.new }
 {
@@ -156,7 +156,7 @@ fn target_at(alloc: Global, cursor: &mut Cursor) -> Result<Option<Grouping>, Tex
     }
 }
 
-/// The certificate of a text, by its items.
+/// Reads the certificate of a `text` by its items.
 fn certificate_at(alloc: Global, text: &[u8]) -> Result<Certificate, TextFault>
     ensures { GivesItems (λ c. items_of_certificate (certificate_of c)) result (certificate_items text.now) }
 {
@@ -180,23 +180,23 @@ fn certificate_at(alloc: Global, text: &[u8]) -> Result<Certificate, TextFault>
     })
 }
 
-/// The certificate that a text spells.
+/// Reads the certificate that a `text` spells.
 ///
 /// # Errors
 ///
-/// The first fault of the text. `Memory` in the place of any answer.
+/// Returns the first fault of the text. If memory was refused, it returns `Memory` in place of any answer.
 pub fn read(alloc: Global, text: &[u8]) -> Result<Certificate, TextFault>
-    // What is read is spelled so, and has its numbers in their ranges.
+    // The text spells the certificate that is read, whose numbers are in their ranges.
     ensures found { IfOk result (λ c. IsSpelling text.now (certificate_of c)) }
-    // What is spelled so is read, unless memory is refused.
+    // A certificate that the text spells is read, unless memory is refused.
     ensures only { (c : CertificateValue) → IsSpelling text.now c → IsUnlessMemory (λ d. certificate_of d) result c }
-    // Which fault it is.
+    // Unless memory was refused, the fault is that of the items of the text.
     ensures fault { IfErr result (λ f. (IsTextMemory f → ⊥) → certificate_items text.now ≡ Err f) }
 {
     certificate_at(alloc, text)
 }
 
-/// The tree of a text, by its items.
+/// Reads the tree of a whole `text` by its items.
 fn whole_tree(
     alloc: Global,
     text: &[u8],
@@ -211,11 +211,11 @@ fn whole_tree(
     Ok(tree)
 }
 
-/// The tree that a text spells, for an order of so many counties.
+/// Reads the tree that a `text` spells, for an order of `counties` counties.
 ///
 /// # Errors
 ///
-/// The first fault of the text. `Memory` in the place of any answer.
+/// Returns the first fault of the text. If memory was refused, it returns `Memory` in place of any answer.
 pub fn read_tree(
     alloc: Global,
     text: &[u8],
@@ -231,11 +231,13 @@ pub fn read_tree(
     whole_tree(alloc, text, language, counties)
 }
 
-/// The tree that a text begins with, for an order of so many counties, and the place of the bytes behind it.
+/// Reads the tree with which a `text` begins, for an order of `counties` counties. Returns the tree and the place of
+/// the bytes behind it.
 ///
 /// # Errors
 ///
-/// The first fault of the text up to the end of a tree. `Memory` in the place of any answer.
+/// Returns the first fault of the text up to the end of a tree. If memory was refused, it returns `Memory` in place of
+/// any answer.
 pub fn front_tree(
     alloc: Global,
     text: &[u8],

@@ -12,11 +12,11 @@ use certificate_data::{Certificate, Language, Tree};
 use certificate_lines::WriteFault;
 use std::alloc::Global;
 
-/// The text that spells a tree, for an order of so many counties.
+/// Returns the text that spells a `tree`, for an order of `counties` counties.
 ///
 /// # Errors
 ///
-/// `NoSpelling` exactly where no text spells it, or `Memory`.
+/// Returns `NoSpelling` exactly if no text spells the tree, and `Memory` if memory was refused.
 pub fn write_tree(
     alloc: Global,
     tree: &Tree,
@@ -35,11 +35,11 @@ pub fn write_tree(
     Ok(text)
 }
 
-/// The text that spells a certificate.
+/// Returns the text that spells a `certificate`.
 ///
 /// # Errors
 ///
-/// `NoSpelling` exactly where no text spells it, or `Memory`.
+/// Returns `NoSpelling` exactly if no text spells the certificate, and `Memory` if memory was refused.
 pub fn write(alloc: Global, certificate: &Certificate) -> Result<Vec<u8>, WriteFault>
     ensures spelled { IfOk result (λ text. IsSpelling text.items (certificate_of certificate.now)) }
     ensures none { IfErr result (λ fault. fault ≡ write_fault.NoSpelling → (text : List ℕ)

@@ -9,46 +9,46 @@ ghost use Rattle.checker_laws.specs.Verdict.{No, IsVerdict};
 ghost use Rattle.checker_laws.specs.Examples.{untaken, strayed};
 ghost use Rattle.certificate_laws.specs.Examples.{stranding, plain_round};
 
-/// A tree has one end at a state. It is a proof where that is no fault, and else none.
+/// States that a tree has one end at a state. The tree is a proof if its end is no fault, and otherwise it is none.
 pub fn trees_end()
     ensures { TreesEnd }
 {}
 
-/// A certificate has one verdict. It is Best or Impossible where the certificate is one, which then shows it,
-/// and else the first fault.
+/// States that a certificate has one verdict. If the certificate holds, the verdict is Best or Impossible, and the
+/// certificate shows it. Otherwise the verdict is the first fault.
 pub fn verdicts_show()
     ensures { VerdictsShow }
 {}
 
-/// There is one cost.
+/// States that a tree at a state and a certificate each have one cost.
 pub fn costs_are_one()
     ensures { CostsAreOne }
 {}
 
-/// As what is left to judge ends after a line of a tree, so it ends before it.
+/// States that what is left to judge ends before a line of a tree as it ends after that line.
 pub fn lines_carry()
     ensures { LinesCarry }
 {}
 
-/// What is to be looked through before a line of a tree is what the line looks through, and what is left
-/// after it.
+/// States what is to be looked through before a line of a tree. It is what the line looks through, and what is left
+/// after the line.
 pub fn lines_cost()
     ensures { LinesCost }
 {}
 
-/// As the lines left of a bound leaf end after one of them, so the leaf ends before it.
+/// States that a bound leaf ends before one of its lines as the lines that are left end after it.
 pub fn bound_lines_carry()
     ensures { BoundLinesCarry }
 {}
 
-/// What is to be looked through before a line of a bound leaf is what the line looks through, and what is
-/// left after it.
+/// States what is to be looked through before a line of a bound leaf. It is what the line looks through, and what is
+/// left after the line.
 pub fn bound_lines_cost()
     ensures { BoundLinesCost }
 {}
 
-/// The verdicts of two certificates that are none: a take of the three counties whose middle one strands its
-/// neighbours is left out, or another one stands in its place.
+/// States the verdicts on two certificates that do not hold, for the three counties whose middle one strands its
+/// neighbours. In one of them a take is left out, and in the other a different take stands in its place.
 pub fn first_faults()
     ensures missing { IsVerdict stranding plain_round untaken (No MissingGroup 7) }
     ensures stray { IsVerdict stranding plain_round strayed (No StrayGroup 7) }

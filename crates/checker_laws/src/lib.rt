@@ -1,20 +1,21 @@
-//! What is said of a certificate and of any text, and what saying so costs, as definitions and laws.
+//! The verdict on a certificate and on any text, and what it costs to reach it, as definitions and laws.
 //!
-//! The target of a certificate is best, or no grouping is lawful, or the certificate has a first fault at a line. The
-//! certificate is a value of `certificate_data` whose lines are counted as its text would have them: the head
-//! is line 1, the order stands on line 2. Of a branch, a take, a mark or a leaf the first line at fault counts,
-//! and lines behind it are not judged. In a bound leaf the lines are judged up to the first that allows fewer
-//! groups than the target has; lines behind that are a fault of the line that opens the leaf, whatever they
-//! hold. A county of a `weigh` line is wrong only where it is none of the problem; one that is not open weighs
-//! nothing.
+//! A verdict says that the target of a certificate is best, or that no grouping is lawful, or that the certificate has
+//! a first fault at a line. The certificate is a value of `certificate_data`. Its lines are counted as its text would
+//! have them. The head is line 1. The allowance is line 2 if one is named, and the order is the next line. In a branch,
+//! a take, a mark or a leaf the first line at fault counts, and lines behind it are not judged.
+//!
+//! In a bound leaf the lines are judged up to the first that allows fewer groups than the target has. Lines behind that
+//! one are a fault of the line that opens the leaf, whatever they hold. A county of a `weigh` line is wrong only if it
+//! isn't one of the problem's counties. A county that isn't open weighs nothing.
 //!
 //! A text without a fault spells one certificate, and the verdict on the text is that certificate's. If a text has a
 //! fault of its words, that fault comes before all that is said of a certificate. A tree without a text has the first
 //! text fault that its lines would meet.
 //!
 //! The definitions stand in `specs/`: `Fault`, `End` (how lines end), `Lines` (how many a value has), `Leaves`,
-//! `Branches`, `Trees`, `Verdict`, `Cost`, and `Work`, `WorkCost` and `BoundWork` for what a loop over lines
-//! has left; `TextVerdict` and `TextCost` speak of texts.
+//! `Branches`, `Trees`, `Verdict` and `Cost`. `Work`, `WorkCost` and `BoundWork` speak of what a loop over lines has
+//! left, and `TextVerdict` and `TextCost` speak of texts.
 #![tactic(auto)]
 
 mod laws;

@@ -2,17 +2,19 @@
 
 ghost use Rattle.checker_laws.specs.TextLaws.{TextsSpell, TextVerdictsShow, TextCostsAreOne};
 
-/// A text spells one certificate, whose items are the text's, or has a fault. It has an LF at least for each item.
+/// States that a text spells one certificate, whose items are the text's, or has a fault. The text has at least one LF
+/// for each item.
 pub fn texts_spell()
     ensures { TextsSpell }
 {}
 
-/// A text has one verdict at most. It is Best or Impossible where the text spells a certificate, which then shows it.
+/// States that a text has at most one verdict. If the text spells a certificate that holds, the verdict is Best or
+/// Impossible, and the certificate shows it.
 pub fn text_verdicts_show()
     ensures { TextVerdictsShow }
 {}
 
-/// A text has one cost.
+/// States that a text has one cost.
 pub fn text_costs_are_one()
     ensures { TextCostsAreOne }
 {}

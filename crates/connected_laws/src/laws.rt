@@ -2,17 +2,18 @@
 
 ghost use Rattle.connected_laws.specs.Laws.{LeafIsFound, ForkIsFound, NothingIsLost, KeptAreGroups, ExtensionsAreSets};
 
-/// Where no free place is adjacent to a connected set, or the set is as large as may be, the set alone is
-/// what has all of it. Else what has a free place and what lacks it are all, and no set is both. Where
-/// nothing that has the set passes the test, the search may stop early.
+/// States how growing a connected set finds all sets that contain it, each once. If no free place is adjacent to the
+/// set, or it is as large as it may be, the set alone is all of them. Otherwise they are those that have a given free
+/// place and those that lack it, and no set is both. If none of them passes the test, the search may stop early.
 pub fn growing_finds_each_once()
     ensures leaf { LeafIsFound }
     ensures fork { ForkIsFound }
     ensures early { NothingIsLost }
 {}
 
-/// What a search from a place keeps of the sets whose people suit some number of seats, sorted by size and
-/// then by places, are the lawful groups from the place; and all that it meets are connected sets from it.
+/// States that growing from a place gives the lawful groups from the place. They are the sets that a search keeps
+/// because their people suit some number of seats, sorted by size and then by places. All sets that the search meets
+/// are connected sets from the place.
 pub fn growing_gives_groups()
     ensures groups { KeptAreGroups }
     ensures sets { ExtensionsAreSets }

@@ -5,23 +5,23 @@ ghost use Rattle.grouping_laws.specs.Allowance.{HasWindow, named_window};
 ghost use Rattle.grouping_laws.specs.Totals.{SizesAddUp, WindowsAddUp, GroupsFit};
 ghost use Rattle.grouping_laws.specs.Order.{GreaterIsIrreflexive, GreaterIsTransitive, GreaterIsTotal};
 
-/// The sizes of the sets of a lawful grouping add up to the number of counties of the problem. The people
-/// of groups together suit the sum of their seats, and no lawful group has more counties than the problem.
+/// States that the sizes of the sets of a lawful grouping add up to the number of counties of the problem. The people
+/// of groups together suit the sum of their seats. No lawful group has more counties than the problem.
 pub fn groups_add_up()
     ensures sizes { SizesAddUp }
     ensures windows { WindowsAddUp }
     ensures fit { GroupsFit }
 {}
 
-/// Greater orders counts totally: none is greater than itself, what is greater than a greater one is
-/// greater, and of two different ones one is greater.
+/// States that the relation "greater" orders counts totally. No counts are greater than themselves, and what is greater
+/// than something greater is greater. Of two different counts one is greater.
 pub fn greater_orders_counts()
     ensures irreflexive { GreaterIsIrreflexive }
     ensures transitive { GreaterIsTransitive }
     ensures total { GreaterIsTotal }
 {}
 
-/// What a certificate names for a problem is the problem's allowance.
+/// States that what a certificate names for a problem is the problem's allowance.
 pub fn problems_name_their_window()
     ensures { (p : Problem) → HasWindow p (named_window p) }
 {}

@@ -1,5 +1,5 @@
-//! What a lawful grouping is, which is best, and the laws of both: definitions (`specs/`), lemmas that other crates
-//! cite (`proofs/`), and no code. The functions do nothing; their contracts are the laws.
+//! What a lawful grouping is, which grouping is best, and the laws of both. The crate has definitions (`specs/`),
+//! lemmas that other crates cite (`proofs/`), and no code. The functions do nothing, and their contracts are the laws.
 #![tactic(auto)]
 
 mod laws;
