@@ -87,10 +87,10 @@ fn read_listing(
 
 /// Returns what the `text` of a certificate, plain or wide, shows of all best groupings of the `problem`.
 ///
-/// - `All` lists them: each grouping is best, no two have the same sets of counties, and each best grouping has the sets
-///   of one that is listed. The codes of a group ascend. The groups of a grouping are ordered by size and then by codes.
-///   The groupings are ordered by their lists of groups, the lesser first. The seats of a grouping are those that
-///   `allot` gives to its groups in their order.
+/// - `All` lists them. Each grouping is best, no two have the same sets of counties, and each best grouping has the
+///   sets of one that is listed. The codes of a group ascend. The groups of a grouping are ordered by size and then by
+///   codes. The groupings are ordered by their lists of groups, the lesser first. The seats of a grouping are those
+///   that `allot` gives to its groups in their order.
 /// - `Open` says that the target is best, but that the certificate doesn't show which other groupings are. It gives the
 ///   first leaf that hides some, with its line, counted from 1: a bound leaf that doesn't fall short of the target's
 ///   counts, where a county is left or no seats add up.
