@@ -1,7 +1,7 @@
 -- The fault of a text of events is one of a line, or that a line is missing.
 use Rattle.std.proofs.Common.{◌≡◌, ℕ, ◌+◌, List, [], ◌∷◌, ◌++◌, codes, drop, Option, Some, None, Result, Ok, Err, subst}
 use Rattle.field_lines.specs.RawPieces.{RawLine, raw_lines}
-use Rattle.certificate_data.specs.declared.language.Language.{Language}
+use Rattle.certificate_data.specs.declared.format.Format.{Format}
 use Rattle.certificate_lines.specs.Lines.{most, begins, counted, number_at, code_word_at}
 use Rattle.certificate_lines.specs.Items.{by_words, item_on, wanted_after}
 use Rattle.certificate_lines.specs.declared.fault.TextKind.{TextKind}
@@ -61,31 +61,31 @@ abbrev SaidFault : Option TextFault → Type 0
 SaidFault None = Unit {0}
 SaidFault (Some fault) = OfLine fault.kind
 
-module _ (language : Language) (counties : ℕ) where
-  line_behind : (l : EventLine) → AreBehind (wanted_by language counties l)
+module _ (format : Format) (counties : ℕ) where
+  line_behind : (l : EventLine) → AreBehind (wanted_by format counties l)
   line_behind (says.Hand from) = tt
   line_behind (says.Result round piece) = (tt, tt)
   line_behind (says.Split round piece county limit) = tt
   line_behind (says.Better round groups) = groups_behind groups
   line_behind (says.Wider round) = tt
 
-  fault_said : (wanted : List Wanted) (n : ℕ) (pieces : List RawLine) → AreBehind wanted → SaidFault (fault_from language counties wanted n pieces)
+  fault_said : (wanted : List Wanted) (n : ℕ) (pieces : List RawLine) → AreBehind wanted → SaidFault (fault_from format counties wanted n pieces)
   fault_said [] n [] b = tt
-  fault_said [] n (piece ∷ pieces) b = go (λ l. fault_said (wanted_by language counties l) (n + 1) pieces (line_behind l)) (by_words event_on piece)
+  fault_said [] n (piece ∷ pieces) b = go (λ l. fault_said (wanted_by format counties l) (n + 1) pieces (line_behind l)) (by_words event_on piece)
       (words_then_said event_on piece event_said)
     where
-      go : ((l : EventLine) → SaidFault (fault_from language counties (wanted_by language counties l) (n + 1) pieces))
-          → (r : Result EventLine TextKind) → Said r → SaidFault (by_first language counties n pieces r)
+      go : ((l : EventLine) → SaidFault (fault_from format counties (wanted_by format counties l) (n + 1) pieces))
+          → (r : Result EventLine TextKind) → Said r → SaidFault (by_first format counties n pieces r)
       go later (Ok l) said = later l
       go later (Err kind) said = said
   fault_said (w ∷ more) n [] b = tt
   fault_said (w ∷ more) n (piece ∷ pieces) b = go (λ i. fault_said (wanted_after w i ++ more) (n + 1) pieces
       (both_behind (wanted_after w i) more (after_behind w i b.0) b.1)) (item_on w piece) (item_said w piece b.0)
     where
-      go : ((i : Item) → SaidFault (fault_from language counties (wanted_after w i ++ more) (n + 1) pieces)) → (r : Result Item TextKind) → Said r
-          → SaidFault (by_item language counties w more n pieces r)
+      go : ((i : Item) → SaidFault (fault_from format counties (wanted_after w i ++ more) (n + 1) pieces)) → (r : Result Item TextKind) → Said r
+          → SaidFault (by_item format counties w more n pieces r)
       go later (Ok i) said = later i
       go later (Err kind) said = said
 
-  pub fault_of_line : (text : List ℕ) (fault : TextFault) → events_fault language counties text ≡ Some fault → OfLine fault.kind
+  pub fault_of_line : (text : List ℕ) (fault : TextFault) → events_fault format counties text ≡ Some fault → OfLine fault.kind
   fault_of_line text fault h = subst SaidFault h (fault_said [] 1 (raw_lines text) tt)

@@ -4,8 +4,8 @@ use Rattle.std.specs.Prelude.{nat_lt, nat_eq}
 use Rattle.std.specs.Cmp.Lexicographic.{pointwise}
 use Rattle.field_lines.specs.RawPieces.{RawLine}
 use Rattle.field_lines.specs.Fault.{most_bytes}
-use Rattle.certificate_data.specs.declared.language.Language.{Language}
-use Rattle.certificate_data.specs.declared.language.Language.TheVariants.{Plain, Wide}
+use Rattle.certificate_data.specs.declared.format.Format.{Format}
+use Rattle.certificate_data.specs.declared.format.Format.TheVariants.{Plain, Wide}
 use Rattle.field_lines.specs.Chain.{◌>>=◌}
 use Rattle.certificate_lines.specs.Items.{item_on, headed, wanted_after, items_in_front, items_from, seen}
 use Rattle.certificate_lines.specs.Words.{line_bytes}
@@ -70,7 +70,7 @@ head_on_other bytes =
 head_other : (piece : RawLine) → Other (item_on want.Head piece)
 head_other piece = go (line_bytes piece.bytes piece.ended) (bytes_other piece.bytes piece.ended)
   where
-    seen_other : (r : Result (Language × Version) TextKind) → Other r → Other (seen headed r)
+    seen_other : (r : Result (Format × Version) TextKind) → Other r → Other (seen headed r)
     seen_other (Ok head) a = ok_other (headed head)
     seen_other (Err kind) a = λ e. a (cc (e))
 
@@ -95,18 +95,18 @@ not_both n (piece ∷ pieces) fault none head = go (item_on want.Head piece) ref
         let same : kind ≡ AfterEnd = ap (λ (f : TextFault). f.kind) (second ∙ sym first) in
         head_other piece (e ∙ ap (λ (k : TextKind). Err k) same)
 
-module _ (language : Language) (counties : ℕ) where
+module _ (format : Format) (counties : ℕ) where
   -- a fault that is met whatever is wanted behind these things is one where events are wanted there
   pub fault_told : (wanted more : List Wanted) (n : ℕ) (pieces : List RawLine) (fault : TextFault) → ((ws : List Wanted) → items_from (wanted ++ ws) n pieces ≡ Err fault)
-      → fault_from language counties (wanted ++ more) n pieces ≡ Some fault
+      → fault_from format counties (wanted ++ more) n pieces ≡ Some fault
   fault_told [] more n pieces fault h = absurd (not_both n pieces fault (h []) (h (want.Head ∷ [])))
   fault_told (w ∷ others) more n [] fault h = ap (λ (f : TextFault). Some f) (err_line (text_fault_at CutShort n) fault (h []))
   fault_told (w ∷ others) more n (piece ∷ pieces) fault h = go (λ ws e. fault_told ws more (n + 1) pieces fault e) (item_on w piece) h
     where
-      go : ((ws : List Wanted) → ((others : List Wanted) → items_from (ws ++ others) (n + 1) pieces ≡ Err fault) → fault_from language counties (ws ++ more) (n + 1) pieces ≡ Some fault)
-          → (r : Result Item TextKind) → ((ws : List Wanted) → line_by w n pieces (others ++ ws) r ≡ Err fault) → by_item language counties w (others ++ more) n pieces r ≡ Some fault
+      go : ((ws : List Wanted) → ((others : List Wanted) → items_from (ws ++ others) (n + 1) pieces ≡ Err fault) → fault_from format counties (ws ++ more) (n + 1) pieces ≡ Some fault)
+          → (r : Result Item TextKind) → ((ws : List Wanted) → line_by w n pieces (others ++ ws) r ≡ Err fault) → by_item format counties w (others ++ more) n pieces r ≡ Some fault
       go step (Ok item) e =
-          ap (λ (l : List Wanted). fault_from language counties l (n + 1) pieces) (sym (append_assoc (wanted_after w item) others more))
+          ap (λ (l : List Wanted). fault_from format counties l (n + 1) pieces) (sym (append_assoc (wanted_after w item) others more))
           ∙ step (wanted_after w item ++ others)
           (λ ws. ap (λ (l : List Wanted). items_from l (n + 1) pieces) (append_assoc (wanted_after w item) others ws) ∙ behind_first item (items_from (wanted_after w item ++ (others ++ ws)) (n + 1) pieces) fault (e ws))
       go step (Err kind) e = ap (λ (f : TextFault). Some f) (err_line (text_fault_at kind n) fault (e []))

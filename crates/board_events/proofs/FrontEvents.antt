@@ -7,7 +7,7 @@ use Rattle.std.proofs.lemmas.Grind.{flat_map-append}
 use Rattle.std.proofs.lemmas.List.{take-append-drop}
 use Rattle.field_lines.specs.RawPieces.{RawLine, raw_lines, raw_lines_from, text_of as raw_text}
 use Rattle.field_lines.proofs.TextLemmas.{text_of-raw_lines}
-use Rattle.certificate_data.specs.declared.language.Language.{Language}
+use Rattle.certificate_data.specs.declared.format.Format.{Format}
 use Rattle.certificate_lines.specs.Items.{by_words, items_from}
 use Rattle.certificate_lines.specs.Rest.{Rest, lines_of as lines_left, TakesTextLine, FaultOf, text_fault_at}
 use Rattle.certificate_lines.specs.Fitting.{AllFit}
@@ -32,17 +32,17 @@ whole text = record { number = 1; text = text }
 pub further_is : (k : ℕ) (f g : TextFault) → g.kind ≡ f.kind → g.line ≡ f.line + k → further k f ≡ g
 further_is k f g kind line = ap (λ (x : TextKind). text_fault_at x (f.line + k)) (sym kind) ∙ ap (λ (n : ℕ). text_fault_at g.kind n) (sym line)
 
-module _ (language : Language) (counties : ℕ) (text : List ℕ) where
+module _ (format : Format) (counties : ℕ) (text : List ℕ) where
   -- the first line is at fault
-  pub first_refused : 0 < length text → (start : Rest) → start ≡ whole text → (fault : TextFault) → FaultOf (by_words event_on) start.number (lines_left start) fault → events_fault language counties text ≡ Some fault
+  pub first_refused : 0 < length text → (start : Rest) → start ≡ whole text → (fault : TextFault) → FaultOf (by_words event_on) start.number (lines_left start) fault → events_fault format counties text ≡ Some fault
   first_refused some start is fault h =
       go (raw_lines text) refl (subst (λ (r : Rest). FaultOf (by_words event_on) r.number (lines_left r) fault) is h)
     where
-      go : (pieces : List RawLine) → raw_lines text ≡ pieces → FaultOf (by_words event_on) 1 pieces fault → fault_from language counties [] 1 pieces ≡ Some fault
+      go : (pieces : List RawLine) → raw_lines text ≡ pieces → FaultOf (by_words event_on) 1 pieces fault → fault_from format counties [] 1 pieces ≡ Some fault
       go [] e f =
           let none : text ≡ [] = sym (text_of-raw_lines 1 text) ∙ ap raw_text e in
           absurd (omega (arith, some, ap length none))
-      go (piece ∷ pieces) e f = ap (by_first language counties 1 pieces) f.0 ∙ ap (λ (n : ℕ). Some (text_fault_at fault.kind n)) (sym f.1)
+      go (piece ∷ pieces) e f = ap (by_first format counties 1 pieces) f.0 ∙ ap (λ (n : ℕ). Some (text_fault_at fault.kind n)) (sym f.1)
 
   module _ (start mid : Rest) (is : start ≡ whole text) (line : EventLine) (takes : TakesTextLine (by_words event_on) line start mid) where
     pub text_cut : text ≡ event_line line ++ mid.text
@@ -55,50 +55,50 @@ module _ (language : Language) (counties : ℕ) (text : List ℕ) where
     shorter = omega (arith, takes.shorter, ap (λ (r : Rest). length r.text) is)
 
     -- what is behind the first line is the rest of the event
-    pub front_text : (length_behind : ℕ) (e : Event) → StandsBehind language counties line (take length_behind mid.text) e → take (length text - length mid.text + length_behind) text ≡ text_of_event e
+    pub front_text : (length_behind : ℕ) (e : Event) → StandsBehind format counties line (take length_behind mid.text) e → take (length text - length mid.text + length_behind) text ≡ text_of_event e
     front_text n e behind =
         let place : length text - length mid.text + n ≡ length (event_line line) + n = omega (arith, ap length text_cut, length-append (event_line line) mid.text) in
         ap (λ (k : ℕ). take k text) place ∙ ap (λ (t : List ℕ). take (length (event_line line) + n) t) text_cut ∙ take-append-add (event_line line) mid.text n
         ∙ ap (λ (l : EventLine). event_line l ++ take n mid.text) (sym behind.line_is) ∙ ap (λ (t : List ℕ). event_line (line_of_event e) ++ t) behind.text_is
 
-    pub front_spelled : (behind_text : List ℕ) (e : Event) → StandsBehind language counties line behind_text e → HasSpelling language counties e
+    pub front_spelled : (behind_text : List ℕ) (e : Event) → StandsBehind format counties line behind_text e → HasSpelling format counties e
     front_spelled t e behind = record {
       line = subst (λ (l : EventLine). FitsLine l) (sym behind.line_is) (event_read takes.piece line takes.value).fits;
-      items = subst (λ (l : EventLine). AllFit (wanted_by language counties l) (items_of e)) (sym behind.line_is) behind.fits;
+      items = subst (λ (l : EventLine). AllFit (wanted_by format counties l) (items_of e)) (sym behind.line_is) behind.fits;
     }
 
     -- a fault behind the first line
     pub behind_refused : length text + 1 < 2 ^ 64 → (f g : TextFault) → g.kind ≡ f.kind → (f.line + 1 < 2 ^ 64 → g.line ≡ f.line + 1)
-        → ((more : List Wanted) → items_from (wanted_by language counties line ++ more) 1 (raw_lines mid.text) ≡ Err f) → events_fault language counties text ≡ Some g
+        → ((more : List Wanted) → items_from (wanted_by format counties line ++ more) 1 (raw_lines mid.text) ≡ Err f) → events_fault format counties text ≡ Some g
     behind_refused small f g kind moved h =
-        let wanted = wanted_by language counties line in
-        let told : fault_from language counties wanted 1 (raw_lines mid.text) ≡ Some f =
-        ap (λ (w : List Wanted). fault_from language counties w 1 (raw_lines mid.text)) (sym (append-nil wanted)) ∙ fault_told language counties wanted [] 1 (raw_lines mid.text) f h in
-        let low = fault_within language counties wanted 1 mid.text f told in
+        let wanted = wanted_by format counties line in
+        let told : fault_from format counties wanted 1 (raw_lines mid.text) ≡ Some f =
+        ap (λ (w : List Wanted). fault_from format counties w 1 (raw_lines mid.text)) (sym (append-nil wanted)) ∙ fault_told format counties wanted [] 1 (raw_lines mid.text) f h in
+        let low = fault_within format counties wanted 1 mid.text f told in
         let fits : f.line + 1 < 2 ^ 64 = omega (arith, low, shorter, small) in
         let cut : raw_lines text ≡ takes.piece ∷ raw_lines_from 2 mid.text =
         ap lines_left (sym is) ∙ takes.lines ∙ ap (λ (n : ℕ). takes.piece ∷ raw_lines_from n mid.text) next_number in
-        ap (fault_from language counties [] 1) cut ∙ ap (by_first language counties 1 (raw_lines_from 2 mid.text)) takes.value
-        ∙ fault_further language counties 1 wanted 1 mid.text ∙ ap (option_map (further 1)) told ∙ ap (λ (x : TextFault). Some x) (further_is 1 f g kind (moved fits))
+        ap (fault_from format counties [] 1) cut ∙ ap (by_first format counties 1 (raw_lines_from 2 mid.text)) takes.value
+        ∙ fault_further format counties 1 wanted 1 mid.text ∙ ap (option_map (further 1)) told ∙ ap (λ (x : TextFault). Some x) (further_is 1 f g kind (moved fits))
 
 -- events that were read, and the text that is left
-pub record Passed (language : Language) (counties : ℕ) (text : List ℕ) (events : List Event) (lines : ℕ) (rest : List ℕ) : Type 0 where
+pub record Passed (format : Format) (counties : ℕ) (text : List ℕ) (events : List Event) (lines : ℕ) (rest : List ℕ) : Type 0 where
   pub text_is : text ≡ text_of_events events ++ rest
-  pub fit : AllByRecursion (HasSpelling language counties) events
+  pub fit : AllByRecursion (HasSpelling format counties) events
   pub lines_are : lines ≡ lines_of events
   pub short : lines + length rest ≤ length text
 
-module _ (language : Language) (counties : ℕ) (text : List ℕ) where
-  pub passed_none : Passed language counties text [] 0 text
+module _ (format : Format) (counties : ℕ) (text : List ℕ) where
+  pub passed_none : Passed format counties text [] 0 text
   passed_none = record { text_is = refl; fit = tt; lines_are = refl; short = omega arith }
 
-  all_more : (es : List Event) (e : Event) → AllByRecursion (HasSpelling language counties) es → HasSpelling language counties e → AllByRecursion (HasSpelling language counties) (es ++ e ∷ [])
+  all_more : (es : List Event) (e : Event) → AllByRecursion (HasSpelling format counties) es → HasSpelling format counties e → AllByRecursion (HasSpelling format counties) (es ++ e ∷ [])
   all_more [] e a h = (h, tt)
   all_more (x ∷ es) e a h = (a.0, all_more es e a.1 h)
 
   -- one more event was read
-  pub passed_more : (es : List Event) (e : Event) (lines more n : ℕ) (rest : List ℕ) → Passed language counties text es lines rest → HasSpelling language counties e → take n rest ≡ text_of_event e
-      → more ≡ 1 + length (items_of e) → more + length (drop n rest) ≤ length rest → Passed language counties text (es ++ e ∷ []) (lines + more) (drop n rest)
+  pub passed_more : (es : List Event) (e : Event) (lines more n : ℕ) (rest : List ℕ) → Passed format counties text es lines rest → HasSpelling format counties e → take n rest ≡ text_of_event e
+      → more ≡ 1 + length (items_of e) → more + length (drop n rest) ≤ length rest → Passed format counties text (es ++ e ∷ []) (lines + more) (drop n rest)
   passed_more es e lines more n rest p h is count few = record {
     text_is =
         let cut : rest ≡ text_of_event e ++ drop n rest = sym (take-append-drop n rest) ∙ ap (λ (t : List ℕ). t ++ drop n rest) is in
@@ -110,15 +110,15 @@ module _ (language : Language) (counties : ℕ) (text : List ℕ) where
     short = omega (arith, p.short, few);
   }
 
-  pub passed_all : (es : List Event) (lines : ℕ) (rest : List ℕ) → Passed language counties text es lines rest → rest ≡ [] → EventsAreSpelled language counties text es
+  pub passed_all : (es : List Event) (lines : ℕ) (rest : List ℕ) → Passed format counties text es lines rest → rest ≡ [] → EventsAreSpelled format counties text es
   passed_all es lines rest p none = record { fit = p.fit; text_is = p.text_is ∙ ap (λ (t : List ℕ). text_of_events es ++ t) none ∙ append-nil (text_of_events es) }
 
   -- a fault in the text that is left
-  pub passed_refused : (es : List Event) (lines : ℕ) (rest : List ℕ) → Passed language counties text es lines rest → length text + 1 < 2 ^ 64 → (f g : TextFault) → g.kind ≡ f.kind → (f.line + lines < 2 ^ 64 → g.line ≡ f.line + lines)
-      → events_fault language counties rest ≡ Some f → events_fault language counties text ≡ Some g
+  pub passed_refused : (es : List Event) (lines : ℕ) (rest : List ℕ) → Passed format counties text es lines rest → length text + 1 < 2 ^ 64 → (f g : TextFault) → g.kind ≡ f.kind → (f.line + lines < 2 ^ 64 → g.line ≡ f.line + lines)
+      → events_fault format counties rest ≡ Some f → events_fault format counties text ≡ Some g
   passed_refused es lines rest p small f g kind moved h =
-      let low = fault_within language counties [] 1 rest f h in
+      let low = fault_within format counties [] 1 rest f h in
       let fits : f.line + lines < 2 ^ 64 = omega (arith, low, p.short, small) in
-      ap (events_fault language counties) p.text_is ∙ events_passed language counties 1 es rest p.fit
-      ∙ ap (λ (k : ℕ). fault_from language counties [] (1 + k) (raw_lines_from (1 + k) rest)) (sym p.lines_are)
-      ∙ fault_further language counties lines [] 1 rest ∙ ap (option_map (further lines)) h ∙ ap (λ (x : TextFault). Some x) (further_is lines f g kind (moved fits))
+      ap (events_fault format counties) p.text_is ∙ events_passed format counties 1 es rest p.fit
+      ∙ ap (λ (k : ℕ). fault_from format counties [] (1 + k) (raw_lines_from (1 + k) rest)) (sym p.lines_are)
+      ∙ fault_further format counties lines [] 1 rest ∙ ap (option_map (further lines)) h ∙ ap (λ (x : TextFault). Some x) (further_is lines f g kind (moved fits))

@@ -6,7 +6,7 @@ use Rattle.std.proofs.lemmas.List.{length-append}
 use Rattle.std.proofs.lemmas.Grind.{flat_map-append}
 use Rattle.std.proofs.lemmas.Bool.{ne_eqb}
 use Rattle.field_lines.specs.RawPieces.{is_lf}
-use Rattle.certificate_data.specs.declared.language.Language.{Language}
+use Rattle.certificate_data.specs.declared.format.Format.{Format}
 use Rattle.county_codes.specs.declared.group.Group.{Group}
 use Rattle.certificate_lines.specs.Items.{by_words, item_on, wanted_after}
 use Rattle.certificate_lines.specs.Spelling.{item_words, item_line, text_of_items}
@@ -110,9 +110,9 @@ event_told (wider r) (result s q u) h g = cc (h)
 event_told (wider r) (split_piece s q d k) h g = cc (h)
 event_told (wider r) (better s hs) h g = cc (h)
 
-module _ (language : Language) (counties : ℕ) where
+module _ (format : Format) (counties : ℕ) where
   -- events with a text behind each
-  same_event : (e f : Event) (x y : List ℕ) → HasSpelling language counties e → HasSpelling language counties f → text_of_event e ++ x ≡ text_of_event f ++ y → Same e f x y
+  same_event : (e f : Event) (x y : List ℕ) → HasSpelling format counties e → HasSpelling format counties f → text_of_event e ++ x ≡ text_of_event f ++ y → Same e f x y
   same_event e f x y p q h =
       let a = event_back 0 (line_of_event e) p.line in
       let b = event_back 0 (line_of_event f) q.line in
@@ -124,7 +124,7 @@ module _ (language : Language) (counties : ℕ) where
       let right : text_of_event f ++ y ≡ v ++ 10 ∷ (text_of_items js ++ y) = append_assoc (v ++ 10 ∷ []) (text_of_items js) y ∙ append_assoc v (10 ∷ []) (text_of_items js ++ y) in
       let line = same_line u v (text_of_items is ++ x) (text_of_items js ++ y) a.printed b.printed (sym left ∙ h ∙ right) in
       let one : line_of_event e ≡ line_of_event f = same_ok (line_of_event e) (line_of_event f) (sym a.read ∙ ap (λ (l : List ℕ). by_words event_on (record { number = 0; bytes = l; ended = true })) line.first ∙ b.read) in
-      let later = same_items (wanted_by language counties (line_of_event e)) is js x y p.items (subst (λ (l : EventLine). AllFit (wanted_by language counties l) js) (sym one) q.items) line.behind in
+      let later = same_items (wanted_by format counties (line_of_event e)) is js x y p.items (subst (λ (l : EventLine). AllFit (wanted_by format counties l) js) (sym one) q.items) line.behind in
       record { first = event_told e f one later.first; behind = later.behind }
 
   some_text : (e : Event) (x : List ℕ) → [] ≡ text_of_event e ++ x → ⊥
@@ -132,7 +132,7 @@ module _ (language : Language) (counties : ℕ) where
       let long = ap length h in
       absurd (omega (arith, long, length-append (event_line (line_of_event e) ++ text_of_items (items_of e)) x, length-append (event_line (line_of_event e)) (text_of_items (items_of e)), length-append (join_with_byte 32 (event_words (line_of_event e))) (10 ∷ [])))
 
-  same_events : (es fs : List Event) → AllByRecursion (HasSpelling language counties) es → AllByRecursion (HasSpelling language counties) fs → text_of_events es ≡ text_of_events fs → es ≡ fs
+  same_events : (es fs : List Event) → AllByRecursion (HasSpelling format counties) es → AllByRecursion (HasSpelling format counties) fs → text_of_events es ≡ text_of_events fs → es ≡ fs
   same_events [] [] p q h = refl
   same_events [] (f ∷ fs) p q h = absurd (some_text f (text_of_events fs) h)
   same_events (e ∷ es) [] p q h = absurd (some_text e (text_of_events es) (sym h))
@@ -141,24 +141,24 @@ module _ (language : Language) (counties : ℕ) where
       let later = same_events es fs p.1 q.1 one.behind in
       ap (λ (l : List Event). e ∷ l) later ∙ ap (λ (k : Event). k ∷ fs) one.first
 
-  pub one_list : (text : List ℕ) (es fs : List Event) → EventsAreSpelled language counties text es → EventsAreSpelled language counties text fs → es ≡ fs
+  pub one_list : (text : List ℕ) (es fs : List Event) → EventsAreSpelled format counties text es → EventsAreSpelled format counties text fs → es ≡ fs
   one_list text es fs a b = same_events es fs a.fit b.fit (sym a.text_is ∙ b.text_is)
 
-  pub one_text : (text other : List ℕ) (es : List Event) → EventsAreSpelled language counties text es → EventsAreSpelled language counties other es → text ≡ other
+  pub one_text : (text other : List ℕ) (es : List Event) → EventsAreSpelled format counties text es → EventsAreSpelled format counties other es → text ≡ other
   one_text text other es a b = a.text_is ∙ sym b.text_is
 
-  all_both : (es fs : List Event) → AllByRecursion (HasSpelling language counties) es → AllByRecursion (HasSpelling language counties) fs → AllByRecursion (HasSpelling language counties) (es ++ fs)
+  all_both : (es fs : List Event) → AllByRecursion (HasSpelling format counties) es → AllByRecursion (HasSpelling format counties) fs → AllByRecursion (HasSpelling format counties) (es ++ fs)
   all_both [] fs a b = b
   all_both (e ∷ es) fs a b = (a.0, all_both es fs a.1 b)
 
-  pub append_spelled : (text other : List ℕ) (es fs : List Event) → EventsAreSpelled language counties text es → EventsAreSpelled language counties other fs → EventsAreSpelled language counties (text ++ other) (es ++ fs)
+  pub append_spelled : (text other : List ℕ) (es fs : List Event) → EventsAreSpelled format counties text es → EventsAreSpelled format counties other fs → EventsAreSpelled format counties (text ++ other) (es ++ fs)
   append_spelled text other es fs a b = record {
     fit = all_both es fs a.fit b.fit;
     text_is = ap (λ (t : List ℕ). t ++ other) a.text_is ∙ ap (λ (t : List ℕ). text_of_events es ++ t) b.text_is ∙ sym (flat_map-append text_of_event es fs);
   }
 
   -- one event is spelled by its text
-  pub one_spelled : (e : Event) → HasSpelling language counties e → EventsAreSpelled language counties (text_of_event e) (e ∷ [])
+  pub one_spelled : (e : Event) → HasSpelling format counties e → EventsAreSpelled format counties (text_of_event e) (e ∷ [])
   one_spelled e h = record { fit = (h, tt); text_is = sym (append-nil (text_of_event e)) }
 
   -- how many LFs stand in the text of an event
@@ -180,6 +180,6 @@ module _ (language : Language) (counties : ℕ) where
   items_lfs (w ∷ more) (i ∷ is) f =
       omega (arith, both_lfs (item_line i) (text_of_items is), line_lfs (join_with_byte 32 (item_words i)) (fits_line 0 w i f.0).printed, items_lfs (wanted_after w i ++ more) is f.1)
 
-  pub event_lfs : (e : Event) → HasSpelling language counties e → length (filter is_lf (text_of_event e)) ≡ 1 + length (items_of e)
+  pub event_lfs : (e : Event) → HasSpelling format counties e → length (filter is_lf (text_of_event e)) ≡ 1 + length (items_of e)
   event_lfs e h =
-      omega (arith, both_lfs (event_line (line_of_event e)) (text_of_items (items_of e)), line_lfs (join_with_byte 32 (event_words (line_of_event e))) (event_back 0 (line_of_event e) h.line).printed, items_lfs (wanted_by language counties (line_of_event e)) (items_of e) h.items)
+      omega (arith, both_lfs (event_line (line_of_event e)) (text_of_items (items_of e)), line_lfs (join_with_byte 32 (event_words (line_of_event e))) (event_back 0 (line_of_event e) h.line).printed, items_lfs (wanted_by format counties (line_of_event e)) (items_of e) h.items)

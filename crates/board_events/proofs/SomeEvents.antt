@@ -3,7 +3,7 @@ use Rattle.std.proofs.Common.{◌≡◌, ℕ, zero, suc, ◌+◌, ◌≤◌, Lis
 use Rattle.std.specs.List.{AllByRecursion}
 use Rattle.field_lines.specs.RawPieces.{RawLine, raw_lines, text_of as raw_text}
 use Rattle.field_lines.proofs.TextLemmas.{text_of-raw_lines}
-use Rattle.certificate_data.specs.declared.language.Language.{Language}
+use Rattle.certificate_data.specs.declared.format.Format.{Format}
 use Rattle.certificate_lines.specs.Items.{by_words, item_on, wanted_after, groups_wanted}
 use Rattle.certificate_lines.specs.Spelling.{item_line, text_of_items}
 use Rattle.certificate_lines.specs.Fitting.{AllFit}
@@ -34,11 +34,11 @@ record Found (line : EventLine) (items : List Item) : Type 0 where
   pub line_is : line_of_event event ≡ line
   pub items_are : items_of event ≡ items
 
-module _ (language : Language) (counties : ℕ) where
-  event_found : (line : EventLine) (items : List Item) → AllFit (wanted_by language counties line) items → Found line items
+module _ (format : Format) (counties : ℕ) where
+  event_found : (line : EventLine) (items : List Item) → AllFit (wanted_by format counties line) items → Found line items
   event_found (says.Hand from) items f = record { event = hand from; line_is = refl; items_are = sym (no_items items f) }
   event_found (says.Result round piece) items f =
-      let t = tree_found language counties [] items f in
+      let t = tree_found format counties [] items f in
       record {
         event = result round piece t.tree;
         line_is = refl;
@@ -68,16 +68,16 @@ module _ (language : Language) (counties : ℕ) where
     pub number : ℕ
     pub rest : List RawLine
     pub text_is : raw_text pieces ≡ text_of_items items ++ raw_text rest
-    pub no_fault : fault_from language counties [] number rest ≡ None
+    pub no_fault : fault_from format counties [] number rest ≡ None
     pub fewer : length rest ≤ length pieces
 
-  items_behind : (wanted : List Wanted) (n : ℕ) (pieces : List RawLine) → fault_from language counties wanted n pieces ≡ None → Behind wanted n pieces
+  items_behind : (wanted : List Wanted) (n : ℕ) (pieces : List RawLine) → fault_from format counties wanted n pieces ≡ None → Behind wanted n pieces
   items_behind [] n pieces h = record { items = []; fit = tt; number = n; rest = pieces; text_is = refl; no_fault = h; fewer = omega arith }
   items_behind (w ∷ more) n [] h = cc
   items_behind (w ∷ more) n (piece ∷ pieces) h = go (λ ws e. items_behind ws (n + 1) pieces e) (item_on w piece) refl h
     where
-      go : ((ws : List Wanted) → fault_from language counties ws (n + 1) pieces ≡ None → Behind ws (n + 1) pieces) → (r : Result Item TextKind)
-          → item_on w piece ≡ r → by_item language counties w more n pieces r ≡ None
+      go : ((ws : List Wanted) → fault_from format counties ws (n + 1) pieces ≡ None → Behind ws (n + 1) pieces) → (r : Result Item TextKind)
+          → item_on w piece ≡ r → by_item format counties w more n pieces r ≡ None
           → Behind (w ∷ more) n (piece ∷ pieces)
       go next (Err kind) e k = cc (k)
       go next (Ok item) e k =
@@ -96,21 +96,21 @@ module _ (language : Language) (counties : ℕ) where
   -- events that lines spell
   record Spelled (pieces : List RawLine) : Type 0 where
     pub events : List Event
-    pub fit : AllByRecursion (HasSpelling language counties) events
+    pub fit : AllByRecursion (HasSpelling format counties) events
     pub text_is : raw_text pieces ≡ text_of_events events
 
-  events_within : (most n : ℕ) (pieces : List RawLine) → length pieces ≤ most → fault_from language counties [] n pieces ≡ None → Spelled pieces
+  events_within : (most n : ℕ) (pieces : List RawLine) → length pieces ≤ most → fault_from format counties [] n pieces ≡ None → Spelled pieces
   events_within most n [] few h = record { events = []; fit = tt; text_is = refl }
   events_within zero n (piece ∷ pieces) few h = absurd (omega (arith, few))
   events_within (suc most) n (piece ∷ pieces) few h = go (λ m rest l e. events_within most m rest l e) (by_words event_on piece) refl h
     where
-      go : ((m : ℕ) (rest : List RawLine) → length rest ≤ most → fault_from language counties [] m rest ≡ None → Spelled rest)
+      go : ((m : ℕ) (rest : List RawLine) → length rest ≤ most → fault_from format counties [] m rest ≡ None → Spelled rest)
           → (r : Result EventLine TextKind) → by_words event_on piece ≡ r
-          → by_first language counties n pieces r ≡ None → Spelled (piece ∷ pieces)
+          → by_first format counties n pieces r ≡ None → Spelled (piece ∷ pieces)
       go next (Err kind) e k = cc (k)
       go next (Ok line) e k =
           let read = event_read piece line e in
-          let behind = items_behind (wanted_by language counties line) (n + 1) pieces k in
+          let behind = items_behind (wanted_by format counties line) (n + 1) pieces k in
           let one = event_found line behind.items behind.fit in
           let later = next behind.number behind.rest (omega (arith, few, behind.fewer)) behind.no_fault in
           let spelled : text_of_event one.event ≡ event_line line ++ text_of_items behind.items =
@@ -121,8 +121,8 @@ module _ (language : Language) (counties : ℕ) where
             fit = (
               record {
                 line = subst FitsLine (sym one.line_is) read.fits;
-                items = subst (λ (l : EventLine). AllFit (wanted_by language counties l) (items_of one.event)) (sym one.line_is)
-                    (subst (AllFit (wanted_by language counties line)) (sym one.items_are) behind.fit);
+                items = subst (λ (l : EventLine). AllFit (wanted_by format counties l) (items_of one.event)) (sym one.line_is)
+                    (subst (AllFit (wanted_by format counties line)) (sym one.items_are) behind.fit);
               },
               later.fit,
             );
@@ -131,7 +131,7 @@ module _ (language : Language) (counties : ℕ) where
                 ∙ ap (λ (t : List ℕ). t ++ raw_text behind.rest) (sym spelled) ∙ ap (λ (t : List ℕ). text_of_event one.event ++ t) later.text_is;
           }
 
-  pub some_list : (text : List ℕ) → events_fault language counties text ≡ None → (es : List Event) × EventsAreSpelled language counties text es
+  pub some_list : (text : List ℕ) → events_fault format counties text ≡ None → (es : List Event) × EventsAreSpelled format counties text es
   some_list text h =
       let found = events_within (length (raw_lines text)) 1 (raw_lines text) (omega arith) h in
       (found.events, record { fit = found.fit; text_is = sym (text_of-raw_lines 1 text) ∙ found.text_is })

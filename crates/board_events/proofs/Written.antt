@@ -1,6 +1,6 @@
 -- The lines of an event as they are written.
 use Rattle.std.proofs.Common.{◌≡◌, ℕ, ◌≤◌, List, [], ◌∷◌, ◌++◌, length, map, codes, decimal, Result, Ok, Err, ap, sym, subst, ◌∙◌, append_assoc, append-nil}
-use Rattle.certificate_data.specs.declared.language.Language.{Language}
+use Rattle.certificate_data.specs.declared.format.Format.{Format}
 use Rattle.county_codes.specs.declared.group.Group.{Group}
 use Rattle.certificate_lines.specs.Lines.{most}
 use Rattle.certificate_lines.specs.Items.{groups_wanted}
@@ -29,9 +29,9 @@ module _ (wanted : List Wanted) (items : List Item) where
   pub with_none : AllFit wanted items → AllFit (wanted ++ []) (items ++ [])
   with_none f = subst (λ (l : List Item). AllFit (wanted ++ []) l) (sym (append-nil items)) (subst (λ (w : List Wanted). AllFit w items) (sym (append-nil wanted)) f)
 
-module _ (language : Language) (counties round : ℕ) (groups : List Group) (small : round ≤ greatest) (few : length groups ≤ most) (old first mid : List ℕ) (begun : first ≡ old ++ (codes "better " ++ decimal round)) (line : mid ≡ first ++ (32 ∷ (decimal (length groups) ++ 10 ∷ []))) where
+module _ (format : Format) (counties round : ℕ) (groups : List Group) (small : round ≤ greatest) (few : length groups ≤ most) (old first mid : List ℕ) (begun : first ≡ old ++ (codes "better " ++ decimal round)) (line : mid ≡ first ++ (32 ∷ (decimal (length groups) ++ 10 ∷ []))) where
   -- the groups are written behind the first line
-  pub better_written : (new : List ℕ) (r : Result (Unit {0}) WriteFault) → Writes (groups_wanted (length groups)) (map Grouped groups) [] mid r new → WritesEvent language counties (better round groups) old r new
+  pub better_written : (new : List ℕ) (r : Result (Unit {0}) WriteFault) → Writes (groups_wanted (length groups)) (map Grouped groups) [] mid r new → WritesEvent format counties (better round groups) old r new
   better_written new (Ok done) h = record {
     text =
         let bytes = (codes "better " ++ (decimal round ++ 32 ∷ decimal (length groups))) ++ 10 ∷ [] in

@@ -1,7 +1,7 @@
 -- How events are spelled, and what a text of events says.
 use Rattle.std.specs.Prelude.{◌≡◌, ◌≤◌, ℕ, List, [], ◌∷◌, ◌++◌, map, length, codes, decimal}
 use Rattle.std.specs.List.{AllByRecursion, flat_map, join_with_byte}
-use Rattle.certificate_data.specs.declared.language.Language.{Language}
+use Rattle.certificate_data.specs.declared.format.Format.{Format}
 use Rattle.certificate_lines.specs.Lines.{most}
 use Rattle.certificate_lines.specs.Items.{groups_wanted}
 use Rattle.certificate_lines.specs.Fitting.{AllFit}
@@ -54,13 +54,13 @@ items_of (split_piece round piece county limit) = []
 items_of (better round grouping) = map Grouped grouping
 items_of (wider round) = []
 
--- what is wanted behind a first line, where trees are of a language and for so many counties
-abbrev pub wanted_by : Language → ℕ → EventLine → List Wanted
-wanted_by language counties (says.Hand from) = []
-wanted_by language counties (says.Result round piece) = want.Tree language counties ∷ []
-wanted_by language counties (says.Split round piece county limit) = []
-wanted_by language counties (says.Better round groups) = groups_wanted groups
-wanted_by language counties (says.Wider round) = []
+-- what is wanted behind a first line, where trees are of a format and for so many counties
+abbrev pub wanted_by : Format → ℕ → EventLine → List Wanted
+wanted_by format counties (says.Hand from) = []
+wanted_by format counties (says.Result round piece) = want.Tree format counties ∷ []
+wanted_by format counties (says.Split round piece county limit) = []
+wanted_by format counties (says.Better round groups) = groups_wanted groups
+wanted_by format counties (says.Wider round) = []
 
 -- the text of an event, and of events one after the other
 abbrev pub text_of_event : Event → List ℕ
@@ -70,11 +70,11 @@ abbrev pub text_of_events : List Event → List ℕ
 text_of_events events = flat_map text_of_event events
 
 -- all numbers of the event are in the ranges of their lines, and its tree's branches are not too deep
-pub record HasSpelling (language : Language) (counties : ℕ) (event : Event) : Type 0 where
+pub record HasSpelling (format : Format) (counties : ℕ) (event : Event) : Type 0 where
   pub line : FitsLine (line_of_event event)
-  pub items : AllFit (wanted_by language counties (line_of_event event)) (items_of event)
+  pub items : AllFit (wanted_by format counties (line_of_event event)) (items_of event)
 
 -- the text is that of the events, one after the other, and each has a spelling
-pub record EventsAreSpelled (language : Language) (counties : ℕ) (text : List ℕ) (events : List Event) : Type 0 where
-  pub fit : AllByRecursion (HasSpelling language counties) events
+pub record EventsAreSpelled (format : Format) (counties : ℕ) (text : List ℕ) (events : List Event) : Type 0 where
+  pub fit : AllByRecursion (HasSpelling format counties) events
   pub text_is : text ≡ text_of_events events

@@ -4,8 +4,8 @@
 //! them one after the other, without a head and without an end.
 //!
 //! ```
-//! let events = read_events(alloc, text, Language::Wide, 100)?;
-//! let text = write_event(alloc, &event, Language::Wide, 100)?;
+//! let events = read_events(alloc, text, Format::Wide, 100)?;
+//! let text = write_event(alloc, &event, Format::Wide, 100)?;
 //! ```
 //!
 //! The definitions stand in `specs/`: `Spelling`, `Faults`, `Lines`, `Replies` and `Laws`.

@@ -20,7 +20,7 @@ ghost use Rattle.board_events.specs.Faults.{fault_from, events_fault};
 
 use crate::first_lines::event_on;
 use crate::line::EventLine;
-use certificate_data::Language;
+use certificate_data::Format;
 use certificate_lines::{Cursor, TextFault, push_on};
 use certificate_text::front_tree;
 use county_codes::{Group, Grouping};
@@ -71,19 +71,19 @@ fn event_behind(
     alloc: Global,
     line: EventLine,
     text: &[u8],
-    language: Language,
+    format: Format,
     counties: u16,
 ) -> Result<(Event, usize), TextFault>
     requires { counties ≤ most }
     ensures place { IfOk result (λ r. r.1 ≤ length text.now) }
-    ensures found { IfOk result (λ r. StandsBehind language counties line (take r.1 text.now) (event_of r.0)) }
+    ensures found { IfOk result (λ r. StandsBehind format counties line (take r.1 text.now) (event_of r.0)) }
     ensures fault { IfErr result (λ f. (IsTextMemory f → ⊥) → (more : List Wanted)
-        → items_from (wanted_by language counties line ++ more) 1 (raw_lines text.now) ≡ Err f) }
+        → items_from (wanted_by format counties line ++ more) 1 (raw_lines text.now) ≡ Err f) }
 {
     match line {
         EventLine::Hand(from) => Ok((Event::Hand(from), 0)),
         EventLine::Result(round, piece) => {
-            let (tree, length) = front_tree(alloc, text, language, counties)?;
+            let (tree, length) = front_tree(alloc, text, format, counties)?;
             Ok((Event::Result(round, piece, tree), length))
         }
         EventLine::Split(round, piece, county, limit) => {
@@ -112,20 +112,20 @@ fn moved(fault: TextFault, lines: u64) -> TextFault
 fn front_event(
     alloc: Global,
     text: &[u8],
-    language: Language,
+    format: Format,
     counties: u16,
 ) -> Result<(Event, usize), TextFault>
     requires few { counties ≤ most }
     requires some { 0 < length text.now }
     ensures place { IfOk result (λ r. (0 < r.1) × (r.1 ≤ length text.now)) }
     ensures found { IfOk result (λ r. take r.1 text.now ≡ text_of_event (event_of r.0)) }
-    ensures spelled { IfOk result (λ r. HasSpelling language counties (event_of r.0)) }
-    ensures fault { IfErr result (λ f. (IsTextMemory f → ⊥) → events_fault language counties text.now ≡ Some f) }
+    ensures spelled { IfOk result (λ r. HasSpelling format counties (event_of r.0)) }
+    ensures fault { IfErr result (λ f. (IsTextMemory f → ⊥) → events_fault format counties text.now ≡ Some f) }
 {
     let mut cursor = Cursor::new(text);
     let line = first_line(&mut cursor)?;
     let rest = cursor.rest();
-    match event_behind(alloc, line, rest, language, counties) {
+    match event_behind(alloc, line, rest, format, counties) {
         Ok((event, length)) => Ok((event, text.len() - rest.len() + length)),
         Err(fault) => Err(moved(fault, 1)),
     }
@@ -143,18 +143,18 @@ fn lines_in(text: &[u8]) -> u64
 fn events_of(
     alloc: Global,
     text: &[u8],
-    language: Language,
+    format: Format,
     counties: u16,
 ) -> Result<Vec<Event>, TextFault>
     requires { counties ≤ most }
-    ensures found { IfOk result (λ v. EventsAreSpelled language counties text.now (map event_of v.items)) }
-    ensures fault { IfErr result (λ f. (IsTextMemory f → ⊥) → events_fault language counties text.now ≡ Some f) }
+    ensures found { IfOk result (λ v. EventsAreSpelled format counties text.now (map event_of v.items)) }
+    ensures fault { IfErr result (λ f. (IsTextMemory f → ⊥) → events_fault format counties text.now ≡ Some f) }
 {
     let mut events = Vec::new(alloc);
     let mut rest = text;
     let mut lines = 0;
     'events: while !rest.is_empty() {
-        match front_event(alloc, rest, language, counties) {
+        match front_event(alloc, rest, format, counties) {
             Ok((event, length)) => {
                 push_on(&mut events, event, lines)?;
                 lines += lines_in(&rest[..length]);
@@ -166,7 +166,7 @@ fn events_of(
     Ok(events)
 }
 
-/// Reads the events that a `text` spells, in order. Trees are of this `language` and for an order of `counties`
+/// Reads the events that a `text` spells, in order. Trees are of this `format` and for an order of `counties`
 /// counties. An empty text is the list of no events.
 ///
 /// # Errors
@@ -176,17 +176,17 @@ fn events_of(
 pub fn read_events(
     alloc: Global,
     text: &[u8],
-    language: Language,
+    format: Format,
     counties: u16,
 ) -> Result<Vec<Event>, TextFault>
     requires { counties ≤ most }
     // The text spells the events that are read, whose numbers are in their ranges.
-    ensures found { IfOk result (λ v. EventsAreSpelled language counties text.now (map event_of v.items)) }
+    ensures found { IfOk result (λ v. EventsAreSpelled format counties text.now (map event_of v.items)) }
     // Events that the text spells are read, unless memory is refused.
-    ensures only { (es : List EventValue) → EventsAreSpelled language counties text.now es
+    ensures only { (es : List EventValue) → EventsAreSpelled format counties text.now es
         → IsUnlessMemory (λ v. map event_of v.items) result es }
     // Unless memory was refused, the fault is that of the text.
-    ensures fault { IfErr result (λ f. (IsTextMemory f → ⊥) → events_fault language counties text.now ≡ Some f) }
+    ensures fault { IfErr result (λ f. (IsTextMemory f → ⊥) → events_fault format counties text.now ≡ Some f) }
 {
-    events_of(alloc, text, language, counties)
+    events_of(alloc, text, format, counties)
 }

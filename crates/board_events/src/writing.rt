@@ -1,7 +1,7 @@
 //! Events, written as their lines.
 
 ghost use Rattle.std.specs.Prelude.{◌≡◌, ◌≤◌, ℕ, List, [], ◌∷◌, ◌++◌, map, length, IfOk, IfErr};
-ghost use Rattle.certificate_data.specs.declared.language.Language.{Language};
+ghost use Rattle.certificate_data.specs.declared.format.Format.{Format};
 ghost use Rattle.certificate_lines.specs.Items.{groups_wanted};
 ghost use Rattle.certificate_lines.specs.Lines.{most};
 ghost use Rattle.certificate_lines.specs.Writing.{Writes};
@@ -14,7 +14,7 @@ ghost use Rattle.board_events.specs.Spelling.{EventsAreSpelled};
 ghost use Rattle.board_events.specs.Writing.{WritesEvent};
 
 use crate::numbers::push_words_number;
-use certificate_data::{Language, Tree};
+use certificate_data::{Format, Tree};
 use certificate_lines::{
     MOST, WriteFault, push_code_and_number_line, push_group, push_number_line,
 };
@@ -25,8 +25,8 @@ use std::alloc::Global;
 
 /// Appends the line that asks for a piece.
 fn push_hand(out: &mut Vec<u8>, from: u32) -> Result<(), WriteFault>
-    ensures { (language : Language) (counties : ℕ)
-        → WritesEvent language counties (hand from) out.old.items result out.new.items }
+    ensures { (format : Format) (counties : ℕ)
+        → WritesEvent format counties (hand from) out.old.items result out.new.items }
 {
     push_number_line(out, b"hand ", from)?;
     Ok(())
@@ -38,13 +38,13 @@ fn push_result(
     round: u32,
     piece: u32,
     tree: &Tree,
-    language: Language,
+    format: Format,
     counties: u16,
 ) -> Result<(), WriteFault>
     requires { counties ≤ most }
-    ensures { WritesEvent language counties (proof round piece (tree_of tree.now)) out.old.items result out.new.items }
+    ensures { WritesEvent format counties (proof round piece (tree_of tree.now)) out.old.items result out.new.items }
 {
-    let lines = write_tree(*out.allocator(), tree, language, counties)?;
+    let lines = write_tree(*out.allocator(), tree, format, counties)?;
     push_words_number(out, b"result ", u64::from(round))?;
     push_number_line(out, b" ", piece)?;
     out.extend_from_slice(&lines)?;
@@ -59,8 +59,8 @@ fn push_split(
     county: CountyCode,
     limit: u16,
 ) -> Result<(), WriteFault>
-    ensures { (language : Language) (counties : ℕ)
-        → WritesEvent language counties (split_piece round piece county limit) out.old.items result out.new.items }
+    ensures { (format : Format) (counties : ℕ)
+        → WritesEvent format counties (split_piece round piece county limit) out.old.items result out.new.items }
 {
     if limit == 0 || u32::from(limit) > MOST {
         return Err(WriteFault::NoSpelling);
@@ -83,8 +83,8 @@ fn push_groups(out: &mut Vec<u8>, groups: &[Group]) -> Result<(), WriteFault>
 
 /// Appends the lines of a better target.
 fn push_better(out: &mut Vec<u8>, round: u32, groups: &[Group]) -> Result<(), WriteFault>
-    ensures { (language : Language) (counties : ℕ)
-        → WritesEvent language counties (better round groups.now) out.old.items result out.new.items }
+    ensures { (format : Format) (counties : ℕ)
+        → WritesEvent format counties (better round groups.now) out.old.items result out.new.items }
 {
     if groups.len() > MOST as usize {
         return Err(WriteFault::NoSpelling);
@@ -96,8 +96,8 @@ fn push_better(out: &mut Vec<u8>, round: u32, groups: &[Group]) -> Result<(), Wr
 
 /// Appends the line that asks for a greater limit.
 fn push_wider(out: &mut Vec<u8>, round: u32) -> Result<(), WriteFault>
-    ensures { (language : Language) (counties : ℕ)
-        → WritesEvent language counties (wider round) out.old.items result out.new.items }
+    ensures { (format : Format) (counties : ℕ)
+        → WritesEvent format counties (wider round) out.old.items result out.new.items }
 {
     push_number_line(out, b"wider ", round)?;
     Ok(())
@@ -107,16 +107,16 @@ fn push_wider(out: &mut Vec<u8>, round: u32) -> Result<(), WriteFault>
 fn push_event(
     out: &mut Vec<u8>,
     event: &Event,
-    language: Language,
+    format: Format,
     counties: u16,
 ) -> Result<(), WriteFault>
     requires { counties ≤ most }
-    ensures { WritesEvent language counties (event_of event.now) out.old.items result out.new.items }
+    ensures { WritesEvent format counties (event_of event.now) out.old.items result out.new.items }
 {
     match event {
         Event::Hand(from) => push_hand(out, *from),
         Event::Result(round, piece, tree) => {
-            push_result(out, *round, *piece, tree, language, counties)
+            push_result(out, *round, *piece, tree, format, counties)
         }
         Event::Split(round, piece, county, limit) => {
             push_split(out, *round, *piece, *county, *limit)
@@ -126,7 +126,7 @@ fn push_event(
     }
 }
 
-/// Returns the text that spells an `event`. Trees are of this `language` and for an order of `counties` counties.
+/// Returns the text that spells an `event`. Trees are of this `format` and for an order of `counties` counties.
 ///
 /// # Errors
 ///
@@ -134,15 +134,15 @@ fn push_event(
 pub fn write_event(
     alloc: Global,
     event: &Event,
-    language: Language,
+    format: Format,
     counties: u16,
 ) -> Result<Vec<u8>, WriteFault>
     requires { counties ≤ most }
-    ensures spelled { IfOk result (λ text. EventsAreSpelled language counties text.items (event_of event.now ∷ [])) }
+    ensures spelled { IfOk result (λ text. EventsAreSpelled format counties text.items (event_of event.now ∷ [])) }
     ensures none { IfErr result (λ fault. fault ≡ write_fault.NoSpelling → (text : List ℕ)
-        → EventsAreSpelled language counties text (event_of event.now ∷ []) → ⊥) }
+        → EventsAreSpelled format counties text (event_of event.now ∷ []) → ⊥) }
 {
     let mut out = Vec::new(alloc);
-    push_event(&mut out, event, language, counties)?;
+    push_event(&mut out, event, format, counties)?;
     Ok(out)
 }

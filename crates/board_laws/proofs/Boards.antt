@@ -186,16 +186,16 @@ content_certifies p b tree is e = record { window = subst (HasWindow p) (sym is.
 content_best : (p : Problem) (b : Content) (tree : Tree) (target : Grouping) → IsContent p b → joined b.skeleton ≡ Some tree → b.round.target ≡ Some target → IsBest p target
 content_best p b tree target is e k = subst (Conclusion p) k (certificate_shows p b.round tree (content_certifies p b tree is e))
 
--- order and language
-changed_order : (p : Problem) (depth : ℕ) (b c : Content) → Change p depth b c → (c.round.order ≡ b.round.order) × (c.round.language ≡ b.round.language)
-changed_order p depth b c (nothing e) = (ap (λ (z : Content). z.round.order) e, ap (λ (z : Content). z.round.language) e)
-changed_order p depth b c (filled n tree f) = (ap (λ (z : Content). z.round.order) f.is, ap (λ (z : Content). z.round.language) f.is)
-changed_order p depth b c (divided n county limit first many f) = (ap (λ (z : Content). z.round.order) f.is, ap (λ (z : Content). z.round.language) f.is)
-changed_order p depth b c (improved g next gain r) = (ap (λ (z : Round). z.order) r.round_is, ap (λ (z : Round). z.language) r.round_is)
-changed_order p depth b c (widened next r) = (ap (λ (z : Round). z.order) r.round_is, ap (λ (z : Round). z.language) r.round_is)
+-- order and format
+changed_order : (p : Problem) (depth : ℕ) (b c : Content) → Change p depth b c → (c.round.order ≡ b.round.order) × (c.round.format ≡ b.round.format)
+changed_order p depth b c (nothing e) = (ap (λ (z : Content). z.round.order) e, ap (λ (z : Content). z.round.format) e)
+changed_order p depth b c (filled n tree f) = (ap (λ (z : Content). z.round.order) f.is, ap (λ (z : Content). z.round.format) f.is)
+changed_order p depth b c (divided n county limit first many f) = (ap (λ (z : Content). z.round.order) f.is, ap (λ (z : Content). z.round.format) f.is)
+changed_order p depth b c (improved g next gain r) = (ap (λ (z : Round). z.order) r.round_is, ap (λ (z : Round). z.format) r.round_is)
+changed_order p depth b c (widened next r) = (ap (λ (z : Round). z.order) r.round_is, ap (λ (z : Round). z.format) r.round_is)
 
-over_order : (p : Problem) (depth : ℕ) (b c : Content) (log : List EventAndReply) → LeadsOver p depth b log c → (c.round.order ≡ b.round.order) × (c.round.language ≡ b.round.language)
-over_order p depth b c [] l = (ap (λ (z : Content). z.round.order) l, ap (λ (z : Content). z.round.language) l)
+over_order : (p : Problem) (depth : ℕ) (b c : Content) (log : List EventAndReply) → LeadsOver p depth b log c → (c.round.order ≡ b.round.order) × (c.round.format ≡ b.round.format)
+over_order p depth b c [] l = (ap (λ (z : Content). z.round.order) l, ap (λ (z : Content). z.round.format) l)
 over_order p depth b c (first ∷ more) l =
     let one = changed_order p depth b l.0 (change p depth b l.0 first.event first.reply l.1) in
     let all = over_order p depth l.0 c more l.2 in

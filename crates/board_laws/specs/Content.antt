@@ -5,7 +5,7 @@ use Rattle.grouping_laws.specs.Problem.{Problem}
 use Rattle.grouping_laws.specs.Grouping.{Grouping, Lawful, counts, sets_of, IsGreater}
 use Rattle.grouping_laws.specs.Allowance.{named_window}
 use Rattle.grouping_laws.specs.GroupsFrom.{IsOrder}
-use Rattle.certificate_data.specs.declared.language.Language.TheVariants.{Wide}
+use Rattle.certificate_data.specs.declared.format.Format.TheVariants.{Wide}
 use Rattle.certificate_data.specs.Round.{Round}
 use Rattle.certificate_laws.specs.State.{State, empty_state, open_to, close, raise}
 use Rattle.certificate_laws.specs.Groups.{AreGroupsAt}
@@ -60,7 +60,7 @@ abbrev mutual
   Opens depth (split piece county limit parts raised) p round s first next =
       (piece ≡ None)
       × (1 ≤ depth)
-      × NamesLimit round.language limit
+      × NamesLimit round.format limit
       × CanBranch round s county (limit_of round limit)
       × AreGroupsAt p round s county (limit_of round limit) (groups_in parts)
       × ((between : ℕ) × EachOpens (depth - 1) parts p round s first between
@@ -92,7 +92,7 @@ pub record Fills (p : Problem) (b : Content) (n : ℕ) (tree : Tree) (c : Conten
 pub record Splits (p : Problem) (b : Content) (n county limit first many : ℕ) (c : Content) : Type 0 where
   pub state : State
   pub waits : Waits p b n state
-  pub wide : b.round.language ≡ Wide
+  pub wide : b.round.format ≡ Wide
   pub can : CanBranch b.round state county limit
   pub some : 1 ≤ limit
   pub groups : List (List ℕ)

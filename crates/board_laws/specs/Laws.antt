@@ -57,9 +57,9 @@ pub record BoardsKeep : Type 0 where
       → IsCertificate p b.round tree
   pub best : (p : Problem) (b : Content) (tree : Tree) (target : Grouping) → IsContent p b
       → joined b.skeleton ≡ Some tree → b.round.target ≡ Some target → IsBest p target
-  -- all events leave the order and the language; the target never becomes lesser
+  -- all events leave the order and the format; the target never becomes lesser
   pub order : (p : Problem) (depth : ℕ) (b c : Content) (log : List EventAndReply) → LeadsOver p depth b log c
-      → (c.round.order ≡ b.round.order) × (c.round.language ≡ b.round.language)
+      → (c.round.order ≡ b.round.order) × (c.round.format ≡ b.round.format)
   pub target : (p : Problem) (depth : ℕ) (b c : Content) (log : List EventAndReply) → LeadsOver p depth b log c
       → (c.round.target ≡ b.round.target) ⊎ TargetGrew b.round.target c.round.target
   -- until a new round a piece keeps its tree, and stays split as it was split; each stands where it stood

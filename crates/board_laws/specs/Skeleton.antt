@@ -98,7 +98,7 @@ abbrev mutual
   IsSkeleton (waits piece) p round s = ⊤
   IsSkeleton (proved piece tree) p round s = Proves tree p round s
   IsSkeleton (split piece county limit parts raised) p round s =
-      NamesLimit round.language limit
+      NamesLimit round.format limit
       × CanBranch round s county (limit_of round limit)
       × AreGroupsAt p round s county (limit_of round limit) (groups_in parts)
       × EachIsSkeleton parts p round s

@@ -3,7 +3,7 @@ use Rattle.std.proofs.Common.{◌≡◌, ℕ, Bool, List, [], ◌++◌, sym, ap,
 use Rattle.std.specs.List.{flat_map}
 use Rattle.county_problem.specs.ProblemValue.{problem_of}
 use Rattle.county_problem.specs.declared.problem.Problem.{Problem as ProblemHeld}
-use Rattle.certificate_data.specs.declared.language.Language.{Language}
+use Rattle.certificate_data.specs.declared.format.Format.{Format}
 use Rattle.certificate_data.specs.Round.{Round}
 use Rattle.board_laws.specs.Content.{Content, Event}
 use Rattle.share_board.specs.declared.board.Board.{Board}
@@ -16,7 +16,7 @@ use Rattle.board_report.specs.BoardOutcome.{IsEnded, IsShared}
 use Rattle.board_report.specs.declared.board_outcome.Shared.{Shared}
 use Rattle.board_report.specs.PieceText.{HasText}
 use Rattle.board_report.specs.PieceAnswers.{IsAnswerAt, IsAnswered, piece_budget}
-use Rattle.board_report.proofs.InTurn.{same_language}
+use Rattle.board_report.proofs.InTurn.{same_format}
 
 module _ {C : Type 0} (test : C → ℕ → Bool) (problem : ProblemHeld) (depth budget : ℕ) (round : Round) (before later : Board C) (b : Content) (events : List Event) where
   taken_from : before.problem ≡ problem → before.depth ≡ depth → before.budget ≡ budget → IsOpening (problem_of problem) depth round b → (taken : HasTaken test before b events later) → EventsAreTaken (problem_of problem) depth budget round events taken.replies taken.last
@@ -50,13 +50,13 @@ module _ {C : Type 0} (test : C → ℕ → Bool) (problem : ProblemHeld) (depth
     answer_is = is (heard.0).last (heard.0).is;
   }
 
-  -- the language is that of the first round
-  pub language_so : (language : Language) → round.language ≡ language → IsOpening (problem_of problem) depth round b → HasTaken test before b events later → later.round.language ≡ language
-  language_so language is opening taken =
-      ap (λ (z : Round). z.language) taken.is.round
-      ∙ same_language (problem_of before.problem) before.depth before.budget b taken.last events taken.replies taken.takes
-      ∙ ap (λ (z : Round). z.language) opening.round_is
+  -- the format is that of the first round
+  pub format_so : (format : Format) → round.format ≡ format → IsOpening (problem_of problem) depth round b → HasTaken test before b events later → later.round.format ≡ format
+  format_so format is opening taken =
+      ap (λ (z : Round). z.format) taken.is.round
+      ∙ same_format (problem_of before.problem) before.depth before.budget b taken.last events taken.replies taken.takes
+      ∙ ap (λ (z : Round). z.format) opening.round_is
       ∙ is
 
-pub text_so : (language other : Language) (places counties number : ℕ) (answer : Option Piece) → language ≡ other → places ≡ counties → IfSome answer (HasText language places number) → IfSome answer (HasText other counties number)
-text_so language other places counties number answer e k h = subst (λ z. IfSome answer (HasText z counties number)) e (subst (λ z. IfSome answer (HasText language z number)) k h)
+pub text_so : (format other : Format) (places counties number : ℕ) (answer : Option Piece) → format ≡ other → places ≡ counties → IfSome answer (HasText format places number) → IfSome answer (HasText other counties number)
+text_so format other places counties number answer e k h = subst (λ z. IfSome answer (HasText z counties number)) e (subst (λ z. IfSome answer (HasText format z number)) k h)

@@ -11,7 +11,7 @@ use Rattle.board_laws.specs.Content.{Content, IsContent}
 use Rattle.board_laws.proofs.Boards.{boards_keep}
 use Rattle.board_laws.proofs.Joining.{skeletons_join}
 use Rattle.share_board.specs.OpenPieces.{AreOpen}
-use Rattle.certificate_data.specs.declared.language.Language.{Language}
+use Rattle.certificate_data.specs.declared.format.Format.{Format}
 use Rattle.board_report.specs.BoardOutcome.{IsJoinedText, AreJoined, IsEnded, left_lines, board_end_lines}
 use Rattle.board_report.specs.declared.board_outcome.Shared.{Shared}
 
@@ -42,7 +42,7 @@ pub joined_end : (b : Content) (found : List ℕ) (tree : Tree) → AreOpen b.sk
 joined_end b [] tree are some = refl
 joined_end b (n ∷ found) tree are some = absurd (waits b.skeleton n found tree are some)
 
-pub left_end : (b : Content) (found : List ℕ) → AreOpen b.skeleton found → joined b.skeleton ≡ None → board_end_lines b found ≡ left_lines b.round.language b.number found
+pub left_end : (b : Content) (found : List ℕ) → AreOpen b.skeleton found → joined b.skeleton ≡ None → board_end_lines b found ≡ left_lines b.round.format b.number found
 left_end b [] are none = absurd (joins b.skeleton are none)
 left_end b (n ∷ found) are none = refl
 
@@ -85,9 +85,9 @@ ended_joined p b found start s c lines content are left text certificate e spell
     }
 
 -- and where one waits
-pub ended_left : (p : Problem) (b : Content) (found start : List ℕ) (s : Shared) (language : Language) (number : ℕ) → AreOpen b.skeleton found → s.left ≡ length found → language ≡ b.round.language → number ≡ b.number → s.text.items ≡ start ++ left_lines language number found → s.certificate ≡ None
+pub ended_left : (p : Problem) (b : Content) (found start : List ℕ) (s : Shared) (format : Format) (number : ℕ) → AreOpen b.skeleton found → s.left ≡ length found → format ≡ b.round.format → number ≡ b.number → s.text.items ≡ start ++ left_lines format number found → s.certificate ≡ None
     → None ≡ option_map (λ tree. made b.round tree) (joined b.skeleton) → IsEnded p b start s
-ended_left p b found start s language number are left language_is number_is text certificate e =
+ended_left p b found start s format number are left format_is number_is text certificate e =
     let none = none_joined b.round (joined b.skeleton) e in
     record {
       found = found;
@@ -95,8 +95,8 @@ ended_left p b found start s language number are left language_is number_is text
       left = left;
       text =
           text
-          ∙ ap (λ z. start ++ left_lines z number found) language_is
-          ∙ ap (λ z. start ++ left_lines b.round.language z found) number_is
+          ∙ ap (λ z. start ++ left_lines z number found) format_is
+          ∙ ap (λ z. start ++ left_lines b.round.format z found) number_is
           ∙ ap (λ z. start ++ z) (sym (left_end b found are none));
       certificate = subst (λ (z : Option (Vec ℕ Global)). AreJoined p b found (option_map (λ t. t.items) z)) (sym certificate) (are_left p b found are none);
     }

@@ -7,7 +7,7 @@ use Rattle.county_codes.specs.declared.county.County.{County}
 use Rattle.grouping_laws.specs.Problem.{Problem, IsProblem}
 use Rattle.grouping_laws.specs.Grouping.{Grouping}
 use Rattle.grouping_laws.proofs.Digits.{often_member}
-use Rattle.certificate_data.specs.declared.language.Language.{Language}
+use Rattle.certificate_data.specs.declared.format.Format.{Format}
 use Rattle.certificate_data.specs.Round.{Round}
 use Rattle.board_laws.specs.Content.{Content}
 use Rattle.share_board.specs.declared.board.Board.{Board}
@@ -16,21 +16,21 @@ use Rattle.share_board.specs.BoardValue.{IsOf}
 use Rattle.share_board.specs.Rounds.{first_round, IsOpening, MayOpen, IsBoardFault}
 use Rattle.board_report.specs.Rounds.{IsFirstRound, round_by_code}
 
-pub first_by_code : (p : Problem) (target : Grouping) (limit : ℕ) (language : Language) → IsProblem p → IsStrictlyIncreasing p.counties → IsFirstRound p target limit language (round_by_code p target limit language)
-first_by_code p target limit language is up = record { order = λ c. often_member p.counties c (is.once c); ascending = up; is = refl }
+pub first_by_code : (p : Problem) (target : Grouping) (limit : ℕ) (format : Format) → IsProblem p → IsStrictlyIncreasing p.counties → IsFirstRound p target limit format (round_by_code p target limit format)
+first_by_code p target limit format is up = record { order = λ c. often_member p.counties c (is.once c); ascending = up; is = refl }
 
 -- a board that was opened with such an order
-pub opened_so : {C : Type 0} (test : C → ℕ → Bool) (p : Problem) (depth budget : ℕ) (target : Grouping) (limit : ℕ) (language : Language) (order : List ℕ) (r : Result (Board C) BoardFault) → order ≡ p.counties
-    → IfOk r (λ board. (b : Content) × IsOpening p depth (first_round p target order limit language) b × IsOf test board b)
-    → MatchResult r (λ _. MayOpen p depth target (first_round p target order limit language)) (IsBoardFault p depth budget target (first_round p target order limit language))
-    → MatchResult r (λ board. (b : Content) × IsOpening p depth (round_by_code p target limit language) b × IsOf test board b) (IsBoardFault p depth budget target (round_by_code p target limit language))
-opened_so test p depth budget target limit language order (Ok board) e opens may = subst (λ z. (b : Content) × IsOpening p depth (first_round p target z limit language) b × IsOf test board b) e opens
-opened_so test p depth budget target limit language order (Err fault) e opens may = subst (λ z. IsBoardFault p depth budget target (first_round p target z limit language) fault) e may
+pub opened_so : {C : Type 0} (test : C → ℕ → Bool) (p : Problem) (depth budget : ℕ) (target : Grouping) (limit : ℕ) (format : Format) (order : List ℕ) (r : Result (Board C) BoardFault) → order ≡ p.counties
+    → IfOk r (λ board. (b : Content) × IsOpening p depth (first_round p target order limit format) b × IsOf test board b)
+    → MatchResult r (λ _. MayOpen p depth target (first_round p target order limit format)) (IsBoardFault p depth budget target (first_round p target order limit format))
+    → MatchResult r (λ board. (b : Content) × IsOpening p depth (round_by_code p target limit format) b × IsOf test board b) (IsBoardFault p depth budget target (round_by_code p target limit format))
+opened_so test p depth budget target limit format order (Ok board) e opens may = subst (λ z. (b : Content) × IsOpening p depth (first_round p target z limit format) b × IsOf test board b) e opens
+opened_so test p depth budget target limit format order (Err fault) e opens may = subst (λ z. IsBoardFault p depth budget target (first_round p target z limit format) fault) e may
 
-pub order_so : {C : Type 0} (test : C → ℕ → Bool) (p : Problem) (depth : ℕ) (target : Grouping) (limit : ℕ) (language : Language) (order : List ℕ) (r : Result (Board C) BoardFault) → order ≡ p.counties
-    → IfOk r (λ board. (b : Content) × IsOpening p depth (first_round p target order limit language) b × IsOf test board b) → IfOk r (λ board. board.round.order ≡ p.counties)
-order_so test p depth target limit language order (Ok board) e opens = ap (λ (z : Round). z.order) (opens.2.round ∙ opens.1.round_is) ∙ e
-order_so test p depth target limit language order (Err fault) e opens = tt
+pub order_so : {C : Type 0} (test : C → ℕ → Bool) (p : Problem) (depth : ℕ) (target : Grouping) (limit : ℕ) (format : Format) (order : List ℕ) (r : Result (Board C) BoardFault) → order ≡ p.counties
+    → IfOk r (λ board. (b : Content) × IsOpening p depth (first_round p target order limit format) b × IsOf test board b) → IfOk r (λ board. board.round.order ≡ p.counties)
+order_so test p depth target limit format order (Ok board) e opens = ap (λ (z : Round). z.order) (opens.2.round ∙ opens.1.round_is) ∙ e
+order_so test p depth target limit format order (Err fault) e opens = tt
 
 pub as_many : (counties : List County) → length (codes_of counties) ≡ length counties
 as_many counties = length-map counties (λ z. z.code)

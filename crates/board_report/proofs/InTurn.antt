@@ -21,13 +21,13 @@ takes_more p depth budget b c d [] (r ∷ replies) event answer t says l = absur
 takes_more p depth budget b c d (e ∷ events) [] event answer t says l = absurd t
 takes_more p depth budget b c d (e ∷ events) (r ∷ replies) event answer t says l = (t.0, (t.1.0, t.1.1, takes_more p depth budget t.1.0 c d events replies event answer t.1.2 says l))
 
--- events leave the language
-pub same_language : (p : Problem) (depth budget : ℕ) (b c : Content) (events : List Event) (replies : List Reply) → TakesEvents p depth budget b events replies c → c.round.language ≡ b.round.language
-same_language p depth budget b c [] [] t = ap (λ (z : Content). z.round.language) t
-same_language p depth budget b c [] (r ∷ replies) t = absurd t
-same_language p depth budget b c (e ∷ events) [] t = absurd t
-same_language p depth budget b c (e ∷ events) (r ∷ replies) t =
-    same_language p depth budget t.1.0 c events replies t.1.2 ∙ ((boards_keep).order p depth b t.1.0 (record { event = e; reply = r } ∷ []) (t.1.0, t.1.1, refl)).1
+-- events leave the format
+pub same_format : (p : Problem) (depth budget : ℕ) (b c : Content) (events : List Event) (replies : List Reply) → TakesEvents p depth budget b events replies c → c.round.format ≡ b.round.format
+same_format p depth budget b c [] [] t = ap (λ (z : Content). z.round.format) t
+same_format p depth budget b c [] (r ∷ replies) t = absurd t
+same_format p depth budget b c (e ∷ events) [] t = absurd t
+same_format p depth budget b c (e ∷ events) (r ∷ replies) t =
+    same_format p depth budget t.1.0 c events replies t.1.2 ∙ ((boards_keep).order p depth b t.1.0 (record { event = e; reply = r } ∷ []) (t.1.0, t.1.1, refl)).1
 
 -- only where memory was refused it is said so
 pub not_memory : {C : Type 0} (order : List ℕ) (test : C → ℕ → Bool) (r : ReplyHeld C) → r ≢ held.Memory → reply_of order test r ≢ reply.Memory

@@ -1,4 +1,4 @@
--- A text spells the event that gives a desk's answer to a board.
+-- A text spells the event that gives a solver's answer to a board.
 use Rattle.std.proofs.Common.{◌≡◌, ◌≤◌, ℕ, Bool, true, false, List, [], ◌++◌, ◌&&◌, nat_le, map, length, append-nil, refl, subst, arith, Some, None}
 use Rattle.certificate_lines.specs.Fitting.{AllFit}
 use Rattle.certificate_lines.specs.Items.{groups_wanted}
@@ -39,7 +39,7 @@ rest_five : (p : Problem) (round : Round) (s : State) (county limit : ℕ) → H
 rest_five p round s county limit five state e = five_digits p county five (digit_true (contains p.counties county) (omega (arith, state.once county, true_digit (s.rest county) (and_left (s.rest county) (nat_le (s.least county) limit) e))))
 
 pub has_text : (p : Problem) (round : Round) (s : State) (number : ℕ) (piece : Piece) → IsOrder p round.order → HasFiveDigits p → IsState p round s → round.limit ≤ most → number ≤ greatest → IsPiece p round s piece
-    → HasText round.language (length round.order) number piece
+    → HasText round.format (length round.order) number piece
 has_text p round s number (Proved tree) order five state small few is r low = record { line = (low, few); items = have_texts.tree p round s (tree_of tree) order state is.0 is.1 }
 has_text p round s number (Better g) order five state small few is r low = record { line = (low, is.2.few); items = groups_fit g.groups.items is.2 }
 has_text p round s number (Wider g) order five state small few is r low = record { line = low; items = tt }

@@ -1,8 +1,8 @@
 -- What is said of a board when events were taken.
 use Rattle.std.specs.Prelude.{ℕ, ◌≡◌, List, [], ◌∷◌, ◌++◌, length, codes, decimal, Option, Some, None, option_map}
 use Rattle.std.specs.List.{flat_map}
-use Rattle.certificate_data.specs.declared.language.Language.{Language}
-use Rattle.certificate_data.specs.declared.language.Language.TheVariants.{Plain, Wide}
+use Rattle.certificate_data.specs.declared.format.Format.{Format}
+use Rattle.certificate_data.specs.declared.format.Format.TheVariants.{Plain, Wide}
 use Rattle.grouping_laws.specs.Problem.{Problem}
 use Rattle.grouping_laws.specs.Grouping.{Grouping, IsBest}
 use Rattle.certificate_data.specs.Round.{Round}
@@ -21,19 +21,19 @@ abbrev pub open_line : ℕ → ℕ → List ℕ
 open_line number piece = codes "open " ++ decimal number ++ (codes " " ++ (decimal piece ++ codes "\n"))
 
 -- which pieces wait; it is said of a wide round alone
-abbrev pub open_lines : Language → ℕ → List ℕ → List ℕ
+abbrev pub open_lines : Format → ℕ → List ℕ → List ℕ
 open_lines Plain number found = []
 open_lines Wide number found = flat_map (open_line number) found
 
 -- how many pieces wait, and which
-abbrev pub left_lines : Language → ℕ → List ℕ → List ℕ
-left_lines language number found =
-    codes "left " ++ decimal (length found) ++ codes "\n" ++ open_lines language number found
+abbrev pub left_lines : Format → ℕ → List ℕ → List ℕ
+left_lines format number found =
+    codes "left " ++ decimal (length found) ++ codes "\n" ++ open_lines format number found
 
 -- the last lines: `joined` if no piece waits, and else how many pieces wait, and which
 abbrev pub board_end_lines : Content → List ℕ → List ℕ
 board_end_lines b [] = codes "joined\n"
-board_end_lines b (piece ∷ found) = left_lines b.round.language b.number (piece ∷ found)
+board_end_lines b (piece ∷ found) = left_lines b.round.format b.number (piece ∷ found)
 
 -- the text spells the certificate to which the pieces join, and its target is best
 pub record IsJoinedText (p : Problem) (b : Content) (text : List ℕ) : Type 0 where

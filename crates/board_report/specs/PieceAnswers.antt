@@ -1,4 +1,4 @@
--- What a desk answers of a piece of a board that has taken events.
+-- What a solver answers of a piece of a board that has taken events.
 use Rattle.std.specs.Prelude.{ℕ, Bool, List, length, Contains, Option, Some, None}
 use Rattle.grouping_laws.specs.Problem.{Problem}
 use Rattle.county_problem.specs.ProblemValue.{problem_of}

@@ -1,6 +1,6 @@
--- What is printed of the answer of a desk.
+-- What is printed of the answer of a solver.
 use Rattle.std.specs.Prelude.{ℕ, ◌≤◌, List, codes, Option, Some, None, IfSome}
-use Rattle.certificate_data.specs.declared.language.Language.{Language}
+use Rattle.certificate_data.specs.declared.format.Format.{Format}
 use Rattle.certificate_data.specs.TreeValue.{tree_of}
 use Rattle.board_laws.specs.Content.{Event, result, split_piece, better, wider}
 use Rattle.branch_bound.specs.declared.piece.Piece.{Piece}
@@ -25,6 +25,6 @@ abbrev pub piece_text_of : ℕ → ℕ → Piece → List ℕ
 piece_text_of round number piece = told (event_in round number piece)
 
 -- whatever the number of the round, a text spells the event, if there is one
-abbrev pub HasText : Language → (counties number : ℕ) → Piece → Type 0
-HasText language counties number piece =
-    (round : ℕ) → round ≤ greatest → IfSome (event_in round number piece) (HasSpelling language counties)
+abbrev pub HasText : Format → (counties number : ℕ) → Piece → Type 0
+HasText format counties number piece =
+    (round : ℕ) → round ≤ greatest → IfSome (event_in round number piece) (HasSpelling format counties)

@@ -8,7 +8,7 @@ ghost use Rattle.board_report.specs.PieceText.{event_in, piece_text_of, HasText}
 
 use board_events::write_event;
 use branch_bound::Piece;
-use certificate_data::Language;
+use certificate_data::Format;
 use certificate_lines::WriteFault;
 use share_board::Event;
 use std::alloc::{AllocError, Global};
@@ -35,15 +35,15 @@ fn answer_event(piece: &Piece, round: u32, number: u32) -> Result<Option<Event>,
 fn event_lines(
     alloc: Global,
     event: &Event,
-    language: Language,
+    format: Format,
     counties: u16,
 ) -> Result<Vec<u8>, AllocError>
     requires few { counties ≤ most }
-    requires spelled { HasSpelling language counties (event_of event.now) }
-    ensures spelled { IfOk result (λ text. EventsAreSpelled language counties text.items (event_of event.now ∷ [])) }
+    requires spelled { HasSpelling format counties (event_of event.now) }
+    ensures spelled { IfOk result (λ text. EventsAreSpelled format counties text.items (event_of event.now ∷ [])) }
     ensures text { IfOk result (λ text. text.items ≡ text_of_event (event_of event.now)) }
 {
-    match write_event(alloc, event, language, counties) {
+    match write_event(alloc, event, format, counties) {
         Ok(text) => Ok(text),
         Err(WriteFault::Memory) => Err(AllocError),
         Err(WriteFault::NoSpelling) => unreachable!(),
@@ -61,16 +61,16 @@ pub fn piece_text(
     piece: &Piece,
     round: u32,
     number: u32,
-    language: Language,
+    format: Format,
     counties: u16,
 ) -> Result<Vec<u8>, AllocError>
     requires few { counties ≤ most }
-    requires spelled { HasText language counties number piece.now }
+    requires spelled { HasText format counties number piece.now }
     ensures text { IfOk result (λ text. text.items ≡ piece_text_of round number piece.now) }
-    ensures spelled { IfOk result (λ text. IfSome (event_in round number piece.now) (λ event. EventsAreSpelled language counties text.items (event ∷ []))) }
+    ensures spelled { IfOk result (λ text. IfSome (event_in round number piece.now) (λ event. EventsAreSpelled format counties text.items (event ∷ []))) }
 {
     match answer_event(piece, round, number)? {
-        Some(event) => event_lines(alloc, &event, language, counties),
+        Some(event) => event_lines(alloc, &event, format, counties),
         None => Vec::from_slice(alloc, b"open\n"),
     }
 }

@@ -10,7 +10,7 @@ ghost use Rattle.share_board.specs.BoardValue.{IsOf};
 ghost use Rattle.board_report.specs.BoardOutcome.{open_line, open_lines, left_lines, IsEnded};
 
 use crate::board_outcome::Shared;
-use certificate_data::{Certificate, Language};
+use certificate_data::{Certificate, Format};
 use certificate_lines::{WriteFault, push_number_line};
 use certificate_text::write;
 use grouping_report::push_words_number;
@@ -39,30 +39,30 @@ fn push_each_open(out: &mut Vec<u8>, number: u32, found: &[u32]) -> Result<(), A
 /// Appends which pieces wait, if the round is a wide one.
 fn push_which(
     out: &mut Vec<u8>,
-    language: Language,
+    format: Format,
     number: u32,
     found: &[u32],
 ) -> Result<(), AllocError>
-    ensures { OnOk result (out.new.items ≡ out.old.items ++ open_lines language number found.now) }
+    ensures { OnOk result (out.new.items ≡ out.old.items ++ open_lines format number found.now) }
 {
-    match language {
-        Language::Plain => Ok(()),
-        Language::Wide => push_each_open(out, number, found),
+    match format {
+        Format::Plain => Ok(()),
+        Format::Wide => push_each_open(out, number, found),
     }
 }
 
 /// Appends how many pieces wait, and which.
 fn push_left(
     out: &mut Vec<u8>,
-    language: Language,
+    format: Format,
     number: u32,
     found: &[u32],
 ) -> Result<(), AllocError>
-    ensures { OnOk result (out.new.items ≡ out.old.items ++ left_lines language number found.now) }
+    ensures { OnOk result (out.new.items ≡ out.old.items ++ left_lines format number found.now) }
 {
     push_words_number(out, b"left ", found.len() as u64)?;
     out.extend_from_slice(b"\n")?;
-    push_which(out, language, number, found)
+    push_which(out, format, number, found)
 }
 
 /// Returns the text of a certificate that has one.
@@ -91,8 +91,8 @@ pub(crate) fn ended<C: CountySet>(
     let found = board.open_pieces(alloc)?;
     let left = found.len();
     let Some(certificate) = board.join(alloc)? else {
-        let language = board.proof_round().language;
-        push_left(&mut text, language, board.round(), &found)?;
+        let format = board.proof_round().format;
+        push_left(&mut text, format, board.round(), &found)?;
         return Ok(Shared {
             text,
             left,

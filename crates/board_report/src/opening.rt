@@ -23,13 +23,13 @@ pub(crate) fn opened_board<C: CountySet>(
     budget: u64,
 ) -> Result<Board<C>, BoardFault>
     requires { length problem.now.counties ≤ C.PLACES }
-    ensures first { IsFirstRound (problem_of problem.now) target.now.groups.items shape.limit shape.language (round_by_code (problem_of problem.now) target.now.groups.items shape.limit shape.language) }
+    ensures first { IsFirstRound (problem_of problem.now) target.now.groups.items shape.limit shape.format (round_by_code (problem_of problem.now) target.now.groups.items shape.limit shape.format) }
     ensures board { MatchResult
         result
         (λ board. (b : Content)
-        × IsOpening (problem_of problem.now) shape.depth (round_by_code (problem_of problem.now) target.now.groups.items shape.limit shape.language) b
+        × IsOpening (problem_of problem.now) shape.depth (round_by_code (problem_of problem.now) target.now.groups.items shape.limit shape.format) b
         × IsOf C.test board b)
-        (IsBoardFault (problem_of problem.now) shape.depth budget target.now.groups.items (round_by_code (problem_of problem.now) target.now.groups.items shape.limit shape.language)) }
+        (IsBoardFault (problem_of problem.now) shape.depth budget target.now.groups.items (round_by_code (problem_of problem.now) target.now.groups.items shape.limit shape.format)) }
     ensures problem { IfOk result (λ board. board.problem ≡ problem.now) }
     ensures depth { IfOk result (λ board. board.depth ≡ shape.depth) }
     ensures budget { IfOk result (λ board. board.budget ≡ budget) }
@@ -42,7 +42,7 @@ pub(crate) fn opened_board<C: CountySet>(
         target,
         &order,
         shape.limit,
-        shape.language,
+        shape.format,
         shape.depth,
         budget,
     )

@@ -61,7 +61,7 @@ fn answer_at<C: CountySet>(
     requires fits { length board.now.round.order ≤ C.PLACES }
     ensures answer { (b : Content) → IsOf C.test board.now b
         → IfOk result (IsAnswerAt (problem_of problem.now) b number) }
-    ensures text { IfOk result (λ r. IfSome r (HasText board.now.round.language (length board.now.round.order) number)) }
+    ensures text { IfOk result (λ r. IfSome r (HasText board.now.round.format (length board.now.round.order) number)) }
 {
     let Some(state) = waiting_state(alloc, board, number)? else {
         return Ok(None);
@@ -83,12 +83,12 @@ fn prove_over<C: CountySet>(
 ) -> Result<Option<Piece>, BoardFault>
     requires { length problem.now.counties ≤ C.PLACES }
     ensures answer { (round : RoundValue)
-        × IsFirstRound (problem_of problem.now) grouping.now.groups.items shape.limit shape.language round
+        × IsFirstRound (problem_of problem.now) grouping.now.groups.items shape.limit shape.format round
         × MatchResult
         result
         (IsAnswered (problem_of problem.now) shape.depth round (map event_of events.items) number)
         (IsBoardFault (problem_of problem.now) shape.depth piece_budget grouping.now.groups.items round) }
-    ensures text { IfOk result (λ r. IfSome r (HasText shape.language (length problem.now.counties) number)) }
+    ensures text { IfOk result (λ r. IfSome r (HasText shape.format (length problem.now.counties) number)) }
 {
     let mut board: Board<C> = opened_board(alloc, problem, grouping, shape, PIECE_BUDGET)?;
     take_all(alloc, &mut board, events)?;
@@ -115,13 +115,13 @@ pub fn prove_waiting(
     steps: u64,
 ) -> Result<Option<Piece>, BoardFault>
     ensures answer { (round : RoundValue)
-        × IsFirstRound (problem_of problem.now) grouping.now.groups.items shape.limit shape.language round
+        × IsFirstRound (problem_of problem.now) grouping.now.groups.items shape.limit shape.format round
         × MatchResult
         result
         (IsAnswered (problem_of problem.now) shape.depth round (map event_of events.items) number)
         (IsBoardFault (problem_of problem.now) shape.depth piece_budget grouping.now.groups.items round) }
     // A text spells the event that gives the answer to the board.
-    ensures text { IfOk result (λ r. IfSome r (HasText shape.language (length problem.now.counties) number)) }
+    ensures text { IfOk result (λ r. IfSome r (HasText shape.format (length problem.now.counties) number)) }
 {
     if fits_mask(problem.counties().len()) {
         return prove_over::<MaskSet>(alloc, problem, grouping, shape, events, number, steps);

@@ -30,7 +30,7 @@ fn share_over<C: CountySet>(
 ) -> Result<Shared, BoardFault>
     requires { length problem.now.counties ≤ C.PLACES }
     ensures { (round : RoundValue)
-        × IsFirstRound (problem_of problem.now) grouping.now.groups.items shape.limit shape.language round
+        × IsFirstRound (problem_of problem.now) grouping.now.groups.items shape.limit shape.format round
         × MatchResult
         result
         (IsShared (problem_of problem.now) shape.depth budget round (map event_of events.items))
@@ -60,7 +60,7 @@ pub fn share(
     budget: u64,
 ) -> Result<Shared, BoardFault>
     ensures { (round : RoundValue)
-        × IsFirstRound (problem_of problem.now) grouping.now.groups.items shape.limit shape.language round
+        × IsFirstRound (problem_of problem.now) grouping.now.groups.items shape.limit shape.format round
         × MatchResult
         result
         (IsShared (problem_of problem.now) shape.depth budget round (map event_of events.items))

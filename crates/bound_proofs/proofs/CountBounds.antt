@@ -3,7 +3,7 @@ use Rattle.std.proofs.Common.{◌≡◌, ℕ, ◌+◌, ◌*◌, ◌≤◌, ◌<�
 use Rattle.std.proofs.lemmas.List.{map-append, length-map}
 use Rattle.grouping_laws.specs.Problem.{Problem}
 use Rattle.grouping_laws.specs.Grouping.{counts}
-use Rattle.certificate_data.specs.declared.language.Language.{Language}
+use Rattle.certificate_data.specs.declared.format.Format.{Format}
 use Rattle.certificate_data.specs.Round.{Round}
 use Rattle.certificate_laws.specs.State.{State}
 use Rattle.certificate_data.specs.Tree.{Allowance}
@@ -13,23 +13,23 @@ use Rattle.bound_proofs.specs.CountLeaves.{BoundBy, BoundByNone}
 use Rattle.bound_proofs.proofs.CountWeights.{count_fair}
 
 -- one more count line
-one_more_line : (language : Language) (p : Problem) (s : State) (i : ℕ) (lines : List Allowance) (line : Allowance) → AreCountLines language p s i lines → IsCountLine language p s (i + length lines) line → AreCountLines language p s i (lines ++ line ∷ [])
-one_more_line language p s i [] line are is = (subst (λ n. IsCountLine language p s n line) (omega arith) is, tt)
-one_more_line language p s i (x ∷ lines) line are is = (are.0, one_more_line language p s (i + 1) lines line are.1 (subst (λ n. IsCountLine language p s n line) (omega arith) is))
+one_more_line : (format : Format) (p : Problem) (s : State) (i : ℕ) (lines : List Allowance) (line : Allowance) → AreCountLines format p s i lines → IsCountLine format p s (i + length lines) line → AreCountLines format p s i (lines ++ line ∷ [])
+one_more_line format p s i [] line are is = (subst (λ n. IsCountLine format p s n line) (omega arith) is, tt)
+one_more_line format p s i (x ∷ lines) line are is = (are.0, one_more_line format p s (i + 1) lines line are.1 (subst (λ n. IsCountLine format p s n line) (omega arith) is))
 
 -- one more value that stands for a count line
-pub pushed_line : {X : Type 0} (f : X → Allowance) (language : Language) (p : Problem) (s : State) (olds news : List X) (x : X) (i : ℕ) → news ≡ olds ++ x ∷ [] → AreCountLines language p s 1 (map f olds) → i ≡ 1 + length olds → IsCountLine language p s i (f x)
-    → AreCountLines language p s 1 (map f news)
-pushed_line f language p s olds news x i push are e is =
-    subst (AreCountLines language p s 1) (sym (ap (map f) push ∙ map-append f olds (x ∷ [])))
-    (one_more_line language p s 1 (map f olds) (f x) are (subst (λ n. IsCountLine language p s n (f x)) (omega (arith, e, length-map olds f)) is))
+pub pushed_line : {X : Type 0} (f : X → Allowance) (format : Format) (p : Problem) (s : State) (olds news : List X) (x : X) (i : ℕ) → news ≡ olds ++ x ∷ [] → AreCountLines format p s 1 (map f olds) → i ≡ 1 + length olds → IsCountLine format p s i (f x)
+    → AreCountLines format p s 1 (map f news)
+pushed_line f format p s olds news x i push are e is =
+    subst (AreCountLines format p s 1) (sym (ap (map f) push ∙ map-append f olds (x ∷ [])))
+    (one_more_line format p s 1 (map f olds) (f x) are (subst (λ n. IsCountLine format p s n (f x)) (omega (arith, e, length-map olds f)) is))
 
 module _ (p : Problem) (round : Round) (s : State) (wanted : ℕ → ℕ) where
   abbrev pub Bounded : ℕ → ℕ → List Allowance → Type 0
-  Bounded i used lines = Bounds round.language p round.limit s wanted i used lines
+  Bounded i used lines = Bounds round.format p round.limit s wanted i used lines
 
   abbrev pub Counted : ℕ → List Allowance → Type 0
-  Counted i lines = AreCountLines round.language p s i lines
+  Counted i lines = AreCountLines round.format p s i lines
 
   -- the lines for sizes above k
   pub record Later (k : ℕ) (lines : List Allowance) : Type 0 where
@@ -49,7 +49,7 @@ module _ (p : Problem) (round : Round) (s : State) (wanted : ℕ → ℕ) where
     enough = λ lines are l. (record { later = lines; number = omega arith; counted = are }, λ b. b);
   }
 
-  module _ (k used more : ℕ) (is : (line : Allowance) → IsCountLine round.language p s (k + 1) line → allowance p s (k + 1) used line ≡ more) (reached : ReachedBy k used) where
+  module _ (k used more : ℕ) (is : (line : Allowance) → IsCountLine round.format p s (k + 1) line → allowance p s (k + 1) used line ≡ more) (reached : ReachedBy k used) where
     -- where a size gives as many groups as wanted, the next one is reached
     pub reached_next : k < round.limit → counts s.closed (k + 1) + more ≡ wanted (k + 1) → (next all : ℕ) → next ≡ k + 1 → all ≡ used + next * more → ReachedBy next all
     reached_next below even next all f h =
@@ -74,7 +74,7 @@ module _ (p : Problem) (round : Round) (s : State) (wanted : ℕ → ℕ) where
             go (x ∷ xs) e c b = (
               record { later = xs; number = omega (arith, e); counted = c.1 },
               λ h. b (
-                count_fair round.language p s (k + 1) x c.0 (omega arith),
+                count_fair round.format p s (k + 1) x c.0 (omega arith),
                 inl (omega (arith, is x c.0, even), subst (λ n. Bounded (k + 1 + 1) (used + (k + 1) * n) xs) (sym (is x c.0)) h),
               ),
             )
@@ -85,7 +85,7 @@ module _ (p : Problem) (round : Round) (s : State) (wanted : ℕ → ℕ) where
       where
         go : (later : List Allowance) → length lines ≡ k + length later → Counted (k + 1) later → (Bounded (k + 1) used later → Bounded 1 0 lines) → Bounded 1 0 lines
         go [] e c b = absurd (omega (arith, e, number, f))
-        go (x ∷ []) e c b = b (count_fair round.language p s (k + 1) x c.0 (omega arith), inr (omega (arith, below), omega (arith, is x c.0, less), refl))
+        go (x ∷ []) e c b = b (count_fair round.format p s (k + 1) x c.0 (omega arith), inr (omega (arith, below), omega (arith, is x c.0, less), refl))
         go (x ∷ y ∷ ys) e c b = absurd (omega (arith, e, number, f))
 
     -- where a size gives more, no lines are

@@ -12,7 +12,7 @@ use Rattle.grouping_laws.proofs.Places.{has_member, place_at}
 use Rattle.certificate_data.specs.Round.{Round}
 use Rattle.certificate_laws.specs.State.{State}
 use Rattle.certificate_data.specs.Tree.{Weight, weigh}
-use Rattle.certificate_data.specs.declared.language.Language.{Language}
+use Rattle.certificate_data.specs.declared.format.Format.{Format}
 use Rattle.certificate_laws.specs.Search.{IsInFittingGroup, IsCountLine}
 use Rattle.certificate_data.specs.declared.weights.Weight.{Weight as WeightHeld}
 use Rattle.certificate_data.specs.TreeValue.{weight_of as held_weight}
@@ -60,9 +60,9 @@ module _ (counted : ℕ → Bool) where
   weights_for counties = map one_for (filter counted (codes_of counties))
 
 -- where all counties were gone over, the weights make the count line
-pub made_of_weights : (language : Language) (p : Problem) (s : State) (i : ℕ) (counted : ℕ → Bool) → ((c : ℕ) → (counted c ≡ true) ↔ IsInFittingGroup language p s i c) → (counties : List County) → codes_of counties ≡ p.counties → AllPairs (λ x y. x < y) (codes_of counties)
-    → (k : ℕ) → length counties ≤ k → (ws held : List WeightHeld) → map held_weight ws ++ weights_for counted (drop k counties) ≡ weights_for counted counties → held ≡ ws → (quota : ℕ) → quota ≡ i → IsCountLine language p s i (weigh quota (map held_weight held))
-made_of_weights language p s i counted tests counties known up k over ws held same e quota f =
+pub made_of_weights : (format : Format) (p : Problem) (s : State) (i : ℕ) (counted : ℕ → Bool) → ((c : ℕ) → (counted c ≡ true) ↔ IsInFittingGroup format p s i c) → (counties : List County) → codes_of counties ≡ p.counties → AllPairs (λ x y. x < y) (codes_of counties)
+    → (k : ℕ) → length counties ≤ k → (ws held : List WeightHeld) → map held_weight ws ++ weights_for counted (drop k counties) ≡ weights_for counted counties → held ≡ ws → (quota : ℕ) → quota ≡ i → IsCountLine format p s i (weigh quota (map held_weight held))
+made_of_weights format p s i counted tests counties known up k over ws held same e quota f =
     let all : map held_weight held ≡ map one_for (filter counted p.counties) =
     ap (map held_weight) e ∙ (sym (append-nil (map held_weight ws)) ∙ (ap (λ z. map held_weight ws ++ weights_for counted z) (sym (drop_all k counties over)) ∙ (same ∙ ap (λ z. map one_for (filter counted z)) known))) in
-    subst (λ z. IsCountLine language p s i (weigh quota z)) (sym all) (subst (λ n. IsCountLine language p s i (weigh n (map one_for (filter counted p.counties)))) (sym f) (made_line language p s i counted tests (subst (AllPairs (λ x y. x < y)) known up)))
+    subst (λ z. IsCountLine format p s i (weigh quota z)) (sym all) (subst (λ n. IsCountLine format p s i (weigh n (map one_for (filter counted p.counties)))) (sym f) (made_line format p s i counted tests (subst (AllPairs (λ x y. x < y)) known up)))

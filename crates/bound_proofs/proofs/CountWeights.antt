@@ -10,7 +10,7 @@ use Rattle.grouping_laws.proofs.Places.{has_member}
 use Rattle.grouping_laws.proofs.PlaceCodes.{member_has, mapped_has, has_mapped}
 use Rattle.place_laws.specs.PlaceSets.{places_of}
 use Rattle.place_laws.proofs.Sums.{total_same, total_ones}
-use Rattle.certificate_data.specs.declared.language.Language.{Language}
+use Rattle.certificate_data.specs.declared.format.Format.{Format}
 use Rattle.certificate_laws.specs.Regions.{listed}
 use Rattle.certificate_laws.specs.State.{State, open_to}
 use Rattle.certificate_data.specs.Tree.{Weight, Allowance, weigh}
@@ -55,39 +55,39 @@ one_pairs (x ∷ xs) up =
     (λ w h. let r = has_mapped one_for xs w h in subst (λ (z : Weight). x < z.county) r.2 (head_before (λ a b. a < b) x xs up r.0 r.1))
     (one_pairs xs (tail_pairs (λ a b. a < b) x xs up))
 
-module _ (language : Language) (p : Problem) (s : State) (i : ℕ) (counted : ℕ → Bool) (tests : (c : ℕ) → (counted c ≡ true) ↔ IsInFittingGroup language p s i c) where
+module _ (format : Format) (p : Problem) (s : State) (i : ℕ) (counted : ℕ → Bool) (tests : (c : ℕ) → (counted c ≡ true) ↔ IsInFittingGroup format p s i c) where
   -- the counties of the problem that pass the test, each with weight 1, are the weights of the line
-  pub made_line : AllPairs (λ x y. x < y) p.counties → IsCountLine language p s i (weigh i (map one_for (filter counted p.counties)))
+  pub made_line : AllPairs (λ x y. x < y) p.counties → IsCountLine format p s i (weigh i (map one_for (filter counted p.counties)))
   made_line up = record { weights = map one_for (filter counted p.counties); is = refl; ascending = one_pairs (filter counted p.counties) (filter_pairs (λ x y. x < y) counted p.counties up); each = λ w. (there w, back w) }
     where
-      there : (w : Weight) → Contains (map one_for (filter counted p.counties)) w → (w.weight ≡ 1) × IsInFittingGroup language p s i w.county
+      there : (w : Weight) → Contains (map one_for (filter counted p.counties)) w → (w.weight ≡ 1) × IsInFittingGroup format p s i w.county
       there w k =
           let r = has_mapped one_for (filter counted p.counties) w (has_from_contains (map one_for (filter counted p.counties)) w k) in
-          subst (λ (z : Weight). (z.weight ≡ 1) × IsInFittingGroup language p s i z.county) r.2 (refl, (tests r.0).0 (has-filter counted p.counties r.0 r.1).1)
+          subst (λ (z : Weight). (z.weight ≡ 1) × IsInFittingGroup format p s i z.county) r.2 (refl, (tests r.0).0 (has-filter counted p.counties r.0 r.1).1)
 
-      back : (w : Weight) → (w.weight ≡ 1) × IsInFittingGroup language p s i w.county → Contains (map one_for (filter counted p.counties)) w
+      back : (w : Weight) → (w.weight ≡ 1) × IsInFittingGroup format p s i w.county → Contains (map one_for (filter counted p.counties)) w
       back w h =
           let c = w.county in
           let known : Has p.counties c = member_has p.counties c (h.1.1.lawful.listed c h.1.3) in
           let is : one_for c ≡ w = ap (λ n. record { county = c; weight = n }) (sym h.0) in
           contains_from_has (map one_for (filter counted p.counties)) w (subst (Has (map one_for (filter counted p.counties))) is (mapped_has one_for (filter counted p.counties) c (filter_has counted p.counties c known ((tests c).1 h.1))))
 
-module _ (language : Language) (p : Problem) (s : State) (i : ℕ) (line : Allowance) (is : IsCountLine language p s i line) where
-  one_each : (c : ℕ) → IsInFittingGroup language p s i c → weight_of is.weights c ≡ 1
+module _ (format : Format) (p : Problem) (s : State) (i : ℕ) (line : Allowance) (is : IsCountLine format p s i line) where
+  one_each : (c : ℕ) → IsInFittingGroup format p s i c → weight_of is.weights c ≡ 1
   one_each c h = weight_once is.weights is.ascending (one_for c) (has_from_contains is.weights (one_for c) ((is.each (one_for c)).1 (refl, h)))
 
-  none_else : (c : ℕ) → (IsInFittingGroup language p s i c → ⊥) → weight_of is.weights c ≡ 0
-  none_else c never = weight_none is.weights c (λ w h e. never (subst (IsInFittingGroup language p s i) e ((is.each w).0 (contains_from_has is.weights w h)).1))
+  none_else : (c : ℕ) → (IsInFittingGroup format p s i c → ⊥) → weight_of is.weights c ≡ 0
+  none_else c never = weight_none is.weights c (λ w h e. never (subst (IsInFittingGroup format p s i) e ((is.each w).0 (contains_from_has is.weights w h)).1))
 
   -- a count line is fair
-  pub count_fair : 1 ≤ i → IsFair language p s i line
-  count_fair some = subst (IsFair language p s i) (sym is.is) (
+  pub count_fair : 1 ≤ i → IsFair format p s i line
+  count_fair some = subst (IsFair format p s i) (sym is.is) (
     some,
     all_from_has (λ w. contains p.counties w.county ≡ true) is.weights (λ w h. let k = ((is.each w).0 (contains_from_has is.weights w h)).1 in k.1.lawful.listed w.county k.3),
     λ g fits size. omega (arith, size, total_each_one (weight_of is.weights) g (λ c h. one_each c (g, fits, size, has_member g c h))),
   )
 
-  module _ (order : List ℕ) (region places : ℕ → Bool) (law : IsProblem p) (whole : IsOrder p order) (at : IsRegionAt order region places) (tests : (c : ℕ) → (region c ≡ true) ↔ IsInFittingGroup language p s i c) where
+  module _ (order : List ℕ) (region places : ℕ → Bool) (law : IsProblem p) (whole : IsOrder p order) (at : IsRegionAt order region places) (tests : (c : ℕ) → (region c ≡ true) ↔ IsInFittingGroup format p s i c) where
     shared_out : (c : ℕ) → cond (open_to s i c) (weight_of is.weights c) 0 ≡ indicator (region c)
     shared_out c = go (region c) refl (open_to s i c) refl
       where

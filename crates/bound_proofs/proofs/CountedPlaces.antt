@@ -77,7 +77,7 @@ module _ (C : Type 0) (test : C → ℕ → Bool) (order : List ℕ) (p : Proble
         let r = any_has (λ g. test g x) sets (sym (together x) ∙ h) in
         has_all (λ g. (y : ℕ) → test g y ≡ true → y < length order) sets are.below r.0 r.1 x r.2
 
-    counted_there : (c : ℕ) → has_county order test all c ≡ true → IsInFittingGroup round.language p s i c
+    counted_there : (c : ℕ) → has_county order test all c ≡ true → IsInFittingGroup round.format p s i c
     counted_there c h =
         let k = and_parts (contains order c) (test all (place order c)) h in
         let r = any_has (λ g. test g (place order c)) sets (sym (together (place order c)) ∙ k.1) in
@@ -85,7 +85,7 @@ module _ (C : Type 0) (test : C → ℕ → Bool) (order : List ℕ) (p : Proble
         let is = (are.groups.each g).0 (contains_from_has (codes_of_sets order test sets) g (mapped_has (codes_of_set order test) sets r.0 r.1)) in
         (g, is.fits, is.size, codes_have r.0 c (both_true (contains order c) (test r.0 (place order c)) k.0 r.2))
 
-    counted_back : (c : ℕ) → IsInFittingGroup round.language p s i c → has_county order test all c ≡ true
+    counted_back : (c : ℕ) → IsInFittingGroup round.format p s i c → has_county order test all c ≡ true
     counted_back c h =
         let k = filter (contains h.0) round.order in
         let found = listed_alike p round s i (codes_of_sets order test sets) (subst (IsOrder p) (sym e) whole) are.groups h.0 h.1 h.2 in
@@ -95,5 +95,5 @@ module _ (C : Type 0) (test : C → ℕ → Bool) (order : List ℕ) (p : Proble
         both_true (contains order c) (test all (place order c)) parts.0 (together (place order c) ∙ any_from_has (λ g. test g (place order c)) sets r.0 r.1 parts.1)
 
     -- a county is counted exactly where its place is in some set
-    pub counted_tests : (c : ℕ) → (has_county order test all c ≡ true) ↔ IsInFittingGroup round.language p s i c
+    pub counted_tests : (c : ℕ) → (has_county order test all c ≡ true) ↔ IsInFittingGroup round.format p s i c
     counted_tests c = (counted_there c, counted_back c)

@@ -43,7 +43,7 @@ fn count_allowance<C: CountySet>(
     ensures line { IfOk
         result
         (λ allowed. (line : AllowanceValue)
-        → IsCountLine round.now.language (problem_of ordered.now.problem) (state_at ordered.now.order C.test state.now) size line
+        → IsCountLine round.now.format (problem_of ordered.now.problem) (state_at ordered.now.order C.test state.now) size line
         → allowance (problem_of ordered.now.problem) (state_at ordered.now.order C.test state.now) size used line
         ≡ allowed) }
     ensures few { IfOk result (λ allowed. (allowed ≤ most_counties) × (used + size * allowed ≤ most_counties)) }
@@ -144,7 +144,7 @@ pub(crate) fn bounding_lines<C: CountySet>(
         found
         ((lines : List AllowanceValue)
         → length lines ≤ length lists.now
-        → AreCountLines round.now.language (problem_of ordered.now.problem) (state_at ordered.now.order C.test state.now) 1 lines
+        → AreCountLines round.now.format (problem_of ordered.now.problem) (state_at ordered.now.order C.test state.now) 1 lines
         → ¬ IsBound (problem_of ordered.now.problem) (round_of round.now) (state_at ordered.now.order C.test state.now) lines)
         (λ v. IsBound (problem_of ordered.now.problem) (round_of round.now) (state_at ordered.now.order C.test state.now) (map allowance_of v.items))) }
 {

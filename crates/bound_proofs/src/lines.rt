@@ -53,7 +53,7 @@ fn count_line<C: CountySet>(
         (λ line. (round : RoundValue) (s : StateValue)
         → round.order ≡ ordered.now.order
         → IsListOf C.test ordered.now.order (problem_of ordered.now.problem) round s size groups.now
-        → IsCountLine round.language (problem_of ordered.now.problem) s size (allowance_of line)) }
+        → IsCountLine round.format (problem_of ordered.now.problem) s size (allowance_of line)) }
 {
     let _places = ordered.places();
     let counted = places_in(alloc, groups)?;
@@ -88,7 +88,7 @@ pub(crate) fn count_lines<C: CountySet>(
         (λ v. (round : RoundValue) (s : StateValue)
         → round.order ≡ ordered.now.order
         → AreListsFrom C.test ordered.now.order (problem_of ordered.now.problem) round s 1 (map vec_items lists.now)
-        → AreCountLines round.language (problem_of ordered.now.problem) s 1 (map allowance_of v.items)) }
+        → AreCountLines round.format (problem_of ordered.now.problem) s 1 (map allowance_of v.items)) }
 {
     let mut lines = Vec::new(alloc);
     let mut size = 0;

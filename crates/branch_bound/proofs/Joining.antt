@@ -7,8 +7,8 @@ use Rattle.grouping_laws.specs.Sets.{contains}
 use Rattle.grouping_laws.specs.Grouping.{Grouping, sets_of}
 use Rattle.grouping_laws.specs.GroupsFrom.{IsBefore}
 use Rattle.certificate_data.specs.Round.{Round}
-use Rattle.certificate_data.specs.declared.language.Language.{Language}
-use Rattle.certificate_data.specs.declared.language.Language.TheVariants.{Plain, Wide}
+use Rattle.certificate_data.specs.declared.format.Format.{Format}
+use Rattle.certificate_data.specs.declared.format.Format.TheVariants.{Plain, Wide}
 use Rattle.certificate_laws.specs.State.{State, raise}
 use Rattle.certificate_data.specs.Tree.{Tree, branch, Takes, no_take, groups_of}
 use Rattle.certificate_laws.specs.Groups.{AreGroupsAt}
@@ -34,11 +34,11 @@ pub joined : (bs : List Branch) (b : Branch) (tree : Tree) → list_onto (bs ++ 
 joined [] b tree = refl
 joined (a ∷ bs) b tree = ap (branch_onto a) (joined bs b tree)
 
-pub wide_names : (language : Language) (size : ℕ) → language ≡ Wide → NamesLimit language (Some size)
-wide_names language size e = subst (λ l. NamesLimit l (Some size)) (sym e) tt
+pub wide_names : (format : Format) (size : ℕ) → format ≡ Wide → NamesLimit format (Some size)
+wide_names format size e = subst (λ l. NamesLimit l (Some size)) (sym e) tt
 
-pub plain_names : (language : Language) → language ≡ Plain → NamesLimit language None
-plain_names language e = subst (λ l. NamesLimit l None) (sym e) tt
+pub plain_names : (format : Format) → format ≡ Plain → NamesLimit format None
+plain_names format e = subst (λ l. NamesLimit l None) (sym e) tt
 
 -- what holds of a tree with one branch before it holds behind one branch more
 behind_one : (Here First : Tree → Type 0) (bs news : List Branch) (b : Branch) (put tree : Tree) → branch_onto b tree ≡ put → news ≡ bs ++ b ∷ [] → ((t : Tree) → Here t → First (list_onto bs t)) → Here put → First (list_onto news tree)
@@ -46,7 +46,7 @@ behind_one Here First bs news b put tree made pushed whole here =
     subst (λ (l : List Branch). First (list_onto l tree)) (sym pushed) (subst First (sym (joined bs b tree)) (whole (branch_onto b tree) (subst Here (sym made) here)))
 
 -- what proves the raised state proves, behind one branch more, the first one
-pub branch_step : (p : Problem) (round : Round) (first s : State) (county : ℕ) (limit : Option ℕ) (bs news : List Branch) (b : Branch) (takes : Takes) → NamesLimit round.language limit → CanBranch round s county (limit_of round limit) → AreGroupsAt p round s county (limit_of round limit) (groups_of takes) → EachProves takes p round s
+pub branch_step : (p : Problem) (round : Round) (first s : State) (county : ℕ) (limit : Option ℕ) (bs news : List Branch) (b : Branch) (takes : Takes) → NamesLimit round.format limit → CanBranch round s county (limit_of round limit) → AreGroupsAt p round s county (limit_of round limit) (groups_of takes) → EachProves takes p round s
     → ((raised : Tree) → branch_onto b raised ≡ branch county limit takes raised) → news ≡ bs ++ b ∷ [] → ((tree : Tree) → Proves tree p round s → Proves (list_onto bs tree) p round first)
     → (tree : Tree) → Proves tree p round (raise county (limit_of round limit) s) → Proves (list_onto news tree) p round first
 branch_step p round first s county limit bs news b takes names can groups each made pushed whole tree proves =
@@ -62,19 +62,19 @@ pub all_parts : {X : Type 0} (P : X → Type 0) (xs ys : List X) → AllByRecurs
 all_parts P [] ys a = (tt, a)
 all_parts P (x ∷ xs) ys a = let rest = all_parts P xs ys a.1 in ((a.0, rest.0), rest.1)
 
-pub wide_fits : (language : Language) (county size : ℕ) → language ≡ Wide → county ≤ 99999 → 1 ≤ size → size ≤ most → FitsInTree language (item.Opens (opening.Branch county (Some size)))
-wide_fits language county size e c from to = subst (λ l. IsWanted (want.Tree l 1) (item.Opens (opening.Branch county (Some size)))) (sym e) (c, from, to, omega arith)
+pub wide_fits : (format : Format) (county size : ℕ) → format ≡ Wide → county ≤ 99999 → 1 ≤ size → size ≤ most → FitsInTree format (item.Opens (opening.Branch county (Some size)))
+wide_fits format county size e c from to = subst (λ l. IsWanted (want.Tree l 1) (item.Opens (opening.Branch county (Some size)))) (sym e) (c, from, to, omega arith)
 
-pub plain_fits : (language : Language) (county : ℕ) → language ≡ Plain → county ≤ 99999 → FitsInTree language (item.Opens (opening.Branch county None))
-plain_fits language county e c = subst (λ l. IsWanted (want.Tree l 1) (item.Opens (opening.Branch county None))) (sym e) (c, omega arith)
+pub plain_fits : (format : Format) (county : ℕ) → format ≡ Plain → county ≤ 99999 → FitsInTree format (item.Opens (opening.Branch county None))
+plain_fits format county e c = subst (λ l. IsWanted (want.Tree l 1) (item.Opens (opening.Branch county None))) (sym e) (c, omega arith)
 
-pub lines_step : (language : Language) (county : ℕ) (limit : Option ℕ) (bs news : List Branch) (b : Branch) (takes : Takes) → FitsInTree language (item.Opens (opening.Branch county limit)) → AllByRecursion (FitsInTree language) (items_of_takes takes)
-    → items_of_branch b ≡ item.Opens (opening.Branch county limit) ∷ (items_of_takes takes ++ item.Mark ∷ []) → news ≡ bs ++ b ∷ [] → AllByRecursion (FitsInTree language) (items_of_branches bs) → AllByRecursion (FitsInTree language) (items_of_branches news)
-lines_step language county limit bs news b takes fits lines made pushed before =
-    let here : AllByRecursion (FitsInTree language) (items_of_branch b) =
-    subst (λ (l : List Item). AllByRecursion (FitsInTree language) l) (sym made) (fits, all_append (FitsInTree language) (items_of_takes takes) (item.Mark ∷ []) lines (tt, tt)) in
-    subst (λ (l : List Branch). AllByRecursion (FitsInTree language) (items_of_branches l)) (sym pushed)
-    (subst (λ (l : List Item). AllByRecursion (FitsInTree language) l) (sym (branches_more bs b)) (all_append (FitsInTree language) (items_of_branches bs) (items_of_branch b) before here))
+pub lines_step : (format : Format) (county : ℕ) (limit : Option ℕ) (bs news : List Branch) (b : Branch) (takes : Takes) → FitsInTree format (item.Opens (opening.Branch county limit)) → AllByRecursion (FitsInTree format) (items_of_takes takes)
+    → items_of_branch b ≡ item.Opens (opening.Branch county limit) ∷ (items_of_takes takes ++ item.Mark ∷ []) → news ≡ bs ++ b ∷ [] → AllByRecursion (FitsInTree format) (items_of_branches bs) → AllByRecursion (FitsInTree format) (items_of_branches news)
+lines_step format county limit bs news b takes fits lines made pushed before =
+    let here : AllByRecursion (FitsInTree format) (items_of_branch b) =
+    subst (λ (l : List Item). AllByRecursion (FitsInTree format) l) (sym made) (fits, all_append (FitsInTree format) (items_of_takes takes) (item.Mark ∷ []) lines (tt, tt)) in
+    subst (λ (l : List Branch). AllByRecursion (FitsInTree format) (items_of_branches l)) (sym pushed)
+    (subst (λ (l : List Item). AllByRecursion (FitsInTree format) l) (sym (branches_more bs b)) (all_append (FitsInTree format) (items_of_branches bs) (items_of_branch b) before here))
 
 -- one take more
 pub take_step : (p : Problem) (round : Round) (s : State) (groups : List (List ℕ)) (group : List ℕ) (ts : List Take) (t : Take) → AreTakesOf p round s groups ts → IsTakeOf p round s group t → AreTakesOf p round s (groups ++ group ∷ []) (ts ++ t ∷ [])
@@ -97,11 +97,11 @@ take_step p round s groups group ts t are is = record {
     complete_behind [] fits e = subst (λ (x : Takes). EachIsComplete x p round s) (sym (is.is no_take)) (is.complete fits, tt)
     complete_behind (Take' codes tree ∷ us) fits e = (e.0, complete_behind us fits e.1)
 
-    lines_behind : (us : List Take) → AllByRecursion (FitsInTree round.language) (items_of_takes (list_of_takes us)) → AllByRecursion (FitsInTree round.language) (items_of_takes (list_of_takes (us ++ t ∷ [])))
-    lines_behind [] e = subst (λ (x : Takes). AllByRecursion (FitsInTree round.language) (items_of_takes x)) (sym (is.is no_take)) (is.lines.0, all_append (FitsInTree round.language) (items_of_tree is.tree) [] is.lines.1 tt)
+    lines_behind : (us : List Take) → AllByRecursion (FitsInTree round.format) (items_of_takes (list_of_takes us)) → AllByRecursion (FitsInTree round.format) (items_of_takes (list_of_takes (us ++ t ∷ [])))
+    lines_behind [] e = subst (λ (x : Takes). AllByRecursion (FitsInTree round.format) (items_of_takes x)) (sym (is.is no_take)) (is.lines.0, all_append (FitsInTree round.format) (items_of_tree is.tree) [] is.lines.1 tt)
     lines_behind (Take' codes tree ∷ us) e =
-        let parts = all_parts (FitsInTree round.language) (items_of_tree (tree_of tree)) (items_of_takes (list_of_takes us)) e.1 in
-        (e.0, all_append (FitsInTree round.language) (items_of_tree (tree_of tree)) (items_of_takes (list_of_takes (us ++ t ∷ []))) parts.0 (lines_behind us parts.1))
+        let parts = all_parts (FitsInTree round.format) (items_of_tree (tree_of tree)) (items_of_takes (list_of_takes us)) e.1 in
+        (e.0, all_append (FitsInTree round.format) (items_of_tree (tree_of tree)) (items_of_takes (list_of_takes (us ++ t ∷ []))) parts.0 (lines_behind us parts.1))
 
 -- groups that stand in one order stand in an equal one
 pub sorted_as : (order other : List ℕ) (groups : Grouping) → order ≡ other → AllPairs (IsBefore order) (sets_of groups) → All (λ m. filter (contains m.codes) order ≡ m.codes) groups → IsSorted other groups

@@ -39,7 +39,7 @@ module _ (C : Type 0) (test : C → ℕ → Bool) (places : ℕ) (g : SearchInpu
       is.known.each (codes_of_set g.graph.now.ordered.now.order test set)
       (contains_from_has (sets at.groups.items) (codes_of_set g.graph.now.ordered.now.order test set) (mapped_has (codes_of_set g.graph.now.ordered.now.order test) at.groups.items set has))
 
-  pub none_at : at.groups.items ≡ [] → (group : List ℕ) → Fits g.round.now.language (search_problem g) s group → length group ≤ at.size → ⊥
+  pub none_at : at.groups.items ≡ [] → (group : List ℕ) → Fits g.round.now.format (search_problem g) s group → length group ≤ at.size → ⊥
   none_at empty group fits small =
       none_left (search_problem g) (search_round g) s at.size (subst (IsOrder (search_problem g)) input.order order) (subst (λ z. IsKnown (search_problem g) (search_round g) s at.size (codes_of_sets g.graph.now.ordered.now.order test z)) empty is.known) group fits small
 

@@ -12,8 +12,8 @@ use Rattle.grouping_laws.specs.Allowance.{HasWindow}
 use Rattle.grouping_laws.proofs.AllowanceLemmas.{names_its_own}
 use Rattle.grouping_laws.proofs.Digits.{often_member}
 use Rattle.certificate_data.specs.Round.{Round}
-use Rattle.certificate_data.specs.declared.language.Language.{Language}
-use Rattle.certificate_data.specs.declared.language.Language.TheVariants.{Plain, Wide}
+use Rattle.certificate_data.specs.declared.format.Format.{Format}
+use Rattle.certificate_data.specs.declared.format.Format.TheVariants.{Plain, Wide}
 use Rattle.certificate_data.specs.declared.round.Round.{Round as RoundHeld}
 use Rattle.certificate_data.specs.RoundValue.{round_of}
 use Rattle.certificate_laws.specs.State.{State, empty_state}
@@ -41,18 +41,18 @@ use Rattle.branch_bound.specs.declared.answer.Answer.TheVariants.{Best, Impossib
 
 -- a round with a tree that proves it where nothing is closed
 certified : (p : Problem) (r : Round) (round : RoundHeld) (tree : Tree) → round_of round ≡ r → HasWindow p r.window → IsOrder p r.order → TargetFits p r.limit r.target → length r.order ≤ most_counties → r.limit ≤ most_counties → AreCodes round.order → FitsRange round.window → TargetHasLines r.target
-    → Proves (tree_of tree) p r (empty_state p) × HasLines r.language (tree_of tree) → Certifies p r.language r.target (record { round = round; tree = tree })
+    → Proves (tree_of tree) p r (empty_state p) × HasLines r.format (tree_of tree) → Certifies p r.format r.target (record { round = round; tree = tree })
 certified p r round tree e window order fits few small codes range target proof =
-    subst (λ (x : Round). HasWindow p x.window → IsOrder p x.order → TargetFits p x.limit x.target → length x.order ≤ most_counties → x.limit ≤ most_counties → TargetHasLines x.target → Proves (tree_of tree) p x (empty_state p) × HasLines x.language (tree_of tree) → Certifies p x.language x.target c) e whole window order fits few small target proof
+    subst (λ (x : Round). HasWindow p x.window → IsOrder p x.order → TargetFits p x.limit x.target → length x.order ≤ most_counties → x.limit ≤ most_counties → TargetHasLines x.target → Proves (tree_of tree) p x (empty_state p) × HasLines x.format (tree_of tree) → Certifies p x.format x.target c) e whole window order fits few small target proof
   where
     c : CertificateHeld
     c = record { round = round; tree = tree }
 
-    whole : HasWindow p round.window → IsOrder p round.order → TargetFits p round.limit (round_of round).target → length round.order ≤ most_counties → round.limit ≤ most_counties → TargetHasLines (round_of round).target → Proves (tree_of tree) p (round_of round) (empty_state p) × HasLines round.language (tree_of tree)
-        → Certifies p round.language (round_of round).target c
+    whole : HasWindow p round.window → IsOrder p round.order → TargetFits p round.limit (round_of round).target → length round.order ≤ most_counties → round.limit ≤ most_counties → TargetHasLines (round_of round).target → Proves (tree_of tree) p (round_of round) (empty_state p) × HasLines round.format (tree_of tree)
+        → Certifies p round.format (round_of round).target c
     whole window order fits few small target proof =
         let is : IsCertificate p (certificate_of c).round (certificate_of c).tree = record { window = window; order = order; target = fits; proof = proof.0 } in
-        record { proves = is; target_is = refl; language_is = refl; spelled = have_texts.certificate p (certificate_of c) is range few codes small target proof.1 }
+        record { proves = is; target_is = refl; format_is = refl; spelled = have_texts.certificate p (certificate_of c) is range few codes small target proof.1 }
 
 -- the certificate of a target that is best
 best_certified : (p : Problem) (order : List ℕ) (limit : ℕ) (g : Grouping) (round : RoundHeld) (tree : Tree) → IsOrder p order → length order ≤ most_counties → IsTarget p order g → limit ≤ most_counties → All (λ (m : Group). length m.codes ≤ limit) g
@@ -76,10 +76,10 @@ best_complete p order limit g round tree target large e proof = subst (λ (x : R
 
 -- a leaf alone
 leaf_proof : (p : Problem) (r : Round) (s : State) (branches : Vec Branch Global) (last : Leaf) → branches.items ≡ [] → IsGivenLeaf p r s last
-    → Proves (tree_of (roll-Tree (record { branches = branches; leaf = last }))) p r s × HasLines r.language (tree_of (roll-Tree (record { branches = branches; leaf = last })))
+    → Proves (tree_of (roll-Tree (record { branches = branches; leaf = last }))) p r s × HasLines r.format (tree_of (roll-Tree (record { branches = branches; leaf = last })))
 leaf_proof p r s branches last none given =
     let made : tree_of (roll-Tree (record { branches = branches; leaf = last })) ≡ leaf (leaf_of last) = made_tree branches last ∙ alone branches.items none in
-    subst (λ (t : TreeValue). Proves t p r s × HasLines r.language t) (sym made) (given.valid, given.lines)
+    subst (λ (t : TreeValue). Proves t p r s × HasLines r.format t) (sym made) (given.valid, given.lines)
   where
     alone : (bs : List Branch) → bs ≡ [] → list_onto bs (leaf (leaf_of last)) ≡ leaf (leaf_of last)
     alone bs e = ap (λ (l : List Branch). list_onto l (leaf (leaf_of last))) e
@@ -92,8 +92,8 @@ impossible_certified p order round branches last whole few e codes range none gi
     certified p r round (roll-Tree (record { branches = branches; leaf = last })) e (names_its_own p) whole tt few (omega arith) codes range tt (leaf_proof p r (empty_state p) branches last none (subst (λ (x : Round). IsGivenLeaf p x (empty_state p) last) e given))
 
 -- what a certificate shows of the target that it names
-shown : (p : Problem) (language : Language) (target : Option Grouping) (c : CertificateHeld) → Certifies p language target c → Conclusion p target
-shown p language target c is = subst (Conclusion p) is.target_is (certificate_shows p (certificate_of c).round (certificate_of c).tree is.proves)
+shown : (p : Problem) (format : Format) (target : Option Grouping) (c : CertificateHeld) → Certifies p format target c → Conclusion p target
+shown p format target c is = subst (Conclusion p) is.target_is (certificate_shows p (certificate_of c).round (certificate_of c).tree is.proves)
 
 pub answer_names_best : (p : Problem) (limit : ℕ) (a : Answer) → IsSolveAnswer p limit a → SolveIsRight p a
 answer_names_best p limit (Best g c) is = shown p Wide (Some g.groups.items) c is.1

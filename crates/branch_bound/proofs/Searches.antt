@@ -59,9 +59,9 @@ take_made p round s closed group codes t is same set proof = record {
 }
 
 -- a better grouping where a group is closed is one
-pub better_closed : (p : Problem) (round : Round) (s closed : State) (group : List ℕ) (g : GroupingHeld) → closed ≡ close group s → Fits round.language p s group → IsBetter p round closed g → IsBetter p round s g
+pub better_closed : (p : Problem) (round : Round) (s closed : State) (group : List ℕ) (g : GroupingHeld) → closed ≡ close group s → Fits round.format p s group → IsBetter p round closed g → IsBetter p round s g
 better_closed p round s closed group g is fits better = record {
-  found = (better.found.0, (branch_keeps_state).closed_agrees round.language p s group g.groups.items fits (subst (λ z. Agrees z g.groups.items) is better.found.1), better.found.2);
+  found = (better.found.0, (branch_keeps_state).closed_agrees round.format p s group g.groups.items fits (subst (λ z. Agrees z g.groups.items) is better.found.1), better.found.2);
   sorted = better.sorted;
   lines = better.lines;
 }
@@ -93,11 +93,11 @@ module _ (C : Type 0) (test : C → ℕ → Bool) (order : List ℕ) (p : Proble
       (take_step p round s (codes_of_sets order test (take i groups)) (codes_of_set order test item) ts t are is))
 
 -- a leaf behind the branches so far
-pub leaf_end : (p : Problem) (round : Round) (first s : State) (branches : Vec Branch Global) (last : DeclaredLeaf) → ((t : Tree) → Proves t p round s → Proves (list_onto branches.items t) p round first) → AllByRecursion (FitsInTree round.language) (items_of_branches branches.items)
+pub leaf_end : (p : Problem) (round : Round) (first s : State) (branches : Vec Branch Global) (last : DeclaredLeaf) → ((t : Tree) → Proves t p round s → Proves (list_onto branches.items t) p round first) → AllByRecursion (FitsInTree round.format) (items_of_branches branches.items)
     → (TargetFits p round.limit round.target → (t : Tree) → IsComplete t p round s → IsComplete (list_onto branches.items t) p round first) → IsEnd p round s last → IsProof p round first (roll-Tree (record { branches = branches; leaf = last }))
 leaf_end p round first s branches last whole lines complete end = (
   subst (λ (t : Tree). Proves t p round first) (sym (made_tree branches last)) (whole (leaf (leaf_of last)) end.0.valid),
-  subst (λ (l : List Item). AllByRecursion (FitsInTree round.language) l) (sym (tree_items branches last)) (all_append (FitsInTree round.language) (items_of_branches branches.items) (leaf_items (leaf_of last)) lines end.0.lines),
+  subst (λ (l : List Item). AllByRecursion (FitsInTree round.format) l) (sym (tree_items branches last)) (all_append (FitsInTree round.format) (items_of_branches branches.items) (leaf_items (leaf_of last)) lines end.0.lines),
   λ fits. subst (λ (t : Tree). IsComplete t p round first) (sym (made_tree branches last)) (complete fits (leaf (leaf_of last)) (end.1 fits)),
 )
 
@@ -106,7 +106,7 @@ module _ (p : Problem) (round : Round) (first s : State) (county : ℕ) (limit :
   size = limit_of round limit
 
   -- a tree where the county is raised, behind one branch more
-  pub branched : (next : State) (groups : List (List ℕ)) → NamesLimit round.language limit → CanBranch round s county size → AreGroupsAt p round s county size groups → AreTakesOf p round s groups takes.items → next ≡ raise county size s → ((t : Tree) → Proves t p round s → Proves (list_onto bs t) p round first)
+  pub branched : (next : State) (groups : List (List ℕ)) → NamesLimit round.format limit → CanBranch round s county size → AreGroupsAt p round s county size groups → AreTakesOf p round s groups takes.items → next ≡ raise county size s → ((t : Tree) → Proves t p round s → Proves (list_onto bs t) p round first)
       → (t : Tree) → Proves t p round next → Proves (list_onto news t) p round first
   branched next groups names can all are raised whole t proves =
       branch_step p round first s county limit bs news (roll-Branch (record { county = county; limit = limit; takes = takes })) (list_of_takes takes.items) names can (subst (AreGroupsAt p round s county size) (sym are.groups_are) all) are.each
@@ -118,9 +118,9 @@ module _ (p : Problem) (round : Round) (first s : State) (county : ℕ) (limit :
       complete_step p round first s county limit bs news (roll-Branch (record { county = county; limit = limit; takes = takes })) (list_of_takes takes.items) (are.complete fits) (λ r. made_takes county limit takes r) pushed whole t
       (subst (λ z. IsComplete t p round z) raised complete)
 
-  pub branched_lines : (groups : List (List ℕ)) → FitsInTree round.language (item.Opens (opening.Branch county limit)) → AreTakesOf p round s groups takes.items → AllByRecursion (FitsInTree round.language) (items_of_branches bs) → AllByRecursion (FitsInTree round.language) (items_of_branches news)
+  pub branched_lines : (groups : List (List ℕ)) → FitsInTree round.format (item.Opens (opening.Branch county limit)) → AreTakesOf p round s groups takes.items → AllByRecursion (FitsInTree round.format) (items_of_branches bs) → AllByRecursion (FitsInTree round.format) (items_of_branches news)
   branched_lines groups fits are lines =
-      lines_step round.language county limit bs news (roll-Branch (record { county = county; limit = limit; takes = takes })) (list_of_takes takes.items) fits are.lines (made_branch county limit takes) pushed lines
+      lines_step round.format county limit bs news (roll-Branch (record { county = county; limit = limit; takes = takes })) (list_of_takes takes.items) fits are.lines (made_branch county limit takes) pushed lines
 
 -- what agrees where a county is raised agreed before
 pub raised_agrees : (round : Round) (s next : State) (county size : ℕ) (h : Grouping) → CanBranch round s county size → next ≡ raise county size s → Agrees next h → Agrees s h

@@ -1,12 +1,12 @@
--- What a desk answers.
+-- What a solver answers.
 use Rattle.std.specs.Prelude.{ℕ, ◌≡◌, ◌≤◌, ◌<◌, List, length, All, AllPairs, Option, Some, None, ◌⊎◌, ⊤}
 use Rattle.std.specs.List.Sorted.{IsStrictlyIncreasing}
 use Rattle.grouping_laws.specs.Problem.{Problem}
 use Rattle.grouping_laws.specs.Grouping.{Grouping, Lawful, sets_of, IsBest, IsImpossible}
 use Rattle.grouping_laws.specs.GroupsFrom.{IsLesser}
 use Rattle.county_codes.specs.declared.group.Grouping.{Grouping as GroupingHeld}
-use Rattle.certificate_data.specs.declared.language.Language.{Language}
-use Rattle.certificate_data.specs.declared.language.Language.TheVariants.{Plain, Wide}
+use Rattle.certificate_data.specs.declared.format.Format.{Format}
+use Rattle.certificate_data.specs.declared.format.Format.TheVariants.{Plain, Wide}
 use Rattle.certificate_laws.specs.State.{empty_state}
 use Rattle.certificate_laws.specs.Certificate.{IsCertificate}
 use Rattle.list_laws.specs.Completeness.{IsComplete}
@@ -21,11 +21,11 @@ abbrev pub SolveIsRight : Problem → Answer → Type 0
 SolveIsRight p (Best g c) = IsBest p g.groups.items
 SolveIsRight p _ = ⊤
 
--- a certificate of the problem in the language, whose target is this one, and which a text spells
-pub record Certifies (p : Problem) (language : Language) (target : Option Grouping) (c : CertificateHeld) : Type 0 where
+-- a certificate of the problem in the format, whose target is this one, and which a text spells
+pub record Certifies (p : Problem) (format : Format) (target : Option Grouping) (c : CertificateHeld) : Type 0 where
   pub proves : IsCertificate p (certificate_of c).round (certificate_of c).tree
   pub target_is : (certificate_of c).round.target ≡ target
-  pub language_is : (certificate_of c).round.language ≡ language
+  pub format_is : (certificate_of c).round.format ≡ format
   pub spelled : (text : List ℕ) × IsSpelling text (certificate_of c)
 
 -- the groups stand by size and then by codes, and the codes of each ascend

@@ -1,8 +1,8 @@
--- What a desk answers of a piece of a round: a state.
+-- What a solver answers of a piece of a round: a state.
 use Rattle.std.specs.Prelude.{◌≡◌, ◌≤◌, Option, Some, None, ⊤}
 use Rattle.grouping_laws.specs.Problem.{Problem}
 use Rattle.certificate_data.specs.TreeValue.{tree_of}
-use Rattle.certificate_data.specs.declared.language.Language.TheVariants.{Wide}
+use Rattle.certificate_data.specs.declared.format.Format.TheVariants.{Wide}
 use Rattle.certificate_data.specs.Round.{Round}
 use Rattle.certificate_laws.specs.Certificate.{HasGroupsWithin}
 use Rattle.certificate_laws.specs.State.{State}
@@ -16,12 +16,12 @@ use Rattle.branch_bound.specs.declared.piece.Split.{Split}
 -- in a wide round one may branch there, by groups of one county at least
 abbrev pub IsSplit : Round → State → Option Split → Type 0
 IsSplit round s None = ⊤
-IsSplit round s (Some split) = (round.language ≡ Wide) × (1 ≤ split.limit) × CanBranch round s split.county split.limit
+IsSplit round s (Some split) = (round.format ≡ Wide) × (1 ≤ split.limit) × CanBranch round s split.county split.limit
 
 -- A proof tree of the state that a text spells, a lawful grouping that agrees with the state and is greater than the
 -- target, or a branch that the state may be split at. A grouping that is within the limit is one that a text spells.
 abbrev pub IsPiece : Problem → Round → State → Piece → Type 0
-IsPiece p round s (Proved tree) = Proves (tree_of tree) p round s × HasLines round.language (tree_of tree)
+IsPiece p round s (Proved tree) = Proves (tree_of tree) p round s × HasLines round.format (tree_of tree)
 IsPiece p round s (Better g) =
     IsFound p round s g.groups.items × HasGroupsWithin round.limit g.groups.items × HasTargetLines g.groups.items
 IsPiece p round s (Wider g) = IsFound p round s g.groups.items × ¬ HasGroupsWithin round.limit g.groups.items

@@ -3,7 +3,7 @@ use Rattle.std.specs.Prelude.{ℕ, ◌≡◌, ◌≤◌, ◌<◌, Bool, length}
 use Rattle.county_codes.specs.Limits.{most_counties}
 use Rattle.county_problem.specs.OrderedValue.{code_at}
 use Rattle.connected_sets.specs.Graphs.{IsGraph}
-use Rattle.certificate_data.specs.declared.language.Language.TheVariants.{Plain}
+use Rattle.certificate_data.specs.declared.format.Format.TheVariants.{Plain}
 use Rattle.certificate_laws.specs.State.{State, IsState}
 use Rattle.state_groups.specs.declared.state.State.{State as StateHeld}
 use Rattle.certificate_laws.specs.Proving.{CanBranch}
@@ -19,7 +19,7 @@ pub record IsPlainGround {C : Type 0} (places : ℕ) (test : C → ℕ → Bool)
   pub graph : IsGraph test places g.graph.now
   pub order : g.graph.now.ordered.now.order ≡ g.round.now.order
   pub small : g.round.now.limit ≤ most_counties
-  pub plain : g.round.now.language ≡ Plain
+  pub plain : g.round.now.format ≡ Plain
 
 -- the state is one of the round, by the places of the order
 pub record IsStateOf {C : Type 0} (test : C → ℕ → Bool) (g : SearchInput C) (s : StateHeld C) : Type 0 where

@@ -13,7 +13,7 @@ use Rattle.county_problem.specs.OrderedValue.{code_at}
 use Rattle.connected_sets.specs.Graphs.{IsGraph}
 use Rattle.connected_laws.specs.Listing.{AreBelow}
 use Rattle.certificate_data.specs.Round.{Round}
-use Rattle.certificate_data.specs.declared.language.Language.TheVariants.{Wide}
+use Rattle.certificate_data.specs.declared.format.Format.TheVariants.{Wide}
 use Rattle.certificate_data.specs.RoundValue.{round_of}
 use Rattle.certificate_laws.specs.State.{State, IsState, close}
 use Rattle.state_groups.specs.declared.state.State.{State as StateHeld}
@@ -62,7 +62,7 @@ pub record IsSearchInput {C : Type 0} (places : ℕ) (test : C → ℕ → Bool)
   pub graph : IsGraph test places g.graph.now
   pub order : g.graph.now.ordered.now.order ≡ g.round.now.order
   pub small : g.round.now.limit ≤ most_counties
-  pub wide : g.round.now.language ≡ Wide
+  pub wide : g.round.now.format ≡ Wide
 
 -- these are groups of one county more than the size, among them all that fit the state
 pub record IsLargerAt {C : Type 0} (test : C → ℕ → Bool) (g : SearchInput C) (s : State) (size : ℕ)
@@ -97,7 +97,7 @@ IsEnd p round s leaf =
 -- A proof tree, its numbers in the ranges of its lines. It is complete if the target fits the limit.
 abbrev pub IsProof : Problem → Round → State → Tree → Type 0
 IsProof p round s tree =
-    Proves (tree_of tree) p round s × HasLines round.language (tree_of tree)
+    Proves (tree_of tree) p round s × HasLines round.format (tree_of tree)
     × (TargetFits p round.limit round.target → IsComplete (tree_of tree) p round s)
 
 -- a lawful grouping that agrees with the state and is greater than the target, sorted
@@ -115,7 +115,7 @@ pub record IsTakeOf (p : Problem) (round : Round) (s : State) (group : List ℕ)
   pub tree : TreeValue
   pub is : (others : TakesValue) → take_onto t others ≡ take group tree others
   pub proves : Proves tree p round (close group s)
-  pub lines : AllByRecursion (FitsInTree round.language) (item.Takes group ∷ items_of_tree tree)
+  pub lines : AllByRecursion (FitsInTree round.format) (item.Takes group ∷ items_of_tree tree)
   pub complete : TargetFits p round.limit round.target → IsComplete tree p round (close group s)
 
 abbrev pub IsTakenGroup : Problem → Round → State → List ℕ → Taken → Type 0
@@ -127,7 +127,7 @@ pub record AreTakesOf (p : Problem) (round : Round) (s : State) (groups : List (
     (list : List Take) : Type 0 where
   pub groups_are : groups_of (list_of_takes list) ≡ groups
   pub each : EachProves (list_of_takes list) p round s
-  pub lines : AllByRecursion (FitsInTree round.language) (items_of_takes (list_of_takes list))
+  pub lines : AllByRecursion (FitsInTree round.format) (items_of_takes (list_of_takes list))
   pub complete : TargetFits p round.limit round.target → EachIsComplete (list_of_takes list) p round s
 
 -- all takes of a branch, each with its proof tree

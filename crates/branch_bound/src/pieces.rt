@@ -25,7 +25,7 @@ use crate::plain_search::prove_plain;
 use crate::position::Position;
 use crate::search::prove;
 use crate::watcher::NoWatcher;
-use certificate_data::{Language, Round, Tree};
+use certificate_data::{Format, Round, Tree};
 use connected_sets::{CountyGraph, Stop};
 use county_codes::Grouping;
 use county_problem::{OrderFault, Ordered, Problem, Steps};
@@ -191,9 +191,9 @@ fn ordered_piece<C: CountySet>(
         graph: &graph,
         round,
     };
-    match round.language {
-        Language::Wide => wide_piece(&input, state, steps),
-        Language::Plain => plain_piece(&input, state, steps),
+    match round.format {
+        Format::Wide => wide_piece(&input, state, steps),
+        Format::Plain => plain_piece(&input, state, steps),
     }
 }
 

@@ -54,7 +54,7 @@ fn plain_groups<C: CountySet>(
     }
     match groups_at(
         input.graph,
-        input.round.language,
+        input.round.format,
         state,
         place,
         input.round.limit,

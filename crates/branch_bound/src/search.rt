@@ -41,7 +41,7 @@ pub(crate) fn taken_of<C: CountySet>(
 ) -> Result<Taken, Stop>
     requires fits { graph_places input.now.graph.now ≤ C.PLACES }
     ensures taken { (s : StateValue)
-        → Fits input.now.round.now.language (search_problem input.now) s (codes_of_set (graph_order input.now.graph.now) C.test group.now)
+        → Fits input.now.round.now.format (search_problem input.now) s (codes_of_set (graph_order input.now.graph.now) C.test group.now)
         → length (codes_of_set (graph_order input.now.graph.now) C.test group.now) ≤ most_counties
         → IfOk outcome (IsOutcome (search_problem input.now) (search_round input.now) (close (codes_of_set (graph_order input.now.graph.now) C.test group.now) s))
         → IfOk result (IsTakenGroup (search_problem input.now) (search_round input.now) s (codes_of_set (graph_order input.now.graph.now) C.test group.now)) }

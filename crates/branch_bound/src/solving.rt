@@ -7,7 +7,7 @@ ghost use Rattle.county_codes.specs.Windows.{FitsRange};
 ghost use Rattle.connected_sets.specs.Graphs.{graph_problem, graph_order, graph_places, place_problem, IsGraph};
 ghost use Rattle.certificate_lines.specs.Fitting.{AreCodes};
 ghost use Rattle.county_problem.specs.ProblemValue.{problem_of};
-ghost use Rattle.certificate_data.specs.declared.language.Language.TheVariants.{Plain, Wide};
+ghost use Rattle.certificate_data.specs.declared.format.Format.TheVariants.{Plain, Wide};
 ghost use Rattle.certificate_data.specs.RoundValue.{round_of, target_of};
 ghost use Rattle.certificate_laws.specs.Leaves.{IsStuck, IsOffSeats};
 ghost use Rattle.certificate_laws.specs.State.{empty_state};
@@ -25,7 +25,7 @@ use crate::moves::first_position;
 use crate::outcome::{First, SearchOutcome};
 use crate::search::prove;
 use crate::watcher::{NoWatcher, Watcher};
-use certificate_data::{Certificate, Language, Leaf, Round, Tree};
+use certificate_data::{Certificate, Format, Leaf, Round, Tree};
 use connected_sets::{CountyGraph, Stop};
 use county_codes::{Codes, Grouping, listed_codes};
 use county_problem::{OrderFault, Ordered, Problem, Steps};
@@ -72,10 +72,10 @@ fn round_for(
     ordered: &Ordered,
     limit: u16,
     target: Option<Grouping>,
-    language: Language,
+    format: Format,
 ) -> Result<Round, AllocError>
     ensures value { IfOk result (λ round. round_of round
-        ≡ round_over (problem_of ordered.now.problem) ordered.now.order limit (target_of target) language) }
+        ≡ round_over (problem_of ordered.now.problem) ordered.now.order limit (target_of target) format) }
     ensures codes { IfOk result (λ round. AreCodes round.order) }
     ensures range { IfOk result (λ round. FitsRange round.window) }
 {
@@ -83,7 +83,7 @@ fn round_for(
         order: ordered.codes(alloc)?,
         limit,
         target,
-        language,
+        format,
         window: ordered.problem().named_window(),
     })
 }
@@ -99,7 +99,7 @@ fn prove_first<C: CountySet, W: Watcher>(
     requires graph { IsGraph C.test C.PLACES graph.now }
     requires order { graph_order graph.now ≡ round.now.order }
     requires small { round.now.limit ≤ most_counties }
-    requires wide { round.now.language ≡ Wide }
+    requires wide { round.now.format ≡ Wide }
     requires lists { AreListsOf C.test (place_problem graph.now) (graph_places graph.now) lists.old }
     ensures outcome { IfOk result (IsOutcome (graph_problem graph.now) (round_of round.now) (empty_state (graph_problem graph.now))) }
     ensures counted { OnOk result (steps.old.used < steps.new.used) }
@@ -112,8 +112,8 @@ fn prove_first<C: CountySet, W: Watcher>(
     prove(&input, first, lists, watcher, steps)
 }
 
-/// Searches a round up to groups of `limit` counties. Returns a proof tree of it, or a grouping that is greater than the
-/// `target`.
+/// Searches a round up to groups of `limit` counties. Returns a proof tree of it, or a grouping that is greater than
+/// the `target`.
 fn prove_round<C: CountySet, W: Watcher>(
     graph: &CountyGraph<C>,
     target: &Grouping,
@@ -142,7 +142,7 @@ fn prove_round<C: CountySet, W: Watcher>(
         graph.ordered,
         limit,
         Some(target.copy()?),
-        Language::Wide,
+        Format::Wide,
     )?;
     let outcome = prove_first(graph, &round, lists, watcher, steps);
     let _used = steps.used();
@@ -172,14 +172,14 @@ fn best(
     ensures complete { IfOk result (HasCompleteTree (problem_of ordered.now.problem)) }
 {
     let _places = ordered.places();
-    let round = round_for(alloc, ordered, limit, Some(target.copy()?), Language::Wide)?;
+    let round = round_for(alloc, ordered, limit, Some(target.copy()?), Format::Wide)?;
     Ok(Answer::Best(target, Certificate { round, tree }))
 }
 
 /// Returns the answer to which the search comes from `first`, a lawful grouping.
 ///
-/// Each greater grouping that is found is the next target. The limits of the rounds grow, until the limit is the size of
-/// the target's largest group.
+/// Each greater grouping that is found is the next target. The limits of the rounds grow, until the limit is the size
+/// of the target's largest group.
 fn improve<C: CountySet, W: Watcher>(
     graph: &CountyGraph<C>,
     first: Grouping,
@@ -261,7 +261,7 @@ fn first_at<C: CountySet>(graph: &CountyGraph<C>, state: &State<C>) -> Result<Fi
     requires empty { state_at (graph_order graph.now) C.test state.now ≡ empty_state (graph_problem graph.now) }
     ensures { IfOk result (IsFirst (graph_problem graph.now) (graph_order graph.now)) }
 {
-    let round = round_for(graph.alloc, graph.ordered, 0, None, Language::Plain)?;
+    let round = round_for(graph.alloc, graph.ordered, 0, None, Format::Plain)?;
     match whole_leaf(graph, &round, state) {
         Ok(Some(leaf)) => Ok(First::Impossible(impossible(
             graph.alloc,
@@ -337,7 +337,8 @@ pub fn solve_over<C: CountySet, W: Watcher>(
 
 /// Returns what `solve` answers, and tells a `watcher` how far the search is.
 ///
-/// The watcher is told each round as it begins, and each state that is entered. What is promised holds for each watcher.
+/// The watcher is told each round as it begins, and each state that is entered. What is promised holds for each
+/// watcher.
 ///
 /// # Errors
 ///
@@ -370,7 +371,7 @@ pub fn solve_watched<W: Watcher>(
 ///   answer, without a grouping.
 ///
 /// A step is a state that is entered, a set that is grown, a group that is tested for being live, or a look for the
-/// list of a part. The certificate of Best is in the wide language, and that of Impossible in the plain one. A text
+/// list of a part. The certificate of Best is in the wide format, and that of Impossible in the plain one. A text
 /// spells each. The certificate of Best is complete: its ends are the sets of all best groupings.
 ///
 /// # Errors

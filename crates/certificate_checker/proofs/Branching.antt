@@ -31,10 +31,10 @@ leaf_first : (last : Leaf) (p : Problem) (round : Round) (s : State) (more : Lis
 leaf_first last p round s more n l = (l.0, l.2, omega (arith, l.4))
 
 -- the sets of a branch are no more than all that is left looks through
-branch_first : (county : ℕ) (limit : Option ℕ) (takes : Takes) (raised : Tree) (p : Problem) (round : Round) (s : State) (more : List Open) (n : ℕ) → NamesLimit round.language limit → CanBranch round s county (limit_of round limit)
+branch_first : (county : ℕ) (limit : Option ℕ) (takes : Takes) (raised : Tree) (p : Problem) (round : Round) (s : State) (more : List Open) (n : ℕ) → NamesLimit round.format limit → CanBranch round s county (limit_of round limit)
     → WorkLooks (a_tree (branch county limit takes raised) s ∷ more) p round n → (m : ℕ) × AreSoMany round.order (IsSetAt p round.order s county (limit_of round limit)) m × (m ≤ n)
 branch_first county limit takes raised p round s more n names can l =
-    let fine = NamesLimit round.language limit × CanBranch round s county (limit_of round limit) in
+    let fine = NamesLimit round.format limit × CanBranch round s county (limit_of round limit) in
     let looked = AreSoMany round.order (IsSetAt p round.order s county (limit_of round limit)) in
     let inner : ℕ → Type 0 = λ z. (gs : List (List ℕ)) × AreGroupsAt p round s county (limit_of round limit) gs
     × Both (TakesLook takes p round s gs) (Where ((groups_of takes ≡ gs) × EachProves takes p round s) (TreeLooks raised p round (raise county (limit_of round limit) s))) z in
@@ -65,7 +65,7 @@ leaf_reaches p round s last old mid new rest more x (Err stop.Refused) took limi
 
 -- a branch that can stand, whose groups are listed
 pub branch_reaches : (p : Problem) (round : Round) (s : State) (county : ℕ) (limit : Option ℕ) (takes : Takes) (raised : Tree) (groups : List (List ℕ)) (more : List Open) (old mid : FeedValue) (used : ℕ) (x : Item) → TookLine old (Ok x) mid
-    → NamesLimit round.language limit → CanBranch round s county (limit_of round limit) → AreGroupsAt p round s county (limit_of round limit) groups
+    → NamesLimit round.format limit → CanBranch round s county (limit_of round limit) → AreGroupsAt p round s county (limit_of round limit) groups
     → ((m : ℕ) → AreSoMany round.order (IsSetAt p round.order s county (limit_of round limit)) m → used ≤ mid.used + 2 * m)
     → Reaches p round old (record mid { used = used }) (a_tree (branch county limit takes raised) s ∷ more) (some_takes takes s groups ∷ a_tree raised (raise county (limit_of round limit) s) ∷ more)
 branch_reaches p round s county limit takes raised groups more old mid used x took names can are looks = record {
@@ -77,8 +77,8 @@ branch_reaches p round s county limit takes raised groups more old mid used x to
 
 -- the judging of a branch's line stopped
 pub branch_halts : (p : Problem) (round : Round) (s : State) (county : ℕ) (limit : Option ℕ) (takes : Takes) (raised : Tree) (more : List Open) (old mid : FeedValue) (rest : List Item) (x : Item) (st : LineStop) (found : Halt) → TookLine old (Ok x) mid → mid.limit ≡ old.limit
-    → NamesLimit round.language limit → old.course.items ≡ items_of_tree (branch county limit takes raised) ++ rest
-    → StopsAt st (IsBranchFault round s county (limit_of round limit)) (NamesLimit round.language limit → ⊥)
+    → NamesLimit round.format limit → old.course.items ≡ items_of_tree (branch county limit takes raised) ++ rest
+    → StopsAt st (IsBranchFault round s county (limit_of round limit)) (NamesLimit round.format limit → ⊥)
     → (st ≡ line_stop.StepLimit → CanBranch round s county (limit_of round limit) × ((m : ℕ) → AreSoMany round.order (IsSetAt p round.order s county (limit_of round limit)) m → mid.limit ≤ mid.used + 2 * m))
     → IsStopAt mid.line st found → Halts p round old (a_tree (branch county limit takes raised) s ∷ more) rest found
 branch_halts p round s county limit takes raised more old mid rest x (line_stop.Fault f) found took same names items stops looks at =

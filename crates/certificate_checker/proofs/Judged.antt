@@ -21,11 +21,11 @@ use Rattle.certificate_checker.proofs.Taken.{form_taken}
 
 -- the lines in front of a tree
 pub round_lines : (c : Certificate) → length (round_items c) ≡ window_line c.round.window + 3 + target_lines c.round.target
-round_lines c = omega (arith, target_length c.round.target, head_length c.round.language c.round.window, length-append (items_of_head c.round.language c.round.window) (item.Order c.round.order ∷ item.Limit c.round.limit ∷ items_of_target c.round.target))
+round_lines c = omega (arith, target_length c.round.target, head_length c.round.format c.round.window, length-append (items_of_head c.round.format c.round.window) (item.Order c.round.order ∷ item.Limit c.round.limit ∷ items_of_target c.round.target))
 
 -- the items of a certificate are those of its round and those behind
 pub items_split : (c : Certificate) → items_of_certificate c ≡ round_items c ++ (items_of_tree c.tree ++ item.End ∷ [])
-items_split c = sym (append_assoc (items_of_head c.round.language c.round.window) (item.Order c.round.order ∷ item.Limit c.round.limit ∷ items_of_target c.round.target) (items_of_tree c.tree ++ item.End ∷ []))
+items_split c = sym (append_assoc (items_of_head c.round.format c.round.window) (item.Order c.round.order ∷ item.Limit c.round.limit ∷ items_of_target c.round.target) (items_of_tree c.tree ++ item.End ∷ []))
 
 -- the lines of a certificate
 all_lines : (c : Certificate) → length (items_of_certificate c) ≡ length (round_items c) + (length (items_of_tree c.tree) + 1)

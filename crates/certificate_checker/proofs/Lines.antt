@@ -1,7 +1,7 @@
 -- One line of a bound leaf, read and judged.
 use Rattle.std.proofs.Common.{◌≡◌, ℕ, ◌+◌, ◌*◌, ◌≤◌, List, [], ◌∷◌, ◌++◌, Result, Ok, Err, MatchResult, IfOk, IsErrOf, refl, sym, ◌∙◌, ap, subst, arith}
 use Rattle.grouping_laws.specs.Problem.{Problem}
-use Rattle.certificate_data.specs.declared.language.Language.{Language}
+use Rattle.certificate_data.specs.declared.format.Format.{Format}
 use Rattle.certificate_data.specs.Round.{Round}
 use Rattle.certificate_laws.specs.State.{State}
 use Rattle.certificate_data.specs.Tree.{Allowance}
@@ -24,9 +24,9 @@ use Rattle.certificate_checker.specs.Judging.{line_items, IsLineJudged, IsSmall,
 use Rattle.certificate_checker.specs.declared.feed.Halt.{Halt}
 use Rattle.certificate_checker.proofs.Views.{allowance_same}
 
-pub allowed_small : (language : Language) (p : Problem) (s : State) (wanted : ℕ → ℕ) (i used : ℕ) (line : Allowance) (allowed : Allowed) → IsAllowed language p s wanted i used line allowed → IsSmall allowed
-allowed_small language p s wanted i used line Loss h = tt
-allowed_small language p s wanted i used line (Even now) h = h.3
+pub allowed_small : (format : Format) (p : Problem) (s : State) (wanted : ℕ → ℕ) (i used : ℕ) (line : Allowance) (allowed : Allowed) → IsAllowed format p s wanted i used line allowed → IsSmall allowed
+allowed_small format p s wanted i used line Loss h = tt
+allowed_small format p s wanted i used line (Even now) h = h.3
 
 -- the line that was read is the first of those left
 same_line : (b : Allowance) (a : DeclaredAllowance) (xs ys : List Item) → Allows a ∷ xs ≡ Allows (declared_allowance b) ∷ ys → (allowance_of a ≡ b) × (declared_allowance b ≡ a) × (xs ≡ ys)
@@ -35,16 +35,16 @@ same_line b a xs ys e =
     (sym (ap allowance_of same) ∙ allowance_same b, same, cc)
 
 pub line_ok : (p : Problem) (round : Round) (s : State) (wanted : ℕ → ℕ) (i used : ℕ) (lines : List Allowance) (rest : List Item) (old mid new : FeedValue) (a : DeclaredAllowance) (allowed : Allowed)
-    → old.course ≡ first (Allows a) mid.course → old.course.items ≡ line_items lines ++ rest → new.course ≡ mid.course → new.line ≡ old.line + 1 → IsAllowed round.language p s wanted i used (allowance_of a) allowed
+    → old.course ≡ first (Allows a) mid.course → old.course.items ≡ line_items lines ++ rest → new.course ≡ mid.course → new.line ≡ old.line + 1 → IsAllowed round.format p s wanted i used (allowance_of a) allowed
     → ((m : ℕ) → LineLooks (allowance_of a) p round s i m → new.used ≤ old.used + 1 + 2 * m) → IsLineJudged p round s wanted i used lines rest old (Ok allowed) new
 line_ok p round s wanted i used [] rest old mid new a allowed took items same line is looks = tt
 line_ok p round s wanted i used (b ∷ others) rest old mid new a allowed took items same line is looks =
     let e : Allows a ∷ mid.course.items ≡ Allows (declared_allowance b) ∷ (line_items others ++ rest) = sym (ap (λ c. c.items) took) ∙ items in
     let v = same_line b a mid.course.items (line_items others ++ rest) e in
-    (ap (λ c. c.items) same ∙ v.2, line, subst (λ x. IsAllowed round.language p s wanted i used x allowed) v.0 is, λ m l. looks m (subst (λ x. LineLooks x p round s i m) (sym v.0) l))
+    (ap (λ c. c.items) same ∙ v.2, line, subst (λ x. IsAllowed round.format p s wanted i used x allowed) v.0 is, λ m l. looks m (subst (λ x. LineLooks x p round s i m) (sym v.0) l))
 
 pub line_stop_at : (p : Problem) (round : Round) (s : State) (wanted : ℕ → ℕ) (i used : ℕ) (lines : List Allowance) (rest : List Item) (old mid new : FeedValue) (a : DeclaredAllowance) (st : LineStop) (found : Halt)
-    → old.course ≡ first (Allows a) mid.course → old.course.items ≡ line_items lines ++ rest → AllowancesAreSpelled lines → IsStopAt (old.line + 1) st found → StopsAt st (IsAllowanceFault round.language p s wanted i used (allowance_of a)) (AllowanceIsSpelled a → ⊥)
+    → old.course ≡ first (Allows a) mid.course → old.course.items ≡ line_items lines ++ rest → AllowancesAreSpelled lines → IsStopAt (old.line + 1) st found → StopsAt st (IsAllowanceFault round.format p s wanted i used (allowance_of a)) (AllowanceIsSpelled a → ⊥)
     → (st ≡ line_stop.StepLimit → (m : ℕ) → LineLooks (allowance_of a) p round s i m → old.limit ≤ old.used + 1 + 2 * m) → IsLineJudged p round s wanted i used lines rest old (Err found) new
 line_stop_at p round s wanted i used [] rest old mid new a st found took items spelled at stops looks = tt
 line_stop_at p round s wanted i used (b ∷ others) rest old mid new a st found took items spelled at stops looks =
@@ -52,16 +52,16 @@ line_stop_at p round s wanted i used (b ∷ others) rest old mid new a st found 
     let v = same_line b a mid.course.items (line_items others ++ rest) e in
     by_stop st found at stops looks v.0 (subst AllowanceIsSpelled v.1 spelled.0)
   where
-    by_stop : (st : LineStop) (found : Halt) → IsStopAt (old.line + 1) st found → StopsAt st (IsAllowanceFault round.language p s wanted i used (allowance_of a)) (AllowanceIsSpelled a → ⊥)
+    by_stop : (st : LineStop) (found : Halt) → IsStopAt (old.line + 1) st found → StopsAt st (IsAllowanceFault round.format p s wanted i used (allowance_of a)) (AllowanceIsSpelled a → ⊥)
         → (st ≡ line_stop.StepLimit → (m : ℕ) → LineLooks (allowance_of a) p round s i m → old.limit ≤ old.used + 1 + 2 * m) → allowance_of a ≡ b → AllowanceIsSpelled a → IsLineJudged p round s wanted i used (b ∷ others) rest old (Err found) new
-    by_stop (line_stop.Fault f) found at stops looks same is = subst (λ x. IsLineJudged p round s wanted i used (b ∷ others) rest old (Err x) new) (sym at) (stops.0, stops.1, subst (λ x. IsAllowanceFault round.language p s wanted i used x stops.0) same stops.2, refl)
+    by_stop (line_stop.Fault f) found at stops looks same is = subst (λ x. IsLineJudged p round s wanted i used (b ∷ others) rest old (Err x) new) (sym at) (stops.0, stops.1, subst (λ x. IsAllowanceFault round.format p s wanted i used x stops.0) same stops.2, refl)
     by_stop line_stop.Unspelled found at stops looks same is = absurd (stops is)
     by_stop line_stop.StepLimit found at stops looks same is = subst (λ x. IsLineJudged p round s wanted i used (b ∷ others) rest old (Err x) new) (sym at) (λ m l. looks refl m (subst (λ x. LineLooks x p round s i m) (sym same) l))
     by_stop line_stop.Memory found at stops looks same is = subst (λ x. IsLineJudged p round s wanted i used (b ∷ others) rest old (Err x) new) (sym at) tt
 
 pub line_judged : (p : Problem) (round : Round) (s : State) (wanted : ℕ → ℕ) (i used : ℕ) (lines : List Allowance) (rest : List Item) (old mid new : FeedValue) (a : DeclaredAllowance) (judged : Result Allowed LineStop) (r : Result Allowed Halt)
     → TookLine old (Ok (Allows a)) mid → mid.limit ≡ old.limit → old.course.items ≡ line_items lines ++ rest → new.course ≡ mid.course → new.line ≡ mid.line → AllowancesAreSpelled lines
-    → MatchResult judged (IsAllowed round.language p s wanted i used (allowance_of a)) (λ st. StopsAt st (IsAllowanceFault round.language p s wanted i used (allowance_of a)) (AllowanceIsSpelled a → ⊥))
+    → MatchResult judged (IsAllowed round.format p s wanted i used (allowance_of a)) (λ st. StopsAt st (IsAllowanceFault round.format p s wanted i used (allowance_of a)) (AllowanceIsSpelled a → ⊥))
     → IfOk judged (λ _. (m : ℕ) → LineLooks (allowance_of a) p round s i m → new.used ≤ mid.used + 2 * m)
     → (IsErrOf judged line_stop.StepLimit → (m : ℕ) → LineLooks (allowance_of a) p round s i m → mid.limit ≤ mid.used + 2 * m)
     → IsJudgedAt mid.line judged r → IsLineJudged p round s wanted i used lines rest old r new
@@ -73,12 +73,12 @@ line_judged p round s wanted i used lines rest old mid new a (Err st) (Err found
 line_judged p round s wanted i used lines rest old mid new a (Ok x) (Err found) took limit items same line spelled is looks stops at = absurd at
 line_judged p round s wanted i used lines rest old mid new a (Err st) (Ok y) took limit items same line spelled is looks stops at = absurd at
 
-pub judged_small : (language : Language) (p : Problem) (s : State) (wanted : ℕ → ℕ) (i used line : ℕ) (a : Allowance) (judged : Result Allowed LineStop) (r : Result Allowed Halt) (Other : LineStop → Type 0)
-    → MatchResult judged (IsAllowed language p s wanted i used a) Other → IsJudgedAt line judged r → IfOk r IsSmall
-judged_small language p s wanted i used line a (Ok x) (Ok y) Other is at = subst IsSmall (sym at) (allowed_small language p s wanted i used a x is)
-judged_small language p s wanted i used line a (Ok x) (Err found) Other is at = tt
-judged_small language p s wanted i used line a (Err st) (Ok y) Other is at = absurd at
-judged_small language p s wanted i used line a (Err st) (Err found) Other is at = tt
+pub judged_small : (format : Format) (p : Problem) (s : State) (wanted : ℕ → ℕ) (i used line : ℕ) (a : Allowance) (judged : Result Allowed LineStop) (r : Result Allowed Halt) (Other : LineStop → Type 0)
+    → MatchResult judged (IsAllowed format p s wanted i used a) Other → IsJudgedAt line judged r → IfOk r IsSmall
+judged_small format p s wanted i used line a (Ok x) (Ok y) Other is at = subst IsSmall (sym at) (allowed_small format p s wanted i used a x is)
+judged_small format p s wanted i used line a (Ok x) (Err found) Other is at = tt
+judged_small format p s wanted i used line a (Err st) (Ok y) Other is at = absurd at
+judged_small format p s wanted i used line a (Err st) (Err found) Other is at = tt
 
 -- a call that only judges keeps what was read
 pub kept_fed : {X : Type 0} (old new : FeedValue) (line : ℕ) (judged : Result X LineStop) (r : Result X Halt) → Fed old new → IsJudgedAt line judged r → IsFed old r new

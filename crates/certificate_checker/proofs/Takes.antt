@@ -2,7 +2,7 @@
 use Rattle.std.proofs.Common.{◌≡◌, ◌≢◌, ℕ, suc, Bool, All, ◌+◌, ◌≤◌, List, [], ◌∷◌, ◌++◌, length, Option, Result, Ok, Err, refl, sym, ◌∙◌, ap, subst, arith}
 use Rattle.std.proofs.lemmas.List.{length-append}
 use Rattle.grouping_laws.specs.Problem.{Problem}
-use Rattle.certificate_data.specs.declared.language.Language.{Language}
+use Rattle.certificate_data.specs.declared.format.Format.{Format}
 use Rattle.certificate_data.specs.Round.{Round}
 use Rattle.certificate_laws.specs.State.{State, close}
 use Rattle.certificate_data.specs.Tree.{Tree, Takes, no_take, take}
@@ -47,49 +47,49 @@ rest_few xs rest all e =
     omega (arith, size)
 
 -- these takes are left, where all was reached from before
-abbrev pub TakesLeft : Language → Problem → Round → State → List (List ℕ) → List Item → List Open → FeedValue → FeedValue → List Open → Type 0
-TakesLeft language p round s groups rest more old cur before =
+abbrev pub TakesLeft : Format → Problem → Round → State → List (List ℕ) → List Item → List Open → FeedValue → FeedValue → List Open → Type 0
+TakesLeft format p round s groups rest more old cur before =
     (others : Takes)
-    × AreReadable language others
+    × AreReadable format others
     × (cur.course.items ≡ items_to_mark others ++ rest)
     × Reaches p round old cur before (some_takes others s groups ∷ more)
 
 -- the tree that is next is judged at this state
-abbrev pub TreeJudged : {X : Type 0} → Language → Problem → Round → State → FeedValue → Result X Halt → FeedValue → Type 0
-TreeJudged language p round s old r new =
+abbrev pub TreeJudged : {X : Type 0} → Format → Problem → Round → State → FeedValue → Result X Halt → FeedValue → Type 0
+TreeJudged format p round s old r new =
     (tree : Tree) (rest : List Item) (more : List Open)
-    → IsReadable language tree
+    → IsReadable format tree
     → old.course.items ≡ items_of_tree tree ++ rest
     → IsJudged p round (a_tree tree s ∷ more) more rest old r new
 
 -- no line of takes was read
-pub takes_unread : (language : Language) (p : Problem) (round : Round) (s : State) (groups : List (List ℕ)) (rest : List Item) (more : List Open) (old cur mid : FeedValue) (before : List Open) (st : Halt)
-    → TakesLeft language p round s groups rest more old cur before → Fed old cur → TookForm {Y = Option (List ℕ)} taken (λ o. o) cur (Err st) mid → Halts p round old before rest st
-takes_unread language p round s groups rest more old cur mid before st h fed took =
+pub takes_unread : (format : Format) (p : Problem) (round : Round) (s : State) (groups : List (List ℕ)) (rest : List Item) (more : List Open) (old cur mid : FeedValue) (before : List Open) (st : Halt)
+    → TakesLeft format p round s groups rest more old cur before → Fed old cur → TookForm {Y = Option (List ℕ)} taken (λ o. o) cur (Err st) mid → Halts p round old before rest st
+takes_unread format p round s groups rest more old cur mid before st h fed took =
     let few = rest_few (items_to_mark h.0) rest cur.course.items h.2 in
     halts_back p round old cur before (some_takes h.0 s groups ∷ more) rest rest st h.3 fed (omega (arith))
     (form_halts (Option (List ℕ)) (Option (List ℕ)) taken (λ o. o) p round (some_takes h.0 s groups ∷ more) rest cur mid st (λ P k. takes_begin P h.0 rest (λ o xs e. k o xs (h.2 ∙ e))) few took)
 
 -- the take's line is the first of those left
-pub take_first : (language : Language) (p : Problem) (round : Round) (s : State) (codes : List ℕ) (groups : List (List ℕ)) (rest : List Item) (more : List Open) (old cur mid : FeedValue) (before : List Open)
-    → TakesLeft language p round s groups rest more old cur before → TookLine cur (Ok (item.Takes codes)) mid
-    → (tree : Tree) × (others : Takes) × AreReadable language (take codes tree others) × (mid.course.items ≡ items_of_tree tree ++ (items_to_mark others ++ rest))
+pub take_first : (format : Format) (p : Problem) (round : Round) (s : State) (codes : List ℕ) (groups : List (List ℕ)) (rest : List Item) (more : List Open) (old cur mid : FeedValue) (before : List Open)
+    → TakesLeft format p round s groups rest more old cur before → TookLine cur (Ok (item.Takes codes)) mid
+    → (tree : Tree) × (others : Takes) × AreReadable format (take codes tree others) × (mid.course.items ≡ items_of_tree tree ++ (items_to_mark others ++ rest))
     × Reaches p round old cur before (some_takes (take codes tree others) s groups ∷ more)
-take_first language p round s codes groups rest more old cur mid before h took =
+take_first format p round s codes groups rest more old cur mid before h took =
     let e : item.Takes codes ∷ mid.course.items ≡ items_to_mark h.0 ++ rest = sym (ap (λ c. c.items) took.0) ∙ h.2 in
     let v = view_take h.0 codes rest mid.course.items e in
-    (v.0, v.1, subst (AreReadable language) v.2 h.1, v.3, subst (λ t. Reaches p round old cur before (some_takes t s groups ∷ more)) v.2 h.3)
+    (v.0, v.1, subst (AreReadable format) v.2 h.1, v.3, subst (λ t. Reaches p round old cur before (some_takes t s groups ∷ more)) v.2 h.3)
 
 -- the judging of the take stopped
-pub take_stops : (language : Language) (p : Problem) (round : Round) (s : State) (codes : List ℕ) (groups : List (List ℕ)) (rest : List Item) (more : List Open) (old cur mid : FeedValue) (before : List Open) (st : Halt)
-    → TakesLeft language p round s groups rest more old cur before → TookLine cur (Ok (item.Takes codes)) mid → IsTakeStop groups codes mid.line st → Halts p round old before rest st
-take_stops language p round s codes groups rest more old cur mid before (stop.Fault f l) h took is =
-    let v = take_first language p round s codes groups rest more old cur mid before h took in
+pub take_stops : (format : Format) (p : Problem) (round : Round) (s : State) (codes : List ℕ) (groups : List (List ℕ)) (rest : List Item) (more : List Open) (old cur mid : FeedValue) (before : List Open) (st : Halt)
+    → TakesLeft format p round s groups rest more old cur before → TookLine cur (Ok (item.Takes codes)) mid → IsTakeStop groups codes mid.line st → Halts p round old before rest st
+take_stops format p round s codes groups rest more old cur mid before (stop.Fault f l) h took is =
+    let v = take_first format p round s codes groups rest more old cur mid before h took in
     (is.0, is.1, v.4.ends (faulty is.0 l) (subst (λ n. WorkEnds (some_takes (take codes v.0 v.1) s groups ∷ more) p round (cur.line + 1) (faulty is.0 n)) (sym (is.3 ∙ took.1)) (lines_carry.take_fault codes v.0 v.1 p round s groups more (cur.line + 1) is.0 is.2)))
-take_stops language p round s codes groups rest more old cur mid before (stop.Text f) h took is = is
-take_stops language p round s codes groups rest more old cur mid before stop.Unspelled h took is = is
-take_stops language p round s codes groups rest more old cur mid before stop.Budget h took is = absurd is
-take_stops language p round s codes groups rest more old cur mid before stop.Refused h took is = tt
+take_stops format p round s codes groups rest more old cur mid before (stop.Text f) h took is = is
+take_stops format p round s codes groups rest more old cur mid before stop.Unspelled h took is = is
+take_stops format p round s codes groups rest more old cur mid before stop.Budget h took is = absurd is
+take_stops format p round s codes groups rest more old cur mid before stop.Refused h took is = tt
 
 -- the judging of a take stops where its line was read
 pub take_stop_fed : (X : Type 0) (groups : List (List ℕ)) (codes : List ℕ) (line : ℕ) (old mid : FeedValue) (st : Halt) → Fed old mid → IsTakeStop groups codes line st → IsFed {X = X} old (Err st) mid
@@ -100,11 +100,11 @@ take_stop_fed X groups codes line old mid stop.Budget fed is = fed
 take_stop_fed X groups codes line old mid stop.Refused fed is = tt
 
 -- the tree of the take was judged
-pub take_on : {X : Type 0} (language : Language) (p : Problem) (round : Round) (s closed : State) (codes : List ℕ) (groups : List (List ℕ)) (rest : List Item) (more : List Open) (old cur mid new : FeedValue) (before : List Open) (done : X)
-    → TakesLeft language p round s groups rest more old cur before → TookLine cur (Ok (item.Takes codes)) mid → IsNextTake groups codes → closed ≡ close codes s
-    → TreeJudged language p round closed mid (Ok done) new → TakesLeft language p round s (behind groups) rest more old new before
-take_on language p round s closed codes groups rest more old cur mid new before done h took next same judged =
-    let v = take_first language p round s codes groups rest more old cur mid before h took in
+pub take_on : {X : Type 0} (format : Format) (p : Problem) (round : Round) (s closed : State) (codes : List ℕ) (groups : List (List ℕ)) (rest : List Item) (more : List Open) (old cur mid new : FeedValue) (before : List Open) (done : X)
+    → TakesLeft format p round s groups rest more old cur before → TookLine cur (Ok (item.Takes codes)) mid → IsNextTake groups codes → closed ≡ close codes s
+    → TreeJudged format p round closed mid (Ok done) new → TakesLeft format p round s (behind groups) rest more old new before
+take_on format p round s closed codes groups rest more old cur mid new before done h took next same judged =
+    let v = take_first format p round s codes groups rest more old cur mid before h took in
     let work : List Open = some_takes v.1 s (behind groups) ∷ more in
     let j = judged v.0 (items_to_mark v.1 ++ rest) work v.2.0 v.3 in
     let step = take_reaches p round s codes v.0 v.1 groups more cur mid (item.Takes codes) took next in
@@ -117,11 +117,11 @@ take_on language p round s closed codes groups rest more old cur mid new before 
     )
 
 -- the judging of the tree of the take stopped
-pub take_off : (language : Language) (p : Problem) (round : Round) (s closed : State) (codes : List ℕ) (groups : List (List ℕ)) (rest : List Item) (more : List Open) (old cur mid new : FeedValue) (before : List Open) (st : Halt)
-    → TakesLeft language p round s groups rest more old cur before → Fed old mid → TookLine cur (Ok (item.Takes codes)) mid → IsNextTake groups codes → closed ≡ close codes s
-    → TreeJudged {X = Unit {0}} language p round closed mid (Err st) new → Halts p round old before rest st
-take_off language p round s closed codes groups rest more old cur mid new before st h fed took next same judged =
-    let v = take_first language p round s codes groups rest more old cur mid before h took in
+pub take_off : (format : Format) (p : Problem) (round : Round) (s closed : State) (codes : List ℕ) (groups : List (List ℕ)) (rest : List Item) (more : List Open) (old cur mid new : FeedValue) (before : List Open) (st : Halt)
+    → TakesLeft format p round s groups rest more old cur before → Fed old mid → TookLine cur (Ok (item.Takes codes)) mid → IsNextTake groups codes → closed ≡ close codes s
+    → TreeJudged {X = Unit {0}} format p round closed mid (Err st) new → Halts p round old before rest st
+take_off format p round s closed codes groups rest more old cur mid new before st h fed took next same judged =
+    let v = take_first format p round s codes groups rest more old cur mid before h took in
     let work : List Open = some_takes v.1 s (behind groups) ∷ more in
     let j = judged v.0 (items_to_mark v.1 ++ rest) work v.2.0 v.3 in
     let step = take_reaches p round s codes v.0 v.1 groups more cur mid (item.Takes codes) took next in
@@ -131,18 +131,18 @@ take_off language p round s closed codes groups rest more old cur mid new before
     (subst (λ z. Halts p round mid (a_tree v.0 z ∷ work) (items_to_mark v.1 ++ rest) st) same j)
 
 -- the mark, where no group is left
-pub mark_on : (language : Language) (p : Problem) (round : Round) (s : State) (groups : List (List ℕ)) (rest : List Item) (more : List Open) (old cur mid : FeedValue) (before : List Open)
-    → TakesLeft language p round s groups rest more old cur before → TookLine cur (Ok item.Mark) mid → groups ≡ [] → IsJudged {X = Unit {0}} p round before more rest old (Ok tt) mid
-mark_on language p round s groups rest more old cur mid before h took none =
+pub mark_on : (format : Format) (p : Problem) (round : Round) (s : State) (groups : List (List ℕ)) (rest : List Item) (more : List Open) (old cur mid : FeedValue) (before : List Open)
+    → TakesLeft format p round s groups rest more old cur before → TookLine cur (Ok item.Mark) mid → groups ≡ [] → IsJudged {X = Unit {0}} p round before more rest old (Ok tt) mid
+mark_on format p round s groups rest more old cur mid before h took none =
     let e : item.Mark ∷ mid.course.items ≡ items_to_mark h.0 ++ rest = sym (ap (λ c. c.items) took.0) ∙ h.2 in
     let v = view_mark h.0 rest mid.course.items e in
     let r = subst (λ g. Reaches p round old cur before (some_takes no_take s g ∷ more)) none (subst (λ t. Reaches p round old cur before (some_takes t s groups ∷ more)) v.0 h.3) in
     (sym v.1, reaches_twice p round old cur mid before (some_takes no_take s [] ∷ more) more r (mark_reaches p round s more cur mid item.Mark took))
 
 -- the mark, where a group is left
-pub mark_stops : (language : Language) (p : Problem) (round : Round) (s : State) (groups : List (List ℕ)) (rest : List Item) (more : List Open) (old cur mid : FeedValue) (before : List Open)
-    → TakesLeft language p round s groups rest more old cur before → TookLine cur (Ok item.Mark) mid → groups ≢ [] → Halts p round old before rest (stop.Fault MissingGroup mid.line)
-mark_stops language p round s groups rest more old cur mid before h took some =
+pub mark_stops : (format : Format) (p : Problem) (round : Round) (s : State) (groups : List (List ℕ)) (rest : List Item) (more : List Open) (old cur mid : FeedValue) (before : List Open)
+    → TakesLeft format p round s groups rest more old cur before → TookLine cur (Ok item.Mark) mid → groups ≢ [] → Halts p round old before rest (stop.Fault MissingGroup mid.line)
+mark_stops format p round s groups rest more old cur mid before h took some =
     let e : item.Mark ∷ mid.course.items ≡ items_to_mark h.0 ++ rest = sym (ap (λ c. c.items) took.0) ∙ h.2 in
     let v = view_mark h.0 rest mid.course.items e in
     let r = subst (λ t. Reaches p round old cur before (some_takes t s groups ∷ more)) v.0 h.3 in

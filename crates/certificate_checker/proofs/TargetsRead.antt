@@ -2,7 +2,7 @@
 use Rattle.std.proofs.Common.{◌≡◌, ℕ, List, [], ◌∷◌, ◌++◌, length, map, Option, Some, None, Result, Ok, sym, ◌∙◌, ap}
 use Rattle.county_codes.specs.declared.group.Group.{Group}
 use Rattle.county_codes.specs.declared.window.Window.{Window}
-use Rattle.certificate_data.specs.declared.language.Language.{Language}
+use Rattle.certificate_data.specs.declared.format.Format.{Format}
 use Rattle.grouping_laws.specs.Grouping.{Grouping}
 use Rattle.certificate_data.specs.Round.{Round}
 use Rattle.certificate_lines.specs.declared.item.Item.{Item}
@@ -30,26 +30,26 @@ module _ {V : Type 0} (view : V → List Group) (count : ℕ) (old mid new : Fee
       (gave_more (λ v. view v ≡ groups) (λ v. Some (view v) ≡ Some groups) (map item.Grouped groups) rest mid new r (λ v e. ap (λ (l : List Group). Some l) e) (h groups rest same t.1))
 
 -- a round by its parts
-abbrev pub round_with : List ℕ → ℕ → Option Grouping → Language → Option Window → Round
-round_with order limit target language window = record { order = order; limit = limit; target = target; language = language; window = window }
+abbrev pub round_with : List ℕ → ℕ → Option Grouping → Format → Option Window → Round
+round_with order limit target format window = record { order = order; limit = limit; target = target; format = format; window = window }
 
-pub round_same : (r : Round) (order : List ℕ) (limit : ℕ) (target : Option Grouping) (language : Language) (window : Option Window) → order ≡ r.order → limit ≡ r.limit → target ≡ r.target → language ≡ r.language → window ≡ r.window
-    → round_with order limit target language window ≡ r
-round_same r order limit target language window o l t g w =
-    ap (λ x. round_with x limit target language window) o ∙ ap (λ x. round_with r.order x target language window) l ∙ ap (λ x. round_with r.order r.limit x language window) t
-    ∙ ap (λ x. round_with r.order r.limit r.target x window) g ∙ ap (λ x. round_with r.order r.limit r.target r.language x) w
+pub round_same : (r : Round) (order : List ℕ) (limit : ℕ) (target : Option Grouping) (format : Format) (window : Option Window) → order ≡ r.order → limit ≡ r.limit → target ≡ r.target → format ≡ r.format → window ≡ r.window
+    → round_with order limit target format window ≡ r
+round_same r order limit target format window o l t g w =
+    ap (λ x. round_with x limit target format window) o ∙ ap (λ x. round_with r.order x target format window) l ∙ ap (λ x. round_with r.order r.limit x format window) t
+    ∙ ap (λ x. round_with r.order r.limit r.target x window) g ∙ ap (λ x. round_with r.order r.limit r.target r.format x) w
 
 -- the head of a certificate was given
-abbrev pub IsHeadOf : Certificate → Language × Option Window → Type 0
-IsHeadOf c h = (h.0 ≡ c.round.language) × (h.1 ≡ c.round.window)
+abbrev pub IsHeadOf : Certificate → Format × Option Window → Type 0
+IsHeadOf c h = (h.0 ≡ c.round.format) × (h.1 ≡ c.round.window)
 
 -- the items behind a round
 abbrev pub tree_behind : Certificate → List Item
 tree_behind c = items_of_tree c.tree ++ item.End ∷ []
 
 -- the lines in front of a target were read
-module _ (c : Certificate) (old first second third new : FeedValue) (head : Language × Option Window) (order : List ℕ) (limit : ℕ)
-    (read : AreTaken (IsHeadOf c) (items_of_head c.round.language c.round.window) (item.Order c.round.order ∷ item.Limit c.round.limit ∷ (items_of_target c.round.target ++ tree_behind c)) old (Ok head) first)
+module _ (c : Certificate) (old first second third new : FeedValue) (head : Format × Option Window) (order : List ℕ) (limit : ℕ)
+    (read : AreTaken (IsHeadOf c) (items_of_head c.round.format c.round.window) (item.Order c.round.order ∷ item.Limit c.round.limit ∷ (items_of_target c.round.target ++ tree_behind c)) old (Ok head) first)
     (order_took : TookForm {Y = List ℕ} item.Order (λ o. o) first (Ok order) second) (limit_took : TookForm {Y = ℕ} item.Limit (λ n. n) second (Ok limit) third)
     (same : (first.limit ≡ old.limit) × (second.limit ≡ first.limit) × (third.limit ≡ second.limit)) where
   ordered : AreTaken (λ (o : List ℕ). item.Order o ≡ item.Order c.round.order) (item.Order c.round.order ∷ []) (item.Limit c.round.limit ∷ (items_of_target c.round.target ++ tree_behind c)) first (Ok order) second
@@ -63,7 +63,7 @@ module _ (c : Certificate) (old first second third new : FeedValue) (head : Lang
 
   pub round_then : {T : Type 0} (Gave : T → Type 0) (r : Result T Halt) → AreTaken Gave (items_of_target c.round.target) (tree_behind c) third r new → AreTaken Gave (round_items c) (tree_behind c) old r new
   round_then Gave r t =
-      taken_then (IsHeadOf c) Gave (items_of_head c.round.language c.round.window) (item.Order c.round.order ∷ item.Limit c.round.limit ∷ items_of_target c.round.target)
+      taken_then (IsHeadOf c) Gave (items_of_head c.round.format c.round.window) (item.Order c.round.order ∷ item.Limit c.round.limit ∷ items_of_target c.round.target)
       (item.Order c.round.order ∷ item.Limit c.round.limit ∷ (items_of_target c.round.target ++ tree_behind c)) (tree_behind c) old first new head r read same.0
       (taken_then (λ (o : List ℕ). item.Order o ≡ item.Order c.round.order) Gave (item.Order c.round.order ∷ []) (item.Limit c.round.limit ∷ items_of_target c.round.target)
       (item.Limit c.round.limit ∷ (items_of_target c.round.target ++ tree_behind c)) (tree_behind c) first second new order r ordered same.1

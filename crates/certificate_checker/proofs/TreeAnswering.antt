@@ -6,7 +6,7 @@ use Rattle.grouping_laws.specs.Problem.{Problem}
 use Rattle.certificate_data.specs.Round.{Round}
 use Rattle.certificate_laws.specs.State.{State}
 use Rattle.certificate_data.specs.Tree.{stuck, seats, bound, Tree, leaf, branch}
-use Rattle.certificate_data.specs.declared.language.Language.{Language}
+use Rattle.certificate_data.specs.declared.format.Format.{Format}
 use Rattle.certificate_lines.specs.Courses.{tree_course}
 use Rattle.certificate_lines.specs.Fitting.{AllFit}
 use Rattle.certificate_lines.specs.declared.item.Item.{Item}
@@ -35,9 +35,9 @@ use Rattle.certificate_checker.specs.declared.verdict.TreeVerdict.TheVariants.{P
 use Rattle.certificate_checker.proofs.ReadableTexts.{tree_readable}
 use Rattle.certificate_checker.proofs.Whole.{looks_alone}
 
-spelled_readable : (language : Language) (counties : ℕ) (text : List ℕ) (tree : Tree) → IsTreeSpelling language counties text tree → IsReadable language tree
-spelled_readable language counties text tree h =
-    tree_readable language tree (tree_formed language counties tree [] [] (subst (λ (l : List Item). AllFit (want.Tree language counties ∷ []) l) (sym (append-nil (items_of_tree tree))) h.fits)).0
+spelled_readable : (format : Format) (counties : ℕ) (text : List ℕ) (tree : Tree) → IsTreeSpelling format counties text tree → IsReadable format tree
+spelled_readable format counties text tree h =
+    tree_readable format tree (tree_formed format counties tree [] [] (subst (λ (l : List Item). AllFit (want.Tree format counties ∷ []) l) (sym (append-nil (items_of_tree tree))) h.fits)).0
 
 some_line : (tree : Tree) → 1 ≤ tree_lines tree
 some_line (leaf (stuck c)) = omega arith
@@ -46,18 +46,18 @@ some_line (leaf (bound lines)) = omega arith
 some_line (branch c limit takes raised) = omega arith
 
 module _ (p : Problem) (round : Round) (s : State) (tree : Tree) (old new : FeedValue) (line : old.line ≡ 0) (used : old.used ≡ 0) (numbers : AreTreeNumbers tree)
-    (course : old.course ≡ tree_course round.language (length round.order) (lines_of_tree tree)) (none : (tree_course round.language (length round.order) (lines_of_tree tree)).fault ≡ None) where
+    (course : old.course ≡ tree_course round.format (length round.order) (lines_of_tree tree)) (none : (tree_course round.format (length round.order) (lines_of_tree tree)).fault ≡ None) where
   spelled : IsSpelledTree round tree
-  spelled = (spell.spelled round.language (length round.order) tree numbers none).0
+  spelled = (spell.spelled round.format (length round.order) tree numbers none).0
 
   items : old.course.items ≡ items_of_tree tree
-  items = ap (λ c. c.items) course ∙ (spell.spelled round.language (length round.order) tree numbers none).1
+  items = ap (λ c. c.items) course ∙ (spell.spelled round.format (length round.order) tree numbers none).1
 
   abbrev Judges : Result (Unit {0}) Halt → Type 0
-  Judges judged = (t : Tree) (rest : List Item) → IsReadable round.language t → old.course.items ≡ items_of_tree t ++ rest → IsJudged p round (a_tree t s ∷ []) [] rest old judged new
+  Judges judged = (t : Tree) (rest : List Item) → IsReadable round.format t → old.course.items ≡ items_of_tree t ++ rest → IsJudged p round (a_tree t s ∷ []) [] rest old judged new
 
   judges : (judged : Result (Unit {0}) Halt) → Judges judged → IsJudged p round (a_tree tree s ∷ []) [] [] old judged new
-  judges judged h = h tree [] (spelled_readable round.language (length round.order) (lines_of_tree tree) tree spelled) (items ∙ sym (append-nil (items_of_tree tree)))
+  judges judged h = h tree [] (spelled_readable round.format (length round.order) (lines_of_tree tree) tree spelled) (items ∙ sym (append-nil (items_of_tree tree)))
 
   first : old.line + 1 ≡ 1
   first = omega (arith, line)
@@ -104,7 +104,7 @@ right_of_trees p round s tree budget (Ok Proof) h = h.1
 right_of_trees p round s tree budget (Ok (Refused fault)) h =
     λ text spells proof.
     ⊎_elim
-    (λ w. spell.unspelled round.language (length round.order) tree w.0 w.2 text spells)
+    (λ w. spell.unspelled round.format (length round.order) tree w.0 w.2 text spells)
     (λ f. trees_end.refuses tree p round s 1 f.1.1 f.1.0 f.1.3 proof)
     h
 right_of_trees p round s tree budget (Ok Budget) h = tt

@@ -1,7 +1,7 @@
 -- What is left of a tree, and what each line does to it.
 use Rattle.std.proofs.Common.{◌≡◌, ℕ, ◌+◌, ◌*◌, ◌≤◌, List, ◌∷◌, ◌++◌, length, Option, Result, Ok, Err, IfOk, IsErrOf, MatchResult, refl, sym, ◌∙◌, ap, subst, arith}
 use Rattle.grouping_laws.specs.Problem.{Problem}
-use Rattle.certificate_data.specs.declared.language.Language.{Language}
+use Rattle.certificate_data.specs.declared.format.Format.{Format}
 use Rattle.certificate_data.specs.Round.{Round}
 use Rattle.certificate_laws.specs.State.{State, raise}
 use Rattle.certificate_laws.specs.Groups.{AreGroupsAt, IsSetAt}
@@ -30,18 +30,18 @@ use Rattle.certificate_checker.proofs.Branching.{leaf_reaches, branch_reaches, b
 use Rattle.certificate_checker.proofs.Takes.{form_halts, rest_few}
 
 -- this tree is left, where all was reached from before
-abbrev pub TreeLeft : Language → Problem → Round → State → List Item → List Open → FeedValue → FeedValue → List Open → Type 0
-TreeLeft language p round s rest more old cur before =
+abbrev pub TreeLeft : Format → Problem → Round → State → List Item → List Open → FeedValue → FeedValue → List Open → Type 0
+TreeLeft format p round s rest more old cur before =
     (raised : Tree)
-    × IsReadable language raised
+    × IsReadable format raised
     × (cur.course.items ≡ items_of_tree raised ++ rest)
     × Reaches p round old cur before (a_tree raised s ∷ more)
 
 -- the takes that are next are judged against these groups
-abbrev pub TakesJudged : {X : Type 0} → Language → Problem → Round → State → List (List ℕ) → FeedValue → Result X Halt → FeedValue → Type 0
-TakesJudged language p round s groups old r new =
+abbrev pub TakesJudged : {X : Type 0} → Format → Problem → Round → State → List (List ℕ) → FeedValue → Result X Halt → FeedValue → Type 0
+TakesJudged format p round s groups old r new =
     (takes : Takes) (rest : List Item) (more : List Open)
-    → AreReadable language takes
+    → AreReadable format takes
     → old.course.items ≡ items_to_mark takes ++ rest
     → IsJudged p round (some_takes takes s groups ∷ more) more rest old r new
 
@@ -52,70 +52,70 @@ judged_back p round old cur new before mid after rest (Ok done) reaches fed h = 
 judged_back p round old cur new before mid after rest (Err st) reaches fed h = halts_back p round old cur before mid rest rest st reaches fed (omega (arith)) h
 
 -- no line that opens a tree was read
-pub tree_unread : (language : Language) (p : Problem) (round : Round) (s : State) (rest : List Item) (more : List Open) (old cur mid : FeedValue) (before : List Open) (st : Halt)
-    → TreeLeft language p round s rest more old cur before → Fed old cur → TookForm {Y = Opening} item.Opens (λ o. o) cur (Err st) mid → Halts p round old before rest st
-tree_unread language p round s rest more old cur mid before st h fed took =
+pub tree_unread : (format : Format) (p : Problem) (round : Round) (s : State) (rest : List Item) (more : List Open) (old cur mid : FeedValue) (before : List Open) (st : Halt)
+    → TreeLeft format p round s rest more old cur before → Fed old cur → TookForm {Y = Opening} item.Opens (λ o. o) cur (Err st) mid → Halts p round old before rest st
+tree_unread format p round s rest more old cur mid before st h fed took =
     halts_back p round old cur before (a_tree h.0 s ∷ more) rest rest st h.3 fed (omega (arith))
     (form_halts Opening Opening item.Opens (λ o. o) p round (a_tree h.0 s ∷ more) rest cur mid st (λ P k. tree_opens P h.0 rest (λ o xs e. k o xs (h.2 ∙ e))) (rest_few (items_of_tree h.0) rest cur.course.items h.2) took)
 
 -- a leaf is left
-pub leaf_left : (language : Language) (p : Problem) (round : Round) (s : State) (last : Leaf) (rest : List Item) (more : List Open) (old cur mid new : FeedValue) (before : List Open) (x : Item) (r : Result (Unit {0}) Halt)
-    → (h : TreeLeft language p round s rest more old cur before) → h.0 ≡ leaf last → Fed old cur → TookLine cur (Ok x) mid → mid.limit ≡ cur.limit
+pub leaf_left : (format : Format) (p : Problem) (round : Round) (s : State) (last : Leaf) (rest : List Item) (more : List Open) (old cur mid new : FeedValue) (before : List Open) (x : Item) (r : Result (Unit {0}) Halt)
+    → (h : TreeLeft format p round s rest more old cur before) → h.0 ≡ leaf last → Fed old cur → TookLine cur (Ok x) mid → mid.limit ≡ cur.limit
     → IsLeafJudged p round s last rest mid r new → IsJudged p round before more rest old r new
-leaf_left language p round s last rest more old cur mid new before x r h same fed took limit judged =
+leaf_left format p round s last rest more old cur mid new before x r h same fed took limit judged =
     judged_back p round old cur new before (a_tree (leaf last) s ∷ more) more rest r (subst (λ t. Reaches p round old cur before (a_tree t s ∷ more)) same h.3) fed
     (leaf_reaches p round s last cur mid new rest more x r took limit judged)
 
-pub stuck_left : (language : Language) (p : Problem) (round : Round) (s : State) (county : ℕ) (rest : List Item) (more : List Open) (old cur mid : FeedValue) (before : List Open) (r : Result (Unit {0}) Halt)
-    → TreeLeft language p round s rest more old cur before → Fed old cur → TookLine cur (Ok (item.Opens (opening.Stuck county))) mid → mid.limit ≡ cur.limit
+pub stuck_left : (format : Format) (p : Problem) (round : Round) (s : State) (county : ℕ) (rest : List Item) (more : List Open) (old cur mid : FeedValue) (before : List Open) (r : Result (Unit {0}) Halt)
+    → TreeLeft format p round s rest more old cur before → Fed old cur → TookLine cur (Ok (item.Opens (opening.Stuck county))) mid → mid.limit ≡ cur.limit
     → IsLeafJudged p round s (stuck county) mid.course.items mid r mid → IsJudged p round before more rest old r mid
-stuck_left language p round s county rest more old cur mid before r h fed took limit judged =
+stuck_left format p round s county rest more old cur mid before r h fed took limit judged =
     let v = view_stuck h.0 county rest mid.course.items (sym (ap (λ c. c.items) took.0) ∙ h.2) in
-    leaf_left language p round s (stuck county) rest more old cur mid mid before (item.Opens (opening.Stuck county)) r h v.0 fed took limit
+    leaf_left format p round s (stuck county) rest more old cur mid mid before (item.Opens (opening.Stuck county)) r h v.0 fed took limit
     (subst (λ z. IsLeafJudged p round s (stuck county) z mid r mid) v.1 judged)
 
-pub seats_left : (language : Language) (p : Problem) (round : Round) (s : State) (rest : List Item) (more : List Open) (old cur mid : FeedValue) (before : List Open) (r : Result (Unit {0}) Halt)
-    → TreeLeft language p round s rest more old cur before → Fed old cur → TookLine cur (Ok (item.Opens opening.Seats)) mid → mid.limit ≡ cur.limit
+pub seats_left : (format : Format) (p : Problem) (round : Round) (s : State) (rest : List Item) (more : List Open) (old cur mid : FeedValue) (before : List Open) (r : Result (Unit {0}) Halt)
+    → TreeLeft format p round s rest more old cur before → Fed old cur → TookLine cur (Ok (item.Opens opening.Seats)) mid → mid.limit ≡ cur.limit
     → IsLeafJudged p round s seats mid.course.items mid r mid → IsJudged p round before more rest old r mid
-seats_left language p round s rest more old cur mid before r h fed took limit judged =
+seats_left format p round s rest more old cur mid before r h fed took limit judged =
     let v = view_seats h.0 rest mid.course.items (sym (ap (λ c. c.items) took.0) ∙ h.2) in
-    leaf_left language p round s seats rest more old cur mid mid before (item.Opens opening.Seats) r h v.0 fed took limit
+    leaf_left format p round s seats rest more old cur mid mid before (item.Opens opening.Seats) r h v.0 fed took limit
     (subst (λ z. IsLeafJudged p round s seats z mid r mid) v.1 judged)
 
-pub bound_left : (language : Language) (p : Problem) (round : Round) (s : State) (count : ℕ) (rest : List Item) (more : List Open) (old cur mid new : FeedValue) (before : List Open) (r : Result (Unit {0}) Halt)
-    → TreeLeft language p round s rest more old cur before → Fed old cur → TookLine cur (Ok (item.Opens (opening.Bound count))) mid → mid.limit ≡ cur.limit
+pub bound_left : (format : Format) (p : Problem) (round : Round) (s : State) (count : ℕ) (rest : List Item) (more : List Open) (old cur mid new : FeedValue) (before : List Open) (r : Result (Unit {0}) Halt)
+    → TreeLeft format p round s rest more old cur before → Fed old cur → TookLine cur (Ok (item.Opens (opening.Bound count))) mid → mid.limit ≡ cur.limit
     → ((lines : List Allowance) (rest : List Item) → AllowancesAreSpelled lines → length lines ≡ count → mid.course.items ≡ line_items lines ++ rest → IsLeafJudged p round s (bound lines) rest mid r new)
     → IsJudged p round before more rest old r new
-bound_left language p round s count rest more old cur mid new before r h fed took limit judged =
+bound_left format p round s count rest more old cur mid new before r h fed took limit judged =
     let v = view_bound h.0 count rest mid.course.items (sym (ap (λ c. c.items) took.0) ∙ h.2) in
-    leaf_left language p round s (bound v.0) rest more old cur mid new before (item.Opens (opening.Bound count)) r h v.1 fed took limit
-    (judged v.0 rest (subst (IsReadable language) v.1 h.1) v.2 v.3)
+    leaf_left format p round s (bound v.0) rest more old cur mid new before (item.Opens (opening.Bound count)) r h v.1 fed took limit
+    (judged v.0 rest (subst (IsReadable format) v.1 h.1) v.2 v.3)
 
 -- the branch's line is the first of those left
-branch_first : (language : Language) (p : Problem) (round : Round) (s : State) (county : ℕ) (limit : Option ℕ) (rest : List Item) (more : List Open) (old cur mid : FeedValue) (before : List Open)
-    → TreeLeft language p round s rest more old cur before → TookLine cur (Ok (item.Opens (opening.Branch county limit))) mid
-    → (takes : Takes) × (raised : Tree) × IsReadable language (branch county limit takes raised) × (mid.course.items ≡ items_to_mark takes ++ (items_of_tree raised ++ rest))
+branch_first : (format : Format) (p : Problem) (round : Round) (s : State) (county : ℕ) (limit : Option ℕ) (rest : List Item) (more : List Open) (old cur mid : FeedValue) (before : List Open)
+    → TreeLeft format p round s rest more old cur before → TookLine cur (Ok (item.Opens (opening.Branch county limit))) mid
+    → (takes : Takes) × (raised : Tree) × IsReadable format (branch county limit takes raised) × (mid.course.items ≡ items_to_mark takes ++ (items_of_tree raised ++ rest))
     × (cur.course.items ≡ items_of_tree (branch county limit takes raised) ++ rest) × Reaches p round old cur before (a_tree (branch county limit takes raised) s ∷ more)
-branch_first language p round s county limit rest more old cur mid before h took =
+branch_first format p round s county limit rest more old cur mid before h took =
     let v = view_branch h.0 county limit rest mid.course.items (sym (ap (λ c. c.items) took.0) ∙ h.2) in
-    (v.0, v.1, subst (IsReadable language) v.2 h.1, v.3, subst (λ t. cur.course.items ≡ items_of_tree t ++ rest) v.2 h.2, subst (λ t. Reaches p round old cur before (a_tree t s ∷ more)) v.2 h.3)
+    (v.0, v.1, subst (IsReadable format) v.2 h.1, v.3, subst (λ t. cur.course.items ≡ items_of_tree t ++ rest) v.2 h.2, subst (λ t. Reaches p round old cur before (a_tree t s ∷ more)) v.2 h.3)
 
 -- the judging of the branch stopped
 pub branch_stops : (p : Problem) (round : Round) (s : State) (county : ℕ) (limit : Option ℕ) (rest : List Item) (more : List Open) (old cur mid : FeedValue) (before : List Open) (st : Halt)
-    → TreeLeft round.language p round s rest more old cur before → Fed old cur → TookLine cur (Ok (item.Opens (opening.Branch county limit))) mid → mid.limit ≡ cur.limit
+    → TreeLeft round.format p round s rest more old cur before → Fed old cur → TookLine cur (Ok (item.Opens (opening.Branch county limit))) mid → mid.limit ≡ cur.limit
     → IsBranchRefused p round s county limit mid st → Halts p round old before rest st
 branch_stops p round s county limit rest more old cur mid before st h fed took same refused =
-    let v = branch_first round.language p round s county limit rest more old cur mid before h took in
+    let v = branch_first round.format p round s county limit rest more old cur mid before h took in
     halts_back p round old cur before (a_tree (branch county limit v.0 v.1) s ∷ more) rest rest st v.5 fed (omega (arith))
     (refused cur (item.Opens (opening.Branch county limit)) v.0 v.1 rest more took same v.2.0 v.4)
 
 -- the takes of the branch were judged, and its county was raised
 pub branch_on : {X : Type 0} (p : Problem) (round : Round) (s next : State) (county : ℕ) (limit : Option ℕ) (groups : List (List ℕ)) (rest : List Item) (more : List Open) (old cur mid listed new : FeedValue) (before : List Open) (done : X)
-    → TreeLeft round.language p round s rest more old cur before → TookLine cur (Ok (item.Opens (opening.Branch county limit))) mid
+    → TreeLeft round.format p round s rest more old cur before → TookLine cur (Ok (item.Opens (opening.Branch county limit))) mid
     → AreTakesListed p round s county limit groups mid listed → listed.course ≡ mid.course → next ≡ raise county (limit_of round limit) s
-    → TakesJudged round.language p round s groups listed (Ok done) new → TreeLeft round.language p round next rest more old new before
+    → TakesJudged round.format p round s groups listed (Ok done) new → TreeLeft round.format p round next rest more old new before
 branch_on p round s next county limit groups rest more old cur mid listed new before done h took is same value judged =
-    let v = branch_first round.language p round s county limit rest more old cur mid before h took in
+    let v = branch_first round.format p round s county limit rest more old cur mid before h took in
     let work : List Open = a_tree v.1 (raise county (limit_of round limit) s) ∷ more in
     let whole : List Open = a_tree (branch county limit v.0 v.1) s ∷ more in
     let j = judged v.0 (items_of_tree v.1 ++ rest) work v.2.1 (ap (λ c. c.items) same ∙ v.3) in
@@ -125,11 +125,11 @@ branch_on p round s next county limit groups rest more old cur mid listed new be
 
 -- the judging of the takes of the branch stopped
 pub branch_off : (p : Problem) (round : Round) (s : State) (county : ℕ) (limit : Option ℕ) (groups : List (List ℕ)) (rest : List Item) (more : List Open) (old cur mid listed new : FeedValue) (before : List Open) (st : Halt)
-    → TreeLeft round.language p round s rest more old cur before → Fed old listed → TookLine cur (Ok (item.Opens (opening.Branch county limit))) mid
+    → TreeLeft round.format p round s rest more old cur before → Fed old listed → TookLine cur (Ok (item.Opens (opening.Branch county limit))) mid
     → AreTakesListed p round s county limit groups mid listed → listed.course ≡ mid.course
-    → TakesJudged {X = Unit {0}} round.language p round s groups listed (Err st) new → Halts p round old before rest st
+    → TakesJudged {X = Unit {0}} round.format p round s groups listed (Err st) new → Halts p round old before rest st
 branch_off p round s county limit groups rest more old cur mid listed new before st h fed took is same judged =
-    let v = branch_first round.language p round s county limit rest more old cur mid before h took in
+    let v = branch_first round.format p round s county limit rest more old cur mid before h took in
     let work : List Open = a_tree v.1 (raise county (limit_of round limit) s) ∷ more in
     let whole : List Open = a_tree (branch county limit v.0 v.1) s ∷ more in
     let j = judged v.0 (items_of_tree v.1 ++ rest) work v.2.1 (ap (λ c. c.items) same ∙ v.3) in
@@ -140,9 +140,9 @@ branch_off p round s county limit groups rest more old cur mid listed new before
 -- what judging the branch's line gave
 pub branch_judged : (X : Type 0) (sets : X → List (List ℕ)) (p : Problem) (round : Round) (s : State) (county : ℕ) (limit : Option ℕ) (order : List ℕ) (mid : FeedValue) (most used : ℕ) (judged : Result X LineStop) (r : Result X Halt)
     → order ≡ round.order
-    → MatchResult judged (λ b. NamesLimit round.language limit × CanBranch round s county (limit_of round limit) × AreGroupsAt p round s county (limit_of round limit) (sets b)) (λ st. StopsAt st (IsBranchFault round s county (limit_of round limit)) (NamesLimit round.language limit → ⊥))
+    → MatchResult judged (λ b. NamesLimit round.format limit × CanBranch round s county (limit_of round limit) × AreGroupsAt p round s county (limit_of round limit) (sets b)) (λ st. StopsAt st (IsBranchFault round s county (limit_of round limit)) (NamesLimit round.format limit → ⊥))
     → IfOk judged (λ b. (m : ℕ) → AreSoMany order (IsSetAt p order s county (limit_of round limit)) m → used ≤ mid.used + 2 * m)
-    → (IsErrOf judged line_stop.StepLimit → NamesLimit round.language limit × CanBranch round s county (limit_of round limit) × ((m : ℕ) → AreSoMany order (IsSetAt p order s county (limit_of round limit)) m → mid.limit ≤ mid.used + 2 * m))
+    → (IsErrOf judged line_stop.StepLimit → NamesLimit round.format limit × CanBranch round s county (limit_of round limit) × ((m : ℕ) → AreSoMany order (IsSetAt p order s county (limit_of round limit)) m → mid.limit ≤ mid.used + 2 * m))
     → IsJudgedAt mid.line judged r
     → MatchResult r (λ b. AreTakesListed p round s county limit (sets b) mid (record mid { limit = most; used = used })) (λ found. IsBranchRefused p round s county limit mid found)
 branch_judged X sets p round s county limit order mid most used (Ok b) (Ok c) same is looks stops at =

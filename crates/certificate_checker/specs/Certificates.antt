@@ -42,7 +42,7 @@ AreTaken Gave xs rest old (Err (stop.Fault fault line)) new = ⊥
 -- the items of a certificate in front of its tree
 abbrev pub round_items : Certificate → List Item
 round_items c =
-    items_of_head c.round.language c.round.window
+    items_of_head c.round.format c.round.window
     ++ (item.Order c.round.order ∷ item.Limit c.round.limit ∷ items_of_target c.round.target)
 
 -- the judging of a line stopped at its fault

@@ -116,10 +116,10 @@ IsLineJudged p round s wanted i used [] rest old result new = ⊤
 IsLineJudged p round s wanted i used (line ∷ lines) rest old (Ok allowed) new =
     (new.course.items ≡ line_items lines ++ rest)
     × (new.line ≡ old.line + 1)
-    × IsAllowed round.language p s wanted i used line allowed
+    × IsAllowed round.format p s wanted i used line allowed
     × ((m : ℕ) → LineLooks line p round s i m → new.used ≤ old.used + 1 + 2 * m)
 IsLineJudged p round s wanted i used (line ∷ lines) rest old (Err (stop.Fault fault found)) new =
-    (named : Fault) × (fault_of fault ≡ Some named) × IsAllowanceFault round.language p s wanted i used line named
+    (named : Fault) × (fault_of fault ≡ Some named) × IsAllowanceFault round.format p s wanted i used line named
     × (found ≡ old.line + 1)
 IsLineJudged p round s wanted i used (line ∷ lines) rest old (Err stop.Unspelled) new = ⊥
 IsLineJudged p round s wanted i used (line ∷ lines) rest old (Err (stop.Text fault)) new = ⊥
@@ -138,7 +138,7 @@ abbrev pub AreTakesListed : Problem → Round → State → ℕ → Option ℕ �
 AreTakesListed p round s county limit groups mid new =
     (old : FeedValue) (x : Item) (takes : Takes) (raised : Tree) (more : List Open)
     → TookLine old (Ok x) mid
-    → NamesLimit round.language limit
+    → NamesLimit round.format limit
     → Reaches p round old new (a_tree (branch county limit takes raised) s ∷ more) (some_takes takes s groups
     ∷ a_tree raised (raise county (limit_of round limit) s) ∷ more)
 
@@ -148,7 +148,7 @@ IsBranchRefused p round s county limit mid found =
     (old : FeedValue) (x : Item) (takes : Takes) (raised : Tree) (rest : List Item) (more : List Open)
     → TookLine old (Ok x) mid
     → mid.limit ≡ old.limit
-    → NamesLimit round.language limit
+    → NamesLimit round.format limit
     → old.course.items ≡ items_of_tree (branch county limit takes raised) ++ rest
     → Halts p round old (a_tree (branch county limit takes raised) s ∷ more) rest found
 

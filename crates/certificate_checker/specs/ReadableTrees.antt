@@ -1,6 +1,6 @@
 -- Trees that some text spells, whatever the ranges of their numbers.
 use Rattle.std.specs.Prelude.{List, [], ◌∷◌, ⊤}
-use Rattle.certificate_data.specs.declared.language.Language.{Language}
+use Rattle.certificate_data.specs.declared.format.Format.{Format}
 use Rattle.certificate_data.specs.Tree.{Allowance, Leaf, stuck, seats, bound, Tree, leaf, branch, Takes, no_take, take}
 use Rattle.certificate_laws.specs.Proving.{NamesLimit}
 use Rattle.certificate_data.specs.TreeValue.{declared_allowance}
@@ -16,13 +16,13 @@ IsReadableLeaf (stuck county) = ⊤
 IsReadableLeaf seats = ⊤
 IsReadableLeaf (bound lines) = AllowancesAreSpelled lines
 
--- branches name limits as the language asks, and leaves are readable
+-- branches name limits as the format asks, and leaves are readable
 abbrev mutual
-  pub IsReadable : Language → Tree → Type 0
-  IsReadable language (leaf last) = IsReadableLeaf last
-  IsReadable language (branch county limit takes raised) =
-      NamesLimit language limit × AreReadable language takes × IsReadable language raised
+  pub IsReadable : Format → Tree → Type 0
+  IsReadable format (leaf last) = IsReadableLeaf last
+  IsReadable format (branch county limit takes raised) =
+      NamesLimit format limit × AreReadable format takes × IsReadable format raised
 
-  pub AreReadable : Language → Takes → Type 0
-  AreReadable language no_take = ⊤
-  AreReadable language (take codes tree others) = IsReadable language tree × AreReadable language others
+  pub AreReadable : Format → Takes → Type 0
+  AreReadable format no_take = ⊤
+  AreReadable format (take codes tree others) = IsReadable format tree × AreReadable format others

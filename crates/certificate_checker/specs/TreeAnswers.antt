@@ -22,14 +22,14 @@ use Rattle.std.specs.declared.alloc.AllocError.{AllocError}
 use Rattle.certificate_checker.specs.declared.verdict.TreeVerdict.{TreeVerdict}
 use Rattle.certificate_checker.specs.declared.verdict.TreeVerdict.TheVariants.{Proof, Fault as Refused, Budget}
 
--- the lines of the tree spell it, in the round's language and for as many counties as its order has
+-- the lines of the tree spell it, in the round's format and for as many counties as its order has
 abbrev pub IsSpelledTree : Round → Tree → Type 0
-IsSpelledTree round tree = IsTreeSpelling round.language (length round.order) (lines_of_tree tree) tree
+IsSpelledTree round tree = IsTreeSpelling round.format (length round.order) (lines_of_tree tree) tree
 
 -- the first fault of the tree's lines, or of the tree that they spell
 abbrev pub IsTreeFault : Problem → Round → State → Tree → CheckFault → Type 0
 IsTreeFault p round s tree fault =
-    ((words : TextFault) × (fault ≡ Text words) × HasTreeFault round.language (length round.order) tree words)
+    ((words : TextFault) × (fault ≡ Text words) × HasTreeFault round.format (length round.order) tree words)
     ⊎ (IsSpelledTree round tree
     × ((named : Fault) × (line : ℕ) × (fault_of fault ≡ Some named)
     × TreeEnds tree p round s 1 (faulty named line)))
@@ -50,7 +50,7 @@ IsTreeWithinBudget tree budget Budget = ⊤
 abbrev pub IsRightOfTrees : Problem → Round → State → Tree → TreeVerdict → Type 0
 IsRightOfTrees p round s tree Proof = Proves tree p round s
 IsRightOfTrees p round s tree (Refused fault) =
-    (text : List ℕ) → IsTreeSpelling round.language (length round.order) text tree → ¬ Proves tree p round s
+    (text : List ℕ) → IsTreeSpelling round.format (length round.order) text tree → ¬ Proves tree p round s
 IsRightOfTrees p round s tree Budget = ⊤
 
 -- what is said where the judging of lines without a fault ended so

@@ -155,7 +155,7 @@ pub(crate) fn judge_placed<C: CountySet, F, S: ItemSource<F>>(
     ensures counts { CountsSteps feed.old feed.new }
     ensures fed { FeedsThrough (stream_of S.left S.given feed.old from.old) (stream_of S.left S.given feed.new from.new) (λ a b. IsFed a result b) }
     ensures judged { ForEach (stream_of S.left S.given feed.old from.old) (stream_of S.left S.given feed.new from.new) (λ a b. (tree : Tree) (rest : List ItemValue)
-        → IsReadable round.now.language tree
+        → IsReadable round.now.format tree
         → a.course.items ≡ items_of_tree tree ++ rest
         → IsJudged
         (problem_of ordered.now.problem)
@@ -193,7 +193,7 @@ fn judge_first<C: CountySet, F, S: ItemSource<F>>(
     ensures counts { CountsSteps feed.old feed.new }
     ensures fed { FeedsThrough (stream_of S.left S.given feed.old from.old) (stream_of S.left S.given feed.new from.new) (λ a b. IsFed a result b) }
     ensures judged { ForEach (stream_of S.left S.given feed.old from.old) (stream_of S.left S.given feed.new from.new) (λ a b. (tree : Tree) (rest : List ItemValue)
-        → IsReadable round.now.language tree
+        → IsReadable round.now.format tree
         → a.course.items ≡ items_of_tree tree ++ rest
         → IsJudged
         (problem_of ordered.now.problem)
@@ -229,7 +229,7 @@ fn judge_behind<C: CountySet, F, S: ItemSource<F>>(
     ensures fed { FeedsThrough (stream_of S.left S.given feed.old from.old) (stream_of S.left S.given feed.new from.new) (λ a b. IsFed a result b) }
     ensures judged { ForEach (stream_of S.left S.given feed.old from.old) (stream_of S.left S.given feed.new from.new) (λ a b. (tree : Tree) (rest : List ItemValue)
         → feed.old.line ≡ window_line round.now.window + 3 + target_lines (target_of round.now.target)
-        → IsReadable round.now.language tree
+        → IsReadable round.now.format tree
         → a.course.items ≡ items_of_tree tree ++ rest
         → IsRoundJudged (problem_of problem.now) (round_of round.now) tree rest a result b) }
 {
@@ -263,7 +263,7 @@ fn judge_round<C: CountySet, F, S: ItemSource<F>>(
     ensures fed { FeedsThrough (stream_of S.left S.given feed.old from.old) (stream_of S.left S.given feed.new from.new) (λ a b. IsFed a result b) }
     ensures judged { ForEach (stream_of S.left S.given feed.old from.old) (stream_of S.left S.given feed.new from.new) (λ a b. (tree : Tree) (rest : List ItemValue)
         → feed.old.line ≡ window_line round.now.window + 3 + target_lines (target_of round.now.target)
-        → IsReadable round.now.language tree
+        → IsReadable round.now.format tree
         → a.course.items ≡ items_of_tree tree ++ rest
         → IsRoundJudged (problem_of problem.now) (round_of round.now) tree rest a result b) }
 {

@@ -7,7 +7,7 @@ ghost use Rattle.certificate_checker.specs.Feeding.{stream_of, CountsSteps, Take
 ghost use Rattle.certificate_checker.specs.Judging.{TookForm, IsStopAt, IsJudgedAt};
 
 use crate::feed::{Feed, Halt, next_line};
-use certificate_data::{Allowance, Language};
+use certificate_data::{Allowance, Format};
 use certificate_lines::{Item, ItemSource, Opening, Version};
 use county_codes::{Codes, Group, Window};
 use state_judge::LineStop;
@@ -68,14 +68,14 @@ pub(crate) fn next_allowance<F, S: ItemSource<F>>(
 pub(crate) fn next_head<F, S: ItemSource<F>>(
     feed: &mut Feed<S>,
     from: &mut F,
-) -> Result<(Language, Version), Halt>
+) -> Result<(Format, Version), Halt>
     requires { feed.old.line ≤ feed.old.steps.used }
     ensures counts { CountsSteps feed.old feed.new }
     ensures fed { FeedsThrough (stream_of S.left S.given feed.old from.old) (stream_of S.left S.given feed.new from.new) (λ a b. IsFed a result b) }
     ensures took { ForEach (stream_of S.left S.given feed.old from.old) (stream_of S.left S.given feed.new from.new) (λ a b. TookForm (λ h. item.Head h.0 h.1) (λ h. h) a result b) }
 {
     match next_line(feed, from)? {
-        Item::Head(language, version) => Ok((language, version)),
+        Item::Head(format, version) => Ok((format, version)),
         _ => Err(Halt::Unspelled),
     }
 }

@@ -4,7 +4,7 @@ ghost use Rattle.std.specs.Prelude.{◌≡◌, ◌≤◌, ◌∷◌, [], ◌++�
 ghost use Rattle.grouping_laws.specs.Grouping.{Grouping as GroupingValue};
 ghost use Rattle.county_codes.specs.declared.group.Group.{Group as GroupValue};
 ghost use Rattle.county_codes.specs.declared.window.Window.{Window as WindowValue};
-ghost use Rattle.certificate_data.specs.declared.language.Language.{Language as LanguageValue};
+ghost use Rattle.certificate_data.specs.declared.format.Format.{Format as FormatValue};
 ghost use Rattle.certificate_data.specs.RoundValue.{round_of, target_of};
 ghost use Rattle.certificate_lines.specs.declared.item.Item.{Item as ItemValue};
 ghost use Rattle.certificate_lines.specs.declared.item.Item.TheVariants as item;
@@ -15,7 +15,7 @@ ghost use Rattle.certificate_checker.specs.Certificates.{AreTaken, round_items};
 
 use crate::feed::{Feed, Halt};
 use crate::forms::{next_group, next_head, next_limit, next_order, next_target, next_window};
-use certificate_data::{Language, Round};
+use certificate_data::{Format, Round};
 use certificate_lines::{ItemSource, Version};
 use county_codes::{Group, Grouping, Window};
 use std::alloc::Global;
@@ -68,22 +68,22 @@ fn read_target<F, S: ItemSource<F>>(
     }
 }
 
-/// Reads the language in the head, and the tolerance on the second line if the head is of version 2.
+/// Reads the format in the head, and the tolerance on the second line if the head is of version 2.
 fn read_head<F, S: ItemSource<F>>(
     feed: &mut Feed<S>,
     from: &mut F,
-) -> Result<(Language, Option<Window>), Halt>
+) -> Result<(Format, Option<Window>), Halt>
     requires { feed.old.line ≤ feed.old.steps.used }
     ensures counts { CountsSteps feed.old feed.new }
     ensures fed { FeedsThrough (stream_of S.left S.given feed.old from.old) (stream_of S.left S.given feed.new from.new) (λ a b. IsFed a result b) }
-    ensures taken { ForEach (stream_of S.left S.given feed.old from.old) (stream_of S.left S.given feed.new from.new) (λ a b. (language : LanguageValue) (window : Option WindowValue) (rest : List ItemValue)
-        → a.course.items ≡ items_of_head language window ++ rest
-        → AreTaken (λ r. (r.0 ≡ language) × (r.1 ≡ window)) (items_of_head language window) rest a result b) }
+    ensures taken { ForEach (stream_of S.left S.given feed.old from.old) (stream_of S.left S.given feed.new from.new) (λ a b. (format : FormatValue) (window : Option WindowValue) (rest : List ItemValue)
+        → a.course.items ≡ items_of_head format window ++ rest
+        → AreTaken (λ r. (r.0 ≡ format) × (r.1 ≡ window)) (items_of_head format window) rest a result b) }
 {
     match next_head(feed, from) {
-        Ok((language, Version::One)) => Ok((language, None)),
-        Ok((language, Version::Two)) => match next_window(feed, from) {
-            Ok(window) => Ok((language, Some(window))),
+        Ok((format, Version::One)) => Ok((format, None)),
+        Ok((format, Version::Two)) => match next_window(feed, from) {
+            Ok(window) => Ok((format, Some(window))),
             Err(stop) => Err(stop),
         },
         Err(stop) => Err(stop),
@@ -105,7 +105,7 @@ pub(crate) fn read_round<F, S: ItemSource<F>>(
         ≡ c.round) (round_items c) (items_of_tree c.tree ++ item.End ∷ []) a result b) }
 {
     match read_head(feed, from) {
-        Ok((language, window)) => {
+        Ok((format, window)) => {
             let order = next_order(feed, from)?;
             let limit = next_limit(feed, from)?;
             match read_target(alloc, feed, from) {
@@ -113,7 +113,7 @@ pub(crate) fn read_round<F, S: ItemSource<F>>(
                     order,
                     limit,
                     target,
-                    language,
+                    format,
                     window,
                 }),
                 Err(stop) => Err(stop),

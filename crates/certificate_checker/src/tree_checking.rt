@@ -19,7 +19,7 @@ ghost use Rattle.certificate_checker.specs.TreeAnswers.{IsTreeAnswer, IsTreeWith
 use crate::certificate::{judge_order, judge_placed, judge_target};
 use crate::feed::{Feed, Halt, first_fault};
 use crate::verdict::TreeVerdict;
-use certificate_data::{Language, Round, Tree};
+use certificate_data::{Format, Round, Tree};
 use certificate_lines::{Items, TextFault};
 use certificate_text::tree_lines;
 use county_problem::{Counts, Ordered, Problem, Steps};
@@ -45,13 +45,13 @@ fn said_of(judged: Result<(), Halt>) -> Result<TreeVerdict, AllocError>
 fn fault_in(
     alloc: Global,
     lines: &[u8],
-    language: Language,
+    format: Format,
     places: u16,
 ) -> Result<Option<TextFault>, AllocError>
     requires { places ≤ most }
-    ensures { IfOk result (λ fault. fault ≡ (tree_course language places lines.now).fault) }
+    ensures { IfOk result (λ fault. fault ≡ (tree_course format places lines.now).fault) }
 {
-    let mut items = Items::of_tree(alloc, lines, language, places);
+    let mut items = Items::of_tree(alloc, lines, format, places);
     first_fault(&mut items)
 }
 
@@ -80,11 +80,11 @@ fn check_lines<C: CountySet>(
         → IfOk result (IsTreeWithinBudget tree budget) }
 {
     let places = ordered.places();
-    if let Some(fault) = fault_in(alloc, lines, round.language, places)? {
+    if let Some(fault) = fault_in(alloc, lines, round.format, places)? {
         return Ok(TreeVerdict::Fault(CheckFault::Text(fault)));
     }
     let mut feed = Feed {
-        source: Items::of_tree(alloc, lines, round.language, places),
+        source: Items::of_tree(alloc, lines, round.format, places),
         line: 0,
         steps: Steps::new(budget),
     };

@@ -1,8 +1,8 @@
-//! The data of a certificate: its language, its round, its tree with branches, takes and leaves, and the lines of a
+//! The data of a certificate: its format, its round, its tree with branches, takes and leaves, and the lines of a
 //! bound leaf.
 //!
 //! The types of the code stand in `src/`, and the same data as definitions in `specs/`: `Round`, `Tree`, and `Levels`
-//! (how each language counts the levels of a tree). `RoundValue` and `TreeValue` tie the two: they say which data a
+//! (how each format counts the levels of a tree). `RoundValue` and `TreeValue` tie the two: they say which data a
 //! value of the code stands for. The laws, lines, texts, checker and search build on this crate. The lines and the laws
 //! need nothing else of one another.
 //!
@@ -16,14 +16,14 @@
 mod allowance;
 mod certificate;
 mod copies;
-mod language;
+mod format;
 mod round;
 mod tree;
 mod weights;
 
 pub use allowance::Allowance;
 pub use certificate::Certificate;
-pub use language::Language;
+pub use format::Format;
 pub use round::Round;
 pub use tree::{Branch, Leaf, Take, Tree};
 pub use weights::{Weight, Weights};

@@ -1,9 +1,9 @@
-//! Rounds: an order, a limit, a target, a language and an allowance.
+//! Rounds: an order, a limit, a target, a format and an allowance.
 
 ghost use Rattle.std.specs.Prelude.{◌≡◌, IfOk};
 ghost use Rattle.certificate_data.specs.RoundValue.{round_of, target_of};
 
-use crate::language::Language;
+use crate::format::Format;
 use county_codes::{Codes, Grouping, Window};
 use std::alloc::AllocError;
 
@@ -19,8 +19,8 @@ pub struct Round {
     pub limit: u16,
     /// The grouping that is to be shown best. If there is none, it is to be shown that no grouping is lawful.
     pub target: Option<Grouping>,
-    /// The language of the certificate.
-    pub language: Language,
+    /// The format of the certificate.
+    pub format: Format,
     /// The allowance that the certificate names. A certificate that names none is for a twentieth.
     pub window: Option<Window>,
 }
@@ -34,7 +34,7 @@ impl Round {
             order: self.order.copy()?,
             limit: self.limit,
             target: copy_target(&self.target)?,
-            language: self.language,
+            format: self.format,
             window: self.window,
         })
     }

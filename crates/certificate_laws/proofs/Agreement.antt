@@ -11,8 +11,8 @@ use Rattle.grouping_laws.proofs.Digits.{digit_true, true_digit}
 use Rattle.grouping_laws.proofs.Sizes.{stands_some, count-le-count_in}
 use Rattle.grouping_laws.proofs.Alike.{Alike, length_alike, alike_from_same}
 use Rattle.grouping_laws.proofs.Parts.{member_head, has_from_stands}
-use Rattle.certificate_data.specs.declared.language.Language.{Language}
-use Rattle.certificate_data.specs.declared.language.Language.TheVariants.{Plain, Wide}
+use Rattle.certificate_data.specs.declared.format.Format.{Format}
+use Rattle.certificate_data.specs.declared.format.Format.TheVariants.{Plain, Wide}
 use Rattle.certificate_data.specs.Round.{Round}
 use Rattle.certificate_laws.specs.State.{State, IsState, IsLeastSize, empty_state}
 use Rattle.certificate_laws.specs.Agreement.{Agrees}
@@ -113,7 +113,7 @@ proof_tree_excludes p round s tree order fits state proves g lawful agrees beats
     (beats_same round.target (counts (sets_of g)) (counts_with s (peeled p round s state g lawful agrees).opens) (λ j. sym ((peeled p round s state g lawful agrees).sizes j)) beats)
 
 -- a county that asks for nothing
-pub no_size : (language : Language) (limit : ℕ) → IsLeastSize language limit 0
+pub no_size : (format : Format) (limit : ℕ) → IsLeastSize format limit 0
 no_size Plain limit = inl refl
 no_size Wide limit = tt
 
@@ -122,7 +122,7 @@ empty_is_state p round = record {
   once = λ c. omega arith;
   lawful = λ k d h. absurd (omega arith);
   small = λ k d h. absurd (omega arith);
-  sizes = λ c. no_size round.language round.limit;
+  sizes = λ c. no_size round.format round.limit;
   settled = λ c e. refl;
 }
 

@@ -8,7 +8,7 @@ use Rattle.grouping_laws.specs.Grouping.{Grouping, Lawful, counts, sets_of}
 use Rattle.place_laws.proofs.Sums.{total_same, total_ones, sum_by-append}
 use Rattle.grouping_laws.proofs.Elements.{Has, has-map}
 use Rattle.grouping_laws.proofs.Sizes.{share, below, below_more, below-le, below_all, below_same, same_sizes}
-use Rattle.certificate_data.specs.declared.language.Language.{Language}
+use Rattle.certificate_data.specs.declared.format.Format.{Format}
 use Rattle.certificate_laws.specs.Regions.{listed}
 use Rattle.certificate_laws.specs.State.{State, open_to}
 use Rattle.certificate_laws.specs.Fitting.{Fits}
@@ -33,7 +33,7 @@ heavy q i w (g ∷ sets) h = go (length g == i) refl (heavy q i w sets (λ k j. 
     go true e k = omega (arith, k, h g (inl refl) (eqb-true (length g) i e))
     go false e k = omega (arith, k)
 
-module _ (language : Language) (p : Problem) (s : State) (whole : IsWhole p s) (opens : Grouping) (c : Completes p s opens) where
+module _ (format : Format) (p : Problem) (s : State) (whole : IsWhole p s) (opens : Grouping) (c : Completes p s opens) where
   open_listed : (i x : ℕ) → open_to s i x ≡ true → contains p.counties x ≡ true
   open_listed i x e = rest_listed p s whole x (open_rest s i x e)
 
@@ -47,14 +47,14 @@ module _ (language : Language) (p : Problem) (s : State) (whole : IsWhole p s) (
   by_room : (i used : ℕ) → 1 ≤ i → used ≡ below i (sets_of opens) → counts (sets_of opens) i ≤ room_at p s i used / i
   by_room i used some e = (le-div_iff_mul-le some).1 (omega (arith, room_fits i, below_more i (sets_of opens)))
 
-  by_weight : (q i : ℕ) (w : ℕ → ℕ) → 1 ≤ q → ((g : List ℕ) → Fits language p s g → length g ≡ i → q ≤ sum_by w g) → counts (sets_of opens) i ≤ sum_by w (listed p (open_to s i)) / q
+  by_weight : (q i : ℕ) (w : ℕ → ℕ) → 1 ≤ q → ((g : List ℕ) → Fits format p s g → length g ≡ i → q ≤ sum_by w g) → counts (sets_of opens) i ≤ sum_by w (listed p (open_to s i)) / q
   by_weight q i w some fair =
-      let each = heavy q i w (sets_of opens) (λ g k e. fair g (set_fits p s whole opens c language g k) e) in
+      let each = heavy q i w (sets_of opens) (λ g k e. fair g (set_fits p s whole opens c format g k) e) in
       let few = share w (λ g. length g == i) (sets_of opens) p.counties (open_to s i) (once_le p s whole opens c) (open_listed i) (λ g k t. set_open p s whole opens c g i k (omega (arith, eqb-true (length g) i t))) in
       (le-div_iff_mul-le some).1 (omega (arith, each, few))
 
   -- no line allows fewer groups of a size than there are
-  pub line_fits : (line : Allowance) (i used : ℕ) → IsFair language p s i line → 1 ≤ i → used ≡ below i (sets_of opens) → counts (sets_of opens) i ≤ allowance p s i used line
+  pub line_fits : (line : Allowance) (i used : ℕ) → IsFair format p s i line → 1 ≤ i → used ≡ below i (sets_of opens) → counts (sets_of opens) i ≤ allowance p s i used line
   line_fits room i used fair some e = by_room i used some e
   line_fits (weigh q ws) i used fair some e = omega (arith, by_room i used some e, by_weight q i (weight_of ws) fair.0 fair.2)
 
@@ -77,15 +77,15 @@ module _ (language : Language) (p : Problem) (s : State) (whole : IsWhole p s) (
         zero_times (all_counts d) d (omega arith) (omega (arith, equal, target_all, sizes, more, ap (λ z. z * d) (all_sets d)))
 
     pub excluded : (d : ℕ) → ((j : ℕ) → 1 ≤ j → j < d → all_counts j ≡ counts (sets_of t) j) → counts (sets_of t) d < all_counts d
-        → (lines : List Allowance) (i used : ℕ) → Bounds language p limit s (counts (sets_of t)) i used lines → 1 ≤ i → i ≤ d → used ≡ below i (sets_of opens) → ⊥
+        → (lines : List Allowance) (i used : ℕ) → Bounds format p limit s (counts (sets_of t)) i used lines → 1 ≤ i → i ≤ d → used ≡ below i (sets_of opens) → ⊥
     excluded d same more [] i used b some below_d e = omega (arith, no_more d (omega (arith, b)) same, more)
     excluded d same more (line ∷ lines) i used b some below_d e = ⊎_elim (goes_on (excluded d same more lines (i + 1) (used + i * allowance p s i used line))) ends b.1
       where
         few : counts (sets_of opens) i ≤ allowance p s i used line
         few = line_fits line i used b.0 some e
 
-        goes_on : (Bounds language p limit s (counts (sets_of t)) (i + 1) (used + i * allowance p s i used line) lines → 1 ≤ i + 1 → i + 1 ≤ d → used + i * allowance p s i used line ≡ below (i + 1) (sets_of opens) → ⊥)
-            → (counts s.closed i + allowance p s i used line ≡ counts (sets_of t) i) × Bounds language p limit s (counts (sets_of t)) (i + 1) (used + i * allowance p s i used line) lines → ⊥
+        goes_on : (Bounds format p limit s (counts (sets_of t)) (i + 1) (used + i * allowance p s i used line) lines → 1 ≤ i + 1 → i + 1 ≤ d → used + i * allowance p s i used line ≡ below (i + 1) (sets_of opens) → ⊥)
+            → (counts s.closed i + allowance p s i used line ≡ counts (sets_of t) i) × Bounds format p limit s (counts (sets_of t)) (i + 1) (used + i * allowance p s i used line) lines → ⊥
         goes_on next r =
             let before : i < d = not_at i d below_d (λ k. omega (arith, more, few, r.0, ap (λ z. counts (sets_of t) z) k, ap all_counts k)) in
             let here = same i some before in

@@ -12,8 +12,8 @@ use Rattle.grouping_laws.proofs.Elements.{Has, has_all, all_from_has, has_left, 
 use Rattle.grouping_laws.proofs.Digits.{true_digit}
 use Rattle.grouping_laws.proofs.Alike.{member_same}
 use Rattle.grouping_laws.proofs.Parts.{has_from_stands}
-use Rattle.certificate_data.specs.declared.language.Language.{Language}
-use Rattle.certificate_data.specs.declared.language.Language.TheVariants.{Plain, Wide}
+use Rattle.certificate_data.specs.declared.format.Format.{Format}
+use Rattle.certificate_data.specs.declared.format.Format.TheVariants.{Plain, Wide}
 use Rattle.certificate_data.specs.Round.{Round}
 use Rattle.certificate_laws.specs.Regions.{without}
 use Rattle.certificate_laws.specs.State.{State, IsState, IsLeastSize, open_to, close, raise}
@@ -31,20 +31,20 @@ use Rattle.certificate_laws.proofs.Agreement.{Peeled, no_size, peeled, peeled_co
 use Rattle.certificate_laws.proofs.Narrowing.{closing_narrows, raising_narrows}
 
 -- a group that fits lies in the rest
-pub fits_rest : (language : Language) (p : Problem) (s : State) (g : List ℕ) → Fits language p s g → Inside s.rest g
-fits_rest language p s g fits x e = open_rest s (length g) x (fits.inside x e)
+pub fits_rest : (format : Format) (p : Problem) (s : State) (g : List ℕ) → Fits format p s g → Inside s.rest g
+fits_rest format p s g fits x e = open_rest s (length g) x (fits.inside x e)
 
-closed_state : (p : Problem) (round : Round) (s : State) (g : List ℕ) → IsState p round s → Fits round.language p s g → length g ≤ round.limit → IsState p round (close g s)
+closed_state : (p : Problem) (round : Round) (s : State) (g : List ℕ) → IsState p round s → Fits round.format p s g → length g ≤ round.limit → IsState p round (close g s)
 closed_state p round s g state fits small = record {
-  once = λ x. omega (arith, state.once x, split_one s.rest g fits.lawful.once (fits_rest round.language p s g fits) x, sum_by-append (count x) s.closed (g ∷ []));
+  once = λ x. omega (arith, state.once x, split_one s.rest g fits.lawful.once (fits_rest round.format p s g fits) x, sum_by-append (count x) s.closed (g ∷ []));
   lawful = All-push (LawfulGroup p) s.closed g state.lawful fits.lawful;
   small = All-push (λ k. length k ≤ round.limit) s.closed g state.small small;
   sizes = λ x. size x (contains g x);
   settled = λ x e. settle x (contains g x) e;
 }
   where
-    size : (x : ℕ) → (b : Bool) → IsLeastSize round.language round.limit (cond b 0 (s.least x))
-    size x true = no_size round.language round.limit
+    size : (x : ℕ) → (b : Bool) → IsLeastSize round.format round.limit (cond b 0 (s.least x))
+    size x true = no_size round.format round.limit
     size x false = state.sizes x
 
     and_yes : (b : Bool) → (b && true) ≡ false → b ≡ false
@@ -64,20 +64,20 @@ raised_state p round s c j state can = record {
   settled = λ x e. settle x e (x == c) refl;
 }
   where
-    raised : (language : Language) → GoesInOrder language round s c j → IsLeastSize language round.limit (j + 1)
+    raised : (format : Format) → GoesInOrder format round s c j → IsLeastSize format round.limit (j + 1)
     raised Plain turn = inr (omega (arith, turn.0))
     raised Wide turn = tt
 
-    size : (x : ℕ) → (b : Bool) → IsLeastSize round.language round.limit (cond b (j + 1) (s.least x))
-    size x true = raised round.language can.in_turn
+    size : (x : ℕ) → (b : Bool) → IsLeastSize round.format round.limit (cond b (j + 1) (s.least x))
+    size x true = raised round.format can.in_turn
     size x false = state.sizes x
 
     settle : (x : ℕ) → s.rest x ≡ false → (b : Bool) → (x == c) ≡ b → cond b (j + 1) (s.least x) ≡ 0
     settle x e true k = absurd (false≢true (sym e ∙ (ap s.rest (eqb-true x c k) ∙ open_rest s j c can.is_open)))
     settle x e false k = state.settled x e
 
-closed_agrees : (language : Language) (p : Problem) (s : State) (k : List ℕ) (g : Grouping) → Fits language p s k → Agrees (close k s) g → Agrees s g
-closed_agrees language p s k g fits a = record {
+closed_agrees : (format : Format) (p : Problem) (s : State) (k : List ℕ) (g : Grouping) → Fits format p s k → Agrees (close k s) g → Agrees s g
+closed_agrees format p s k g fits a = record {
   closed = all_from_has (λ k. (m : Group) × Contains g m × SameSet m.codes k) s.closed (λ x h. settled x (has_left s.closed (k ∷ []) x h));
   large = λ x e. go x e (contains k x) refl;
 }
@@ -219,13 +219,13 @@ closed_turns p round s c j g can from =
     fewer_kept (open_to (close g s) round.limit) (open_to s round.limit) p.counties c (closed_open s g round.limit) (from.fits.lawful.listed c from.has) (settled_shut s g round.limit c from.has) (open_above s j round.limit c can.small can.is_open)
 
 -- in a plain round a branch has the round's limit
-pub plain_limit : (language : Language) (round : Round) (s : State) (c j : ℕ) → language ≡ Plain → GoesInOrder language round s c j → j ≡ round.limit
-plain_limit language round s c j e turn = let t : GoesInOrder Plain round s c j = subst (λ l. GoesInOrder l round s c j) e turn in t.0
+pub plain_limit : (format : Format) (round : Round) (s : State) (c j : ℕ) → format ≡ Plain → GoesInOrder format round s c j → j ≡ round.limit
+plain_limit format round s c j e turn = let t : GoesInOrder Plain round s c j = subst (λ l. GoesInOrder l round s c j) e turn in t.0
 
-raised_turns : (p : Problem) (round : Round) (s : State) (c j : ℕ) → round.language ≡ Plain → IsState p round s → CanBranch round s c j → turns_left p round.limit (raise c j s) < turns_left p round.limit s
+raised_turns : (p : Problem) (round : Round) (s : State) (c j : ℕ) → round.format ≡ Plain → IsState p round s → CanBranch round s c j → turns_left p round.limit (raise c j s) < turns_left p round.limit s
 raised_turns p round s c j plainly state can =
     fewer_kept (open_to (raise c j s) round.limit) (open_to s round.limit) p.counties c (raised_open s c j (omega (arith, open_least s j c can.is_open)) round.limit) (rest_listed p s state.once c (open_rest s j c can.is_open))
-    (subst (λ i. open_to (raise c j s) i c ≡ false) (plain_limit round.language round s c j plainly can.in_turn) (raised_shut s c j)) (open_above s j round.limit c can.small can.is_open)
+    (subst (λ i. open_to (raise c j s) i c ≡ false) (plain_limit round.format round s c j plainly can.in_turn) (raised_shut s c j)) (open_above s j round.limit c can.small can.is_open)
 
 few_turns : (p : Problem) (limit : ℕ) (s : State) → turns_left p limit s ≤ length p.counties
 few_turns p limit s = omega (arith, length-filter (open_to s limit) p.counties, total_le (λ x. indicator (open_to s limit x)) (λ x. 1) p.counties (λ x. digit_one (open_to s limit x)), total_ones p.counties)
@@ -239,7 +239,7 @@ branch_keeps_state = record {
   closed_agrees = closed_agrees;
   raised_agrees = raised_agrees;
   some_agrees = some_agrees;
-  closed_narrows = λ p round s k is state fits. closing_narrows round.language p s k is (rest_listed p s state.once) fits;
+  closed_narrows = λ p round s k is state fits. closing_narrows round.format p s k is (rest_listed p s state.once) fits;
   raised_narrows = raising_narrows;
   closed_fewer = closed_fewer;
   raised_fewer = raised_fewer;

@@ -14,8 +14,8 @@ use Rattle.grouping_laws.proofs.Alike.{Alike, length_alike, alike_from_same, in_
 use Rattle.grouping_laws.proofs.Parts.{FillRegion, within_part, has_hit}
 use Rattle.grouping_laws.proofs.Fill.{same_from}
 use Rattle.grouping_laws.proofs.Seated.{parts_seated, least_sum, most_sum, AllZip-append, seated_sets, seated_seats, seated_has, first_code, set_from_stands}
-use Rattle.certificate_data.specs.declared.language.Language.{Language}
-use Rattle.certificate_data.specs.declared.language.Language.TheVariants.{Plain, Wide}
+use Rattle.certificate_data.specs.declared.format.Format.{Format}
+use Rattle.certificate_data.specs.declared.format.Format.TheVariants.{Plain, Wide}
 use Rattle.certificate_data.specs.Round.{Round}
 use Rattle.certificate_laws.specs.Regions.{without}
 use Rattle.certificate_laws.specs.State.{State, open_to, close}
@@ -201,36 +201,36 @@ seats_by_parts p s parts are v = (own, λ lows highs l h. ⊎_elim (λ o. inl (a
         omega (arith, o.1, most_sum p (s.closed ++ v.parts) v.ranges moved.0 o.0 moved.1, moved.2)
 
 -- a group that fits, in the order of places
-pub fits_alike : (language : Language) (p : Problem) (s : State) (g k : List ℕ) → Alike g k → Fits language p s g → Fits language p s k
-fits_alike language p s g k same f = record {
+pub fits_alike : (format : Format) (p : Problem) (s : State) (g k : List ℕ) → Alike g k → Fits format p s g → Fits format p s k
+fits_alike format p s g k same f = record {
   lawful = lawful_alike p g k same f.lawful;
   inside = λ x e. subst (λ n. open_to s n x ≡ true) (length_alike g k same) (f.inside x (member_alike k g (λ y. sym (same y)) x e));
-  kept = left language f.kept;
+  kept = left format f.kept;
 }
   where
     dead_too : IsDead p s k → IsDead p s g
     dead_too d = record { part = d.part; is_part = without_same p s.rest g k d.part (λ x. member_same g k same x) d.is_part; stuck = d.stuck }
 
-    left : (language : Language) → IsKept language p s g → IsKept language p s k
+    left : (format : Format) → IsKept format p s g → IsKept format p s k
     left Plain h = tt
     left Wide h = λ d. h (dead_too d)
 
 -- so it is one of the list of its size
-pub listed_alike : (p : Problem) (round : Round) (s : State) (i : ℕ) (groups : List (List ℕ)) → IsOrder p round.order → AreGroupsOf p round s i groups → (g : List ℕ) → Fits round.language p s g → length g ≡ i
+pub listed_alike : (p : Problem) (round : Round) (s : State) (i : ℕ) (groups : List (List ℕ)) → IsOrder p round.order → AreGroupsOf p round s i groups → (g : List ℕ) → Fits round.format p s g → length g ≡ i
     → Alike g (filter (contains g) round.order) × Has groups (filter (contains g) round.order)
 listed_alike p round s i groups order are g fits e =
     let k = filter (contains g) round.order in
     let same : Alike g k = in_order_alike round.order p.counties g order fits.lawful.once fits.lawful.listed in (
       same,
       has_from_contains groups k ((are.each k).1 (record {
-        fits = fits_alike round.language p s g k same fits;
+        fits = fits_alike round.format p s g k same fits;
         in_order = filter_agree (contains k) (contains g) (λ x. sym (member_same g k same x)) round.order;
         size = omega (arith, e, length_alike g k same);
       })),
     )
 
 fair_by_list : (p : Problem) (round : Round) (s : State) (i quota : ℕ) (w : ℕ → ℕ) (groups : List (List ℕ)) → IsOrder p round.order → AreGroupsOf p round s i groups → All (λ g. quota ≤ sum_by w g) groups
-    → (g : List ℕ) → Fits round.language p s g → length g ≡ i → quota ≤ sum_by w g
+    → (g : List ℕ) → Fits round.format p s g → length g ≡ i → quota ≤ sum_by w g
 fair_by_list p round s i quota w groups order are heavy g fits e =
     let r = listed_alike p round s i groups order are g fits e in
     omega (arith, has_all (λ g. quota ≤ sum_by w g) groups heavy (filter (contains g) round.order) r.1, total_alike w g (filter (contains g) round.order) r.0)

@@ -8,8 +8,8 @@ use Rattle.place_laws.proofs.Sums.{member_from_often, total_le, total_times, tot
 use Rattle.grouping_laws.proofs.Elements.{Has, contains_from_has}
 use Rattle.grouping_laws.proofs.Digits.{true_digit}
 use Rattle.grouping_laws.proofs.Parts.{member_head}
-use Rattle.certificate_data.specs.declared.language.Language.{Language}
-use Rattle.certificate_data.specs.declared.language.Language.TheVariants.{Plain, Wide}
+use Rattle.certificate_data.specs.declared.format.Format.{Format}
+use Rattle.certificate_data.specs.declared.format.Format.TheVariants.{Plain, Wide}
 use Rattle.certificate_data.specs.Round.{Round}
 use Rattle.certificate_laws.specs.Regions.{without, listed}
 use Rattle.certificate_laws.specs.State.{State, IsState, open_to, close, raise}
@@ -24,7 +24,7 @@ use Rattle.certificate_laws.proofs.Counting.{fewer_kept, no_more_kept, sum_by-fi
 use Rattle.certificate_laws.proofs.Branches.{branch_keeps_state, open_above, closed_open, raised_open, settled_shut, raised_shut, settled_out}
 
 -- how many counties a path can still use up, in order: of the rest, in a plain round of those open to groups of at most the limit
-abbrev depth_left : Language → Round → State → ℕ
+abbrev depth_left : Format → Round → State → ℕ
 depth_left Plain round s = length (filter (open_to s round.limit) round.order)
 depth_left Wide round s = length (filter s.rest round.order)
 
@@ -35,38 +35,38 @@ module _ (p : Problem) (round : Round) (order : IsOrder p round.order) (s : Stat
   here : contains round.order c ≡ true
   here = in_order p round.order order c (rest_listed p s state.once c (open_rest s j c can.is_open))
 
-  closed_depth : (language : Language) (g : List ℕ) → contains g c ≡ true → depth_left language round (close g s) < depth_left language round s
+  closed_depth : (format : Format) (g : List ℕ) → contains g c ≡ true → depth_left format round (close g s) < depth_left format round s
   closed_depth Plain g m = fewer_kept (open_to (close g s) round.limit) (open_to s round.limit) round.order c (closed_open s g round.limit) here (settled_shut s g round.limit c m) (open_above s j round.limit c can.small can.is_open)
   closed_depth Wide g m = fewer_kept (close g s).rest s.rest round.order c (without_in g s.rest) here (settled_out s g c m) (open_rest s j c can.is_open)
 
-  some_depth : (language : Language) → 1 ≤ depth_left language round s
-  some_depth language = omega (arith, closed_depth language (c ∷ []) (head c))
+  some_depth : (format : Format) → 1 ≤ depth_left format round s
+  some_depth format = omega (arith, closed_depth format (c ∷ []) (head c))
     where
       head : (c : ℕ) → contains (c ∷ []) c ≡ true
       head c = member_head c []
 
-  raised_depth : (language : Language) (n : ℕ) → GoesInOrder language round s c j → depth_left language round s ≤ n → depth_left language round (raise c j s) ≤ after_raise language n
+  raised_depth : (format : Format) (n : ℕ) → GoesInOrder format round s c j → depth_left format round s ≤ n → depth_left format round (raise c j s) ≤ after_raise format n
   raised_depth Plain n turn few =
       let shut : open_to (raise c j s) round.limit c ≡ false = subst (λ i. open_to (raise c j s) i c ≡ false) turn.0 (raised_shut s c j) in
       omega (arith, few, fewer_kept (open_to (raise c j s) round.limit) (open_to s round.limit) round.order c (raised_open s c j (omega (arith, open_least s j c can.is_open)) round.limit) here shut (open_above s j round.limit c can.small can.is_open))
   raised_depth Wide n turn few = few
 
 mutual
-  within_tree : (tree : Tree) (p : Problem) (round : Round) (s : State) (n : ℕ) → IsOrder p round.order → IsState p round s → Proves tree p round s → depth_left round.language round s ≤ n → IsWithin round.language n tree
+  within_tree : (tree : Tree) (p : Problem) (round : Round) (s : State) (n : ℕ) → IsOrder p round.order → IsState p round s → Proves tree p round s → depth_left round.format round s ≤ n → IsWithin round.format n tree
   within_tree (leaf l) p round s n order state v few = tt
   within_tree (branch county limit takes raised) p round s n order state v few = (
-    omega (arith, few, some_depth p round order s state county (limit_of round limit) v.1 round.language),
+    omega (arith, few, some_depth p round order s state county (limit_of round limit) v.1 round.format),
     within_takes takes p round s (n - 1) order
         (λ g h.
         let from = (v.2.each g).0 (contains_from_has (groups_of takes) g h) in
-        ((branch_keeps_state).closed_state p round s g state from.fits (omega (arith, from.small, (v.1).small)), omega (arith, few, closed_depth p round order s state county (limit_of round limit) v.1 round.language g from.has)))
+        ((branch_keeps_state).closed_state p round s g state from.fits (omega (arith, from.small, (v.1).small)), omega (arith, few, closed_depth p round order s state county (limit_of round limit) v.1 round.format g from.has)))
         v.3,
-    within_tree raised p round (raise county (limit_of round limit) s) (after_raise round.language n) order ((branch_keeps_state).raised_state p round s county (limit_of round limit) state v.1) v.4
-        (raised_depth p round order s state county (limit_of round limit) v.1 round.language n (v.1).in_turn few),
+    within_tree raised p round (raise county (limit_of round limit) s) (after_raise round.format n) order ((branch_keeps_state).raised_state p round s county (limit_of round limit) state v.1) v.4
+        (raised_depth p round order s state county (limit_of round limit) v.1 round.format n (v.1).in_turn few),
   )
 
-  within_takes : (takes : Takes) (p : Problem) (round : Round) (s : State) (n : ℕ) → IsOrder p round.order → ((g : List ℕ) → Has (groups_of takes) g → IsState p round (close g s) × (depth_left round.language round (close g s) ≤ n)) → EachProves takes p round s
-      → EachWithin round.language n takes
+  within_takes : (takes : Takes) (p : Problem) (round : Round) (s : State) (n : ℕ) → IsOrder p round.order → ((g : List ℕ) → Has (groups_of takes) g → IsState p round (close g s) × (depth_left round.format round (close g s) ≤ n)) → EachProves takes p round s
+      → EachWithin round.format n takes
   within_takes no_take p round s n order each v = tt
   within_takes (take codes tree others) p round s n order each v =
       let first = each codes (inl refl) in
@@ -189,10 +189,10 @@ mutual
 
 pub trees_are_shallow : TreesAreShallow
 trees_are_shallow = record {
-  within = λ p round s tree order state v. within_tree tree p round s (length round.order) order state v (at_most round.language round s);
+  within = λ p round s tree order state v. within_tree tree p round s (length round.order) order state v (at_most round.format round s);
   few_branches = λ p round s tree state v. few_on tree p round s state v;
   few_with_limits = λ p round s tree state v limits. omega (arith, spare_on tree p round s state v limits, few_spare p round.limit s);
-  few_in_order = λ p round s tree plainly order state v. within_few tree (length round.order) (subst (λ l. IsWithin l (length round.order) tree) plainly (within_tree tree p round s (length round.order) order state v (at_most round.language round s)));
+  few_in_order = λ p round s tree plainly order state v. within_few tree (length round.order) (subst (λ l. IsWithin l (length round.order) tree) plainly (within_tree tree p round s (length round.order) order state v (at_most round.format round s)));
 }
   where
     kept : (q : ℕ → Bool) (xs : List ℕ) → length (filter q xs) ≤ length xs
@@ -202,6 +202,6 @@ trees_are_shallow = record {
         all_kept [] = refl
         all_kept (x ∷ xs) = omega (arith, all_kept xs)
 
-    at_most : (language : Language) (round : Round) (s : State) → depth_left language round s ≤ length round.order
+    at_most : (format : Format) (round : Round) (s : State) → depth_left format round s ≤ length round.order
     at_most Plain round s = kept (open_to s round.limit) round.order
     at_most Wide round s = kept s.rest round.order

@@ -13,8 +13,8 @@ use Rattle.grouping_laws.proofs.Elements.{Has, has_all, all_from_has, contains_f
 use Rattle.grouping_laws.proofs.Digits.{true_digit}
 use Rattle.grouping_laws.proofs.Ranges.{seats_to}
 use Rattle.grouping_laws.proofs.Seated.{set_from_stands, first_code, seated_find, seated_lawful}
-use Rattle.certificate_data.specs.declared.language.Language.{Language}
-use Rattle.certificate_data.specs.declared.language.Language.TheVariants.{Plain, Wide}
+use Rattle.certificate_data.specs.declared.format.Format.{Format}
+use Rattle.certificate_data.specs.declared.format.Format.TheVariants.{Plain, Wide}
 use Rattle.certificate_data.specs.Round.{Round}
 use Rattle.certificate_laws.specs.Regions.{without, listed}
 use Rattle.certificate_laws.specs.State.{State, IsState, open_to}
@@ -41,11 +41,11 @@ counts_none (g ∷ sets) j h = go (length g == j) refl (counts_none sets j (λ x
     go false e k = omega (arith, k)
 
 -- a bound leaf has no line past the limit
-few_lines : (language : Language) (p : Problem) (limit : ℕ) (s : State) (wanted : ℕ → ℕ) (i used : ℕ) (lines : List Allowance) → Bounds language p limit s wanted i used lines → i + length lines ≤ limit + 1
-few_lines language p limit s wanted i used [] b = omega (arith, b)
-few_lines language p limit s wanted i used (line ∷ lines) b =
+few_lines : (format : Format) (p : Problem) (limit : ℕ) (s : State) (wanted : ℕ → ℕ) (i used : ℕ) (lines : List Allowance) → Bounds format p limit s wanted i used lines → i + length lines ≤ limit + 1
+few_lines format p limit s wanted i used [] b = omega (arith, b)
+few_lines format p limit s wanted i used (line ∷ lines) b =
     ⊎_elim
-    (λ r. omega (arith, few_lines language p limit s wanted (i + 1) (used + i * allowance p s i used line) lines r.1))
+    (λ r. omega (arith, few_lines format p limit s wanted (i + 1) (used + i * allowance p s i used line) lines r.1))
     (λ r. omega (arith, r.0, ap length r.2))
     b.1
 
@@ -94,12 +94,12 @@ module _ (p : Problem) (round : Round) (s : State) (parts : List (List ℕ)) (ra
       lawful : (k : ℕ) → Suits p (people_of p xs) k → LawfulGroup p xs
       lawful k suits = record { once = (is_part xs h).once; listed = λ c m. rest_listed p s state.once c ((is_part xs h).inside c m); connected = (is_part xs h).connected; seats = k; suits = suits }
 
-      left : (language : Language) → IsKept language p s xs
+      left : (format : Format) → IsKept format p s xs
       left Plain = tt
       left Wide = part_live xs h
 
-      fits : Fits round.language p s xs
-      fits = let r = part_range xs h in record { lawful = lawful r.0 r.2.suits; inside = λ c m. is_open s (length xs) c ((is_part xs h).inside c m) (part_fills xs h c m); kept = left round.language }
+      fits : Fits round.format p s xs
+      fits = let r = part_range xs h in record { lawful = lawful r.0 r.2.suits; inside = λ c m. is_open s (length xs) c ((is_part xs h).inside c m) (part_fills xs h c m); kept = left round.format }
 
   closed_range : (g : List ℕ) → LawfulGroup p g → (low : ℕ) × (high : ℕ) × IsLeast p g low × IsMost p g high
   closed_range g lawful = ⊎_elim none some (ranges (people_of p g))
@@ -152,13 +152,13 @@ module _ (p : Problem) (round : Round) (s : State) (parts : List (List ℕ)) (ra
   abbrev line_of : ℕ → Allowance
   line_of i = weigh i []
 
-  no_group : (i : ℕ) → i ≤ round.limit → (g : List ℕ) → Fits round.language p s g → length g ≡ i → ⊥
+  no_group : (i : ℕ) → i ≤ round.limit → (g : List ℕ) → Fits round.format p s g → length g ≡ i → ⊥
   no_group i h g fits e = no_group_fits g fits (omega (arith, e))
 
-  line_fair : (i : ℕ) → 1 ≤ i → i ≤ round.limit → IsFair round.language p s i (line_of i)
+  line_fair : (i : ℕ) → 1 ≤ i → i ≤ round.limit → IsFair round.format p s i (line_of i)
   line_fair i some h = (some, λ k d l. absurd (omega arith), λ g fits e. absurd (no_group i h g fits e))
 
-  line_counts : (i : ℕ) → i ≤ round.limit → IsCountLine round.language p s i (line_of i)
+  line_counts : (i : ℕ) → i ≤ round.limit → IsCountLine round.format p s i (line_of i)
   line_counts i l = record {
     weights = [];
     is = refl;
@@ -170,7 +170,7 @@ module _ (p : Problem) (round : Round) (s : State) (parts : List (List ℕ)) (ra
   no_allowance i = omega (arith, none_weigh (listed p (open_to s i)), div-le_self (sum_by (weight_of []) (listed p (open_to s i))) i)
 
   -- some size at which the closed groups are more than wanted
-  find_more : (wanted : ℕ → ℕ) (n i : ℕ) → i + n ≡ round.limit + 1 → 1 ≤ i → ((lines : List Allowance) → AreCountLines round.language p s i lines → Bounds round.language p round.limit s wanted i 0 lines → ⊥)
+  find_more : (wanted : ℕ → ℕ) (n i : ℕ) → i + n ≡ round.limit + 1 → 1 ≤ i → ((lines : List Allowance) → AreCountLines round.format p s i lines → Bounds round.format p round.limit s wanted i 0 lines → ⊥)
       → (d : ℕ) × (i ≤ d) × (d ≤ round.limit) × ((j : ℕ) → i ≤ j → j < d → counts s.closed j ≡ wanted j) × (wanted d < counts s.closed d)
   find_more wanted zero i e some h = absurd (h [] tt (omega arith))
   find_more wanted (suc n) i e some h = ⊎_elim (same (find_more wanted n (i + 1) (omega arith) (omega arith))) (λ o. ⊎_elim less more o) (cases_order (counts s.closed i) (wanted i))
@@ -184,10 +184,10 @@ module _ (p : Problem) (round : Round) (s : State) (parts : List (List ℕ)) (ra
       within : i ≤ round.limit
       within = omega arith
 
-      same : (((lines : List Allowance) → AreCountLines round.language p s (i + 1) lines → Bounds round.language p round.limit s wanted (i + 1) 0 lines → ⊥) → More (i + 1)) → counts s.closed i ≡ wanted i → More i
+      same : (((lines : List Allowance) → AreCountLines round.format p s (i + 1) lines → Bounds round.format p round.limit s wanted (i + 1) 0 lines → ⊥) → More (i + 1)) → counts s.closed i ≡ wanted i → More i
       same next k =
           let nothing : 0 ≡ 0 + i * allowance p s i 0 (line_of i) = omega (arith, ap (λ z. i * z) (no_allowance i)) in
-          let r = next (λ lines are b. h (line_of i ∷ lines) (line_counts i within, are) (line_fair i some within, inl (omega (arith, no_allowance i, k), subst (λ z. Bounds round.language p round.limit s wanted (i + 1) z lines) nothing b))) in
+          let r = next (λ lines are b. h (line_of i ∷ lines) (line_counts i within, are) (line_fair i some within, inl (omega (arith, no_allowance i, k), subst (λ z. Bounds round.format p round.limit s wanted (i + 1) z lines) nothing b))) in
           (r.0, omega (arith, r.1), r.2, at k r.0 r.3, r.4)
 
       less : counts s.closed i < wanted i → More i
@@ -202,7 +202,7 @@ module _ (p : Problem) (round : Round) (s : State) (parts : List (List ℕ)) (ra
   beats_target : (target : Option Grouping) → round.target ≡ target → Beats target (counts (s.closed ++ parts))
   beats_target None e = tt
   beats_target (Some t) e =
-      let r = find_more (counts (sets_of t)) round.limit 1 (omega arith) (omega arith) (λ lines are b. no_leaf.no_count lines (omega (arith, few_lines round.language p round.limit s (counts (sets_of t)) 1 0 lines b)) are (t, e, b)) in
+      let r = find_more (counts (sets_of t)) round.limit 1 (omega arith) (omega arith) (λ lines are b. no_leaf.no_count lines (omega (arith, few_lines round.format p round.limit s (counts (sets_of t)) 1 0 lines b)) are (t, e, b)) in
       record {
         size = r.0;
         some_county = r.1;

@@ -10,7 +10,7 @@ use Rattle.grouping_laws.proofs.Elements.{has_from_contains, all_from_has, conta
 use Rattle.grouping_laws.proofs.Digits.{often_member}
 use Rattle.grouping_laws.proofs.Alike.{Alike, in_order_alike, lawful_alike, length_alike, member_same}
 use Rattle.grouping_laws.proofs.Fill.{one, grown, member_cases}
-use Rattle.certificate_data.specs.declared.language.Language.TheVariants.{Plain, Wide}
+use Rattle.certificate_data.specs.declared.format.Format.TheVariants.{Plain, Wide}
 use Rattle.certificate_laws.specs.Regions.{without}
 use Rattle.certificate_laws.specs.State.{State, open_to, empty_state, raise}
 use Rattle.certificate_laws.specs.Fitting.{Fits, IsDead}
@@ -193,7 +193,7 @@ wide_certificate = record {
   );
 }
 
--- a leaf alone, in the wide language
+-- a leaf alone, in the wide format
 none_at_first : (g : List ℕ) (i : ℕ) → Fits Wide stranding (empty_state stranding) g → length g ≡ i → i ≤ 2 → ⊥
 none_at_first g i f e small =
     let same : Alike g (filter (contains g) path) = in_order_alike path path g order f.lawful.once f.lawful.listed in
@@ -216,7 +216,7 @@ lone_certificate = record {
   proof = (together, refl, ((lit≤ tt, λ k d h. absurd (omega arith), fair_at_first 1 (lit≤ tt)), inl (refl, ((lit≤ tt, λ k d h. absurd (omega arith), fair_at_first 2 (lit≤ tt)), inl (refl, (tt, inl (refl, refl)))))));
 }
 
--- in the plain language the middle county alone fits, and weighs nothing
+-- in the plain format the middle county alone fits, and weighs nothing
 middle_fits : Fits Plain stranding (empty_state stranding) (37003 ∷ [])
 middle_fits = record {
   lawful = record {

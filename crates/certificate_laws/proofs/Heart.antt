@@ -28,7 +28,7 @@ bound_excludes : (p : Problem) (round : Round) (s : State) → IsWhole p s → T
 bound_excludes p round s whole fits lines b opens c beats =
     let f : Lawful p b.0 × All (λ m. length m.codes ≤ round.limit) b.0 = subst (TargetFits p round.limit) b.1 fits in
     let g : IsGreater (counts_with s opens) (counts (sets_of b.0)) = subst (λ t. Beats t (counts_with s opens)) b.1 beats in
-    excluded round.language p s whole opens c round.limit b.0 f.0 (has_all (λ m. length m.codes ≤ round.limit) b.0 f.1) g.size g.same_before g.more lines 1 0 b.2 (omega arith) g.some_county (sym (below_first (sets_of opens)))
+    excluded round.format p s whole opens c round.limit b.0 f.0 (has_all (λ m. length m.codes ≤ round.limit) b.0 f.1) g.size g.same_before g.more lines 1 0 b.2 (omega arith) g.some_county (sym (below_first (sets_of opens)))
 
 leaf_excludes : (p : Problem) (round : Round) (s : State) → IsWhole p s → TargetFits p round.limit round.target → (l : Leaf) → IsValidLeaf p round s l
     → (opens : Grouping) → Completes p s opens → Beats round.target (counts_with s opens) → ⊥
@@ -45,7 +45,7 @@ group_there p round s order whole opens c county limit m h has small =
     let same : Alike m.codes g = in_order_alike round.order p.counties m.codes order lawful.once lawful.listed in (
       same,
       record {
-        fits = group_fits p s whole opens c round.language m h g same;
+        fits = group_fits p s whole opens c round.format m h g same;
         in_order = filter_agree (contains g) (contains m.codes) (λ x. sym (member_same m.codes g same x)) round.order;
         has = member_alike m.codes g same county has;
         small = omega (arith, length_alike m.codes g same);

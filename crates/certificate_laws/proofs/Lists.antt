@@ -5,7 +5,7 @@ use Rattle.grouping_laws.specs.Problem.{Problem}
 use Rattle.grouping_laws.specs.GroupsFrom.{IsBefore, IsOrder}
 use Rattle.grouping_laws.proofs.Elements.{Has, has_from_contains, contains_from_has, has_append, has_left, has_right}
 use Rattle.grouping_laws.proofs.Parts.{has-filter}
-use Rattle.certificate_data.specs.declared.language.Language.TheVariants.{Wide}
+use Rattle.certificate_data.specs.declared.format.Format.TheVariants.{Wide}
 use Rattle.certificate_data.specs.Round.{Round}
 use Rattle.certificate_laws.specs.State.{State, open_to}
 use Rattle.certificate_laws.specs.Fitting.{Fits, NoGroupFits}
@@ -25,7 +25,7 @@ set_of_size : (p : Problem) (round : Round) (s : State) (i : ℕ) (g : List ℕ)
 set_of_size p round s i g f = record { connected = f.fits.lawful.connected; in_order = f.in_order; small = omega (arith, f.size); inside = λ x e. open_above s (length g) i x (omega (arith, f.size)) (f.fits.inside x e) }
 
 pub kept_at : (p : Problem) (round : Round) (s : State) (c j : ℕ) (keep : List ℕ → Bool) (groups : List (List ℕ)) → ((g : List ℕ) → Contains groups g ↔ (IsSetAt p round.order s c j g × (keep g ≡ true)))
-    → AllPairs (IsBefore round.order) groups → ((g : List ℕ) → IsSetAt p round.order s c j g → (keep g ≡ true) ↔ Fits round.language p s g) → AreGroupsAt p round s c j groups
+    → AllPairs (IsBefore round.order) groups → ((g : List ℕ) → IsSetAt p round.order s c j g → (keep g ≡ true) ↔ Fits round.format p s g) → AreGroupsAt p round s c j groups
 kept_at p round s c j keep groups each sorted decides = record {
   each = λ g. (
     λ h. let r = (each g).0 h in record { fits = (decides g r.0).0 r.1; in_order = r.0.in_order; has = r.0.has; small = r.0.small },
@@ -35,7 +35,7 @@ kept_at p round s c j keep groups each sorted decides = record {
 }
 
 kept_of : (p : Problem) (round : Round) (s : State) (i : ℕ) (keep : List ℕ → Bool) (groups : List (List ℕ)) → ((g : List ℕ) → Contains groups g ↔ (IsSetWithin p round.order s i g × (keep g ≡ true)))
-    → AllPairs (IsBefore round.order) groups → ((g : List ℕ) → IsSetWithin p round.order s i g → (keep g ≡ true) ↔ (Fits round.language p s g × (length g ≡ i))) → AreGroupsOf p round s i groups
+    → AllPairs (IsBefore round.order) groups → ((g : List ℕ) → IsSetWithin p round.order s i g → (keep g ≡ true) ↔ (Fits round.format p s g × (length g ≡ i))) → AreGroupsOf p round s i groups
 kept_of p round s i keep groups each sorted decides = record {
   each = λ g. (
     λ h. let r = (each g).0 h in let f = (decides g r.0).0 r.1 in record { fits = f.0; in_order = r.0.in_order; size = f.1 },
@@ -44,8 +44,8 @@ kept_of p round s i keep groups each sorted decides = record {
   sorted = sorted;
 }
 
-narrower_at : (p : Problem) (round : Round) (s t : State) (c j k : ℕ) (groups : List (List ℕ)) (keep : List ℕ → Bool) → Narrows round.language p s t → k ≤ j
-    → ((g : List ℕ) → Contains groups g → (keep g ≡ true) ↔ (Fits round.language p t g × (length g ≤ k))) → AreGroupsAt p round s c j groups → AreGroupsAt p round t c k (filter keep groups)
+narrower_at : (p : Problem) (round : Round) (s t : State) (c j k : ℕ) (groups : List (List ℕ)) (keep : List ℕ → Bool) → Narrows round.format p s t → k ≤ j
+    → ((g : List ℕ) → Contains groups g → (keep g ≡ true) ↔ (Fits round.format p t g × (length g ≤ k))) → AreGroupsAt p round s c j groups → AreGroupsAt p round t c k (filter keep groups)
 narrower_at p round s t c j k groups keep narrows lower decides a = record {
   each = λ g. (
     λ h.
@@ -61,8 +61,8 @@ narrower_at p round s t c j k groups keep narrows lower decides a = record {
   sorted = filter_pairs (IsBefore round.order) keep groups a.sorted;
 }
 
-narrower_of : (p : Problem) (round : Round) (s t : State) (i : ℕ) (groups : List (List ℕ)) (keep : List ℕ → Bool) → Narrows round.language p s t
-    → ((g : List ℕ) → Contains groups g → (keep g ≡ true) ↔ Fits round.language p t g) → AreGroupsOf p round s i groups → AreGroupsOf p round t i (filter keep groups)
+narrower_of : (p : Problem) (round : Round) (s t : State) (i : ℕ) (groups : List (List ℕ)) (keep : List ℕ → Bool) → Narrows round.format p s t
+    → ((g : List ℕ) → Contains groups g → (keep g ≡ true) ↔ Fits round.format p t g) → AreGroupsOf p round s i groups → AreGroupsOf p round t i (filter keep groups)
 narrower_of p round s t i groups keep narrows decides a = record {
   each = λ g. (
     λ h.
@@ -130,7 +130,7 @@ module _ (p : Problem) (round : Round) (s : State) (lists : ℕ → List (List �
   takes_of_least : (c j : ℕ) → 1 ≤ j → ((i : ℕ) → 1 ≤ i → i < j → lists i ≡ []) → AreLists p round s j lists → AreGroupsAt p round s c j (filter (λ g. contains g c) (lists j))
   takes_of_least c j some empty are = subst (λ z. AreGroupsAt p round s c j (filter (λ g. contains g c) z)) (only_last j some empty) (takes c j are)
 
-can : (p : Problem) (round : Round) (s : State) (c j : ℕ) (g : List ℕ) → round.language ≡ Wide → IsGroupOf p round s j g → contains g c ≡ true → j ≤ round.limit → CanBranch round s c j
+can : (p : Problem) (round : Round) (s : State) (c j : ℕ) (g : List ℕ) → round.format ≡ Wide → IsGroupOf p round s j g → contains g c ≡ true → j ≤ round.limit → CanBranch round s c j
 can p round s c j g widely f has small = record {
   small = small;
   is_open = subst (λ n. open_to s n c ≡ true) f.size (f.fits.inside c has);

@@ -6,8 +6,8 @@ use Rattle.grouping_laws.specs.Problem.{Problem}
 use Rattle.grouping_laws.specs.Grouping.{Grouping, sets_of}
 use Rattle.grouping_laws.proofs.Elements.{Has, has-map}
 use Rattle.grouping_laws.proofs.Alike.{Alike, length_alike, member_alike, lawful_alike}
-use Rattle.certificate_data.specs.declared.language.Language.{Language}
-use Rattle.certificate_data.specs.declared.language.Language.TheVariants.{Plain, Wide}
+use Rattle.certificate_data.specs.declared.format.Format.{Format}
+use Rattle.certificate_data.specs.declared.format.Format.TheVariants.{Plain, Wide}
 use Rattle.certificate_laws.specs.State.{State, close}
 use Rattle.certificate_laws.specs.StuckParts.{CannotFill, StuckPart}
 use Rattle.certificate_laws.specs.Fitting.{IsDead, IsKept, Fits}
@@ -37,16 +37,16 @@ module _ (p : Problem) (s : State) (whole : IsWhole p s) (opens : Grouping) (c :
   group_live : (m : Group) (h : Has opens m) (g : List ℕ) → Alike m.codes g → IsDead p s g → ⊥
   group_live m h g same d = none_stuck p (close g s) (close_whole p s whole opens c m h g same) (others_of opens m h) (close_completes p s whole opens c m h g same) (dead_leaves p s g d)
 
-  pub group_fits : (language : Language) (m : Group) → Has opens m → (g : List ℕ) → Alike m.codes g → Fits language p s g
-  group_fits language m h g same = record {
+  pub group_fits : (format : Format) (m : Group) → Has opens m → (g : List ℕ) → Alike m.codes g → Fits format p s g
+  group_fits format m h g same = record {
     lawful = lawful_alike p m.codes g same (group_lawful p s whole opens c m h);
     inside = λ x e. group_open p s whole opens c m (length g) h (omega (arith, length_alike m.codes g same)) x (member_alike g m.codes (λ y. sym (same y)) x e);
-    kept = left language;
+    kept = left format;
   }
     where
-      left : (language : Language) → IsKept language p s g
+      left : (format : Format) → IsKept format p s g
       left Plain = tt
       left Wide = group_live m h g same
 
-  pub set_fits : (language : Language) (g : List ℕ) → Has (sets_of opens) g → Fits language p s g
-  set_fits language g h = let r = has-map opens g h in subst (Fits language p s) r.2 (group_fits language r.0 r.1 r.0.codes (λ x. refl))
+  pub set_fits : (format : Format) (g : List ℕ) → Has (sets_of opens) g → Fits format p s g
+  set_fits format g h = let r = has-map opens g h in subst (Fits format p s) r.2 (group_fits format r.0 r.1 r.0.codes (λ x. refl))

@@ -1,4 +1,4 @@
--- The language with marks is the plain language.
+-- The format with marks is the plain format.
 use Rattle.std.proofs.Common.{◌≡◌, ◌↔◌, ℕ, ◌+◌, ◌-◌, ◌*◌, ◌/◌, ◌≤◌, ◌<◌, Bool, true, false, cond, nat_le, not, ◌&&◌, ◌||◌, min, List, [], ◌∷◌, filter, length, ◌==◌, refl, sym, ap, ◌∙◌, subst, arith, ◌⊎◌, inl, inr, ⊎_elim, Contains, Some, None}
 use Rattle.std.proofs.lemmas.Bool.{eqb-true, false≢true, le-leb, lt-leb}
 use Rattle.std.proofs.lemmas.List.Elements.{All-push}
@@ -13,8 +13,8 @@ use Rattle.grouping_laws.proofs.Elements.{Has, contains_from_has}
 use Rattle.grouping_laws.proofs.Digits.{true_digit}
 use Rattle.grouping_laws.proofs.Alike.{begins, head_same}
 use Rattle.grouping_laws.proofs.Parts.{member_head, has_from_stands}
-use Rattle.certificate_data.specs.declared.language.Language.{Language}
-use Rattle.certificate_data.specs.declared.language.Language.TheVariants.{Plain, Wide}
+use Rattle.certificate_data.specs.declared.format.Format.{Format}
+use Rattle.certificate_data.specs.declared.format.Format.TheVariants.{Plain, Wide}
 use Rattle.certificate_data.specs.Round.{Round}
 use Rattle.certificate_laws.specs.Regions.{listed}
 use Rattle.certificate_laws.specs.State.{State, IsState, IsLeastSize, open_to, close, raise, empty_state}
@@ -50,10 +50,10 @@ last_rest p limit s wanted [] i left b = omega (arith, b)
 last_rest p limit s wanted (line ∷ lines) i left b =
     ⊎_elim (λ r. omega (arith, last_rest p limit s wanted lines (i + 1) (left - i * rest_allowance p s i left line) r.1)) (λ r. omega (arith, r.0)) b.1
 
-last_bound : (language : Language) (p : Problem) (limit : ℕ) (s : State) (wanted : ℕ → ℕ) (lines : List Allowance) (i used : ℕ) → Bounds language p limit s wanted i used lines → i ≤ limit + 1
-last_bound language p limit s wanted [] i used b = omega (arith, b)
-last_bound language p limit s wanted (line ∷ lines) i used b =
-    ⊎_elim (λ r. omega (arith, last_bound language p limit s wanted lines (i + 1) (used + i * allowance p s i used line) r.1)) (λ r. omega (arith, r.0)) b.1
+last_bound : (format : Format) (p : Problem) (limit : ℕ) (s : State) (wanted : ℕ → ℕ) (lines : List Allowance) (i used : ℕ) → Bounds format p limit s wanted i used lines → i ≤ limit + 1
+last_bound format p limit s wanted [] i used b = omega (arith, b)
+last_bound format p limit s wanted (line ∷ lines) i used b =
+    ⊎_elim (λ r. omega (arith, last_bound format p limit s wanted lines (i + 1) (used + i * allowance p s i used line) r.1)) (λ r. omega (arith, r.0)) b.1
 
 module _ (p : Problem) (limit : ℕ) (s : MarkedState) (is : IsMarkedState p limit s) where
   abbrev sized : State
@@ -207,12 +207,12 @@ module _ (p : Problem) (limit : ℕ) (s : MarkedState) (is : IsMarkedState p lim
   seats_from : IsOffSeats p sized → IsMarkedOff p s
   seats_from v = record { parts = v.parts; are_parts = v.are_parts; ranges = v.ranges; off = v.off }
 
--- a round read in the plain language
+-- a round read in the plain format
 abbrev plainly : Round → Round
-plainly round = record round { language = Plain }
+plainly round = record round { format = Plain }
 
-plain_round_same : (round : Round) → round.language ≡ Plain → plainly round ≡ round
-plain_round_same round e = ap (λ (l : Language). record round { language = l }) (sym e)
+plain_round_same : (round : Round) → round.format ≡ Plain → plainly round ≡ round
+plain_round_same round e = ap (λ (l : Format). record round { format = l }) (sym e)
 
 module _ (p : Problem) (round : Round) (s : MarkedState) (is : IsMarkedState p round.limit s) where
   leaf_to : (l : Leaf) → IsMarkedLeaf p round s l → IsValidLeaf p (plainly round) (as_state round.limit s) l
@@ -324,7 +324,7 @@ agrees_to p limit s g is lawful a = record { closed = a.closed; large = λ c e. 
 agrees_from : (limit : ℕ) (s : MarkedState) (g : Grouping) → Agrees (as_state limit s) g → AgreesAbove limit s g
 agrees_from limit s g a = record { closed = a.closed; marked = λ c e. let r = a.large c (rw e refl) in (r.0, r.1, r.2, omega (arith, r.3, ap (λ z. cond z (limit + 1) 0) e)) }
 
-states : (p : Problem) (round : Round) (s : MarkedState) → round.language ≡ Plain → IsMarkedState p round.limit s → IsState p round (as_state round.limit s)
+states : (p : Problem) (round : Round) (s : MarkedState) → round.format ≡ Plain → IsMarkedState p round.limit s → IsState p round (as_state round.limit s)
 states p round s e is = record {
   once = λ c. omega (arith, is.once c, one c (s.marked c) refl (s.rest c) refl);
   lawful = is.lawful;
@@ -354,7 +354,7 @@ marked_once p round s is = record { once = λ c. omega (arith, is.once c, split 
     split true false = refl
     split false b = refl
 
-marked_back : (p : Problem) (round : Round) (s : State) → round.language ≡ Plain → IsState p round s → as_state round.limit (as_marked round.limit s) ≡ s
+marked_back : (p : Problem) (round : Round) (s : State) → round.format ≡ Plain → IsState p round s → as_state round.limit (as_marked round.limit s) ≡ s
 marked_back p round s e is = same_state (as_state round.limit (as_marked round.limit s)) s refl (λ c. rests (s.rest c) (nat_le (s.least c) round.limit)) (λ c. sizes c (s.rest c) refl (plain_size c))
   where
     rests : (r b : Bool) → ((r && not b) || (r && b)) ≡ r
@@ -377,24 +377,24 @@ marked_back p round s e is = same_state (as_state round.limit (as_marked round.l
     sizes c true k (inr h) = ap (λ b. cond (not b) (round.limit + 1) 0) (high (s.least c) h) ∙ sym h
 
 -- fewer groups fit in a wide round
-fits_plain : (language : Language) (p : Problem) (s : State) (g : List ℕ) → language ≡ Plain → Fits Wide p s g → Fits language p s g
-fits_plain language p s g e f = record { lawful = f.lawful; inside = f.inside; kept = subst (λ l. IsKept l p s g) (sym e) tt }
+fits_plain : (format : Format) (p : Problem) (s : State) (g : List ℕ) → format ≡ Plain → Fits Wide p s g → Fits format p s g
+fits_plain format p s g e f = record { lawful = f.lawful; inside = f.inside; kept = subst (λ l. IsKept l p s g) (sym e) tt }
 
-wide_fair : (language : Language) (p : Problem) (s : State) (i : ℕ) (line : Allowance) → language ≡ Plain → IsFair language p s i line → IsFair Wide p s i line
-wide_fair language p s i room e f = tt
-wide_fair language p s i (weigh q ws) e f = (f.0, f.1, λ g fits k. f.2 g (fits_plain language p s g e fits) k)
+wide_fair : (format : Format) (p : Problem) (s : State) (i : ℕ) (line : Allowance) → format ≡ Plain → IsFair format p s i line → IsFair Wide p s i line
+wide_fair format p s i room e f = tt
+wide_fair format p s i (weigh q ws) e f = (f.0, f.1, λ g fits k. f.2 g (fits_plain format p s g e fits) k)
 
-wide_bounds : (language : Language) (p : Problem) (limit : ℕ) (s : State) (wanted : ℕ → ℕ) (i used : ℕ) (lines : List Allowance) → language ≡ Plain → Bounds language p limit s wanted i used lines → Bounds Wide p limit s wanted i used lines
-wide_bounds language p limit s wanted i used [] e b = b
-wide_bounds language p limit s wanted i used (line ∷ lines) e b =
-    (wide_fair language p s i line e b.0, ⊎_elim (λ r. inl (r.0, wide_bounds language p limit s wanted (i + 1) (used + i * allowance p s i used line) lines e r.1)) (λ r. inr r) b.1)
+wide_bounds : (format : Format) (p : Problem) (limit : ℕ) (s : State) (wanted : ℕ → ℕ) (i used : ℕ) (lines : List Allowance) → format ≡ Plain → Bounds format p limit s wanted i used lines → Bounds Wide p limit s wanted i used lines
+wide_bounds format p limit s wanted i used [] e b = b
+wide_bounds format p limit s wanted i used (line ∷ lines) e b =
+    (wide_fair format p s i line e b.0, ⊎_elim (λ r. inl (r.0, wide_bounds format p limit s wanted (i + 1) (used + i * allowance p s i used line) lines e r.1)) (λ r. inr r) b.1)
 
-leaf_widens : (p : Problem) (round : Round) (s : State) (l : Leaf) → round.language ≡ Plain → IsValidLeaf p round s l → IsValidLeaf p (record round { language = Wide }) s l
+leaf_widens : (p : Problem) (round : Round) (s : State) (l : Leaf) → round.format ≡ Plain → IsValidLeaf p round s l → IsValidLeaf p (record round { format = Wide }) s l
 leaf_widens p round s (stuck county) e v = v
 leaf_widens p round s seats e v = v
-leaf_widens p round s (bound lines) e v = (v.0, v.1, wide_bounds round.language p round.limit s (counts (sets_of v.0)) 1 0 lines e v.2)
+leaf_widens p round s (bound lines) e v = (v.0, v.1, wide_bounds round.format p round.limit s (counts (sets_of v.0)) 1 0 lines e v.2)
 
-takes_same : (p : Problem) (round : Round) (s : State) (c : ℕ) (gs : List (List ℕ)) → round.language ≡ Plain → IsState p round s → BeginsWith c (filter (open_to s round.limit) round.order)
+takes_same : (p : Problem) (round : Round) (s : State) (c : ℕ) (gs : List (List ℕ)) → round.format ≡ Plain → IsState p round s → BeginsWith c (filter (open_to s round.limit) round.order)
     → AreGroupsAt p round s c round.limit gs ↔ AreGroupsFrom p round.order round.limit c (open_to s round.limit) gs
 takes_same p round s c gs e is first = (
   λ a. groups_back p round m marked c first gs (subst (λ z. AreGroupsAt p (plainly round) z c round.limit gs) (sym back) (subst (λ r. AreGroupsAt p r s c round.limit gs) (sym (plain_round_same round e)) a)),

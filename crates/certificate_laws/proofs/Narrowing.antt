@@ -12,8 +12,8 @@ use Rattle.grouping_laws.proofs.Digits.{true_digit}
 use Rattle.grouping_laws.proofs.Parts.{FillRegion, hits, has_hit, within_part, inner, part_suits}
 use Rattle.grouping_laws.proofs.Ranges.{people_have_ranges}
 use Rattle.grouping_laws.proofs.Seated.{seated_sets, seated_has}
-use Rattle.certificate_data.specs.declared.language.Language.{Language}
-use Rattle.certificate_data.specs.declared.language.Language.TheVariants.{Plain, Wide}
+use Rattle.certificate_data.specs.declared.format.Format.{Format}
+use Rattle.certificate_data.specs.declared.format.Format.TheVariants.{Plain, Wide}
 use Rattle.certificate_laws.specs.Regions.{without}
 use Rattle.certificate_laws.specs.State.{State, open_to, close, raise}
 use Rattle.certificate_laws.specs.StuckParts.{CannotFill}
@@ -141,11 +141,11 @@ module _ (p : Problem) (is : IsProblem p) (s : State) (h g : List ℕ) (lawful :
       go false e = dead_apart (λ x m. apart e x m (contains h x) refl)
 
 -- a group that fits once another is closed fitted before
-pub closing_narrows : (language : Language) (p : Problem) (s : State) (h : List ℕ) → IsProblem p → ((x : ℕ) → s.rest x ≡ true → contains p.counties x ≡ true) → Fits language p s h → Narrows language p s (close h s)
-closing_narrows language p s h is listed fits g f = record {
+pub closing_narrows : (format : Format) (p : Problem) (s : State) (h : List ℕ) → IsProblem p → ((x : ℕ) → s.rest x ≡ true → contains p.counties x ≡ true) → Fits format p s h → Narrows format p s (close h s)
+closing_narrows format p s h is listed fits g f = record {
   lawful = f.lawful;
   inside = λ x e. is_open s (length g) x (without_in h s.rest x (in_rest x e)) (before x (off x e) (open_least (close h s) (length g) x (f.inside x e)));
-  kept = left language fits f;
+  kept = left format fits f;
 }
   where
     in_rest : (x : ℕ) → contains g x ≡ true → (close h s).rest x ≡ true
@@ -161,16 +161,16 @@ closing_narrows language p s h is listed fits g f = record {
     g_off x e true k = absurd (false≢true (sym (off x k) ∙ e))
     g_off x e false k = refl
 
-    left : (language : Language) → Fits language p s h → Fits language p (close h s) g → IsKept language p s g
+    left : (format : Format) → Fits format p s h → Fits format p (close h s) g → IsKept format p s g
     left Plain a b = tt
     left Wide a b = λ d. b.kept (still_dead p is s h g a.lawful a.inside (λ x e. g_off x e (contains g x) refl) listed d)
 
 -- a group that fits once a county is raised fitted before
-pub raising_narrows : (language : Language) (p : Problem) (s : State) (c j : ℕ) → s.least c ≤ j + 1 → Narrows language p s (raise c j s)
-raising_narrows language p s c j under g f = record {
+pub raising_narrows : (format : Format) (p : Problem) (s : State) (c j : ℕ) → s.least c ≤ j + 1 → Narrows format p s (raise c j s)
+raising_narrows format p s c j under g f = record {
   lawful = f.lawful;
   inside = λ x e. is_open s (length g) x (open_rest (raise c j s) (length g) x (f.inside x e)) (omega (arith, more x (x == c) refl, open_least (raise c j s) (length g) x (f.inside x e)));
-  kept = left language f;
+  kept = left format f;
 }
   where
     more : (x : ℕ) → (b : Bool) → (x == c) ≡ b → s.least x ≤ cond b (j + 1) (s.least x)
@@ -181,6 +181,6 @@ raising_narrows language p s c j under g f = record {
     cannot xs (inl none) = inl none
     cannot xs (inr few) = inr (few.0, few.1, omega (arith, few.2, more few.0 (few.0 == c) refl))
 
-    left : (language : Language) → Fits language p (raise c j s) g → IsKept language p s g
+    left : (format : Format) → Fits format p (raise c j s) g → IsKept format p s g
     left Plain b = tt
     left Wide b = λ d. b.kept (record { part = d.part; is_part = d.is_part; stuck = cannot d.part d.stuck })

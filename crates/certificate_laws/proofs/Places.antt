@@ -17,8 +17,8 @@ use Rattle.place_laws.proofs.PlaceSets.{often_below, often_tested}
 use Rattle.grouping_laws.proofs.PlaceCodes.{Below, member_has, mapped_has, has_mapped, often_code, member_code, code_place}
 use Rattle.grouping_laws.proofs.PlaceProblem.{below_ordered, places_ordered, order_once, suits_codes, suits_places, connected_codes, connected_places, ordered_codes, places_for, codes_for}
 use Rattle.grouping_laws.proofs.PlaceGroups.{before_codes, codes_pairs}
-use Rattle.certificate_data.specs.declared.language.Language.{Language}
-use Rattle.certificate_data.specs.declared.language.Language.TheVariants.{Plain, Wide}
+use Rattle.certificate_data.specs.declared.format.Format.{Format}
+use Rattle.certificate_data.specs.declared.format.Format.TheVariants.{Plain, Wide}
 use Rattle.certificate_data.specs.Round.{Round}
 use Rattle.certificate_laws.specs.Regions.{without, listed}
 use Rattle.certificate_laws.specs.State.{State}
@@ -199,8 +199,8 @@ module _ (p : Problem) (order : List ℕ) (whole : IsOrder p order) where
         same : codes_at order xs ≡ d.part
         same = codes_back order d.part known
 
-    fits_codes : (language : Language) (g : List ℕ) → Below n g → Fits language (at_places p order) t g → Fits language p s (codes_at order g)
-    fits_codes language g below f = record {
+    fits_codes : (format : Format) (g : List ℕ) → Below n g → Fits format (at_places p order) t g → Fits format p s (codes_at order g)
+    fits_codes format g below f = record {
       lawful = record {
         once = once_codes g below f.lawful.once;
         listed = λ c e. let r = code_place order once g below c e in in_order c (subst (λ z. contains order z ≡ true) r.2 (has_member order (code_at order (place order c)) (has_get order (place order c) 0 r.0)));
@@ -214,18 +214,18 @@ module _ (p : Problem) (order : List ℕ) (whole : IsOrder p order) where
           is_open s (length (codes_at order g)) c
           (ap s.rest (sym r.2) ∙ (sym (at.rest.same (place order c) r.0) ∙ open_rest t (length g) (place order c) o))
           (omega (arith, open_least t (length g) (place order c) o, at.least (place order c) r.0, ap s.least r.2, length-map g (code_at order)));
-      kept = left language f.kept;
+      kept = left format f.kept;
     }
       where
         in_order : (c : ℕ) → contains order c ≡ true → contains p.counties c ≡ true
         in_order c e = digit_true (contains p.counties c) (omega (arith, whole c, often_some c order e))
 
-        left : (language : Language) → IsKept language (at_places p order) t g → IsKept language p s (codes_at order g)
+        left : (format : Format) → IsKept format (at_places p order) t g → IsKept format p s (codes_at order g)
         left Plain k = tt
         left Wide k = λ d. k (dead_places g below d)
 
-    fits_places : (language : Language) (g : List ℕ) → Below n g → Fits language p s (codes_at order g) → Fits language (at_places p order) t g
-    fits_places language g below f = record {
+    fits_places : (format : Format) (g : List ℕ) → Below n g → Fits format p s (codes_at order g) → Fits format (at_places p order) t g
+    fits_places format g below f = record {
       lawful = record {
         once = once_places g below f.lawful.once;
         listed = λ i e. member_from_often i (places_below n) (omega (arith, often_below n i (below i (member_has g i e))));
@@ -239,22 +239,22 @@ module _ (p : Problem) (order : List ℕ) (whole : IsOrder p order) where
           is_open t (length g) i
           (at.rest.same i l ∙ open_rest s (length (codes_at order g)) (code_at order i) o)
           (omega (arith, open_least s (length (codes_at order g)) (code_at order i) o, at.least i l, length-map g (code_at order)));
-      kept = left language f.kept;
+      kept = left format f.kept;
     }
       where
-        left : (language : Language) → IsKept language p s (codes_at order g) → IsKept language (at_places p order) t g
+        left : (format : Format) → IsKept format p s (codes_at order g) → IsKept format (at_places p order) t g
         left Plain k = tt
         left Wide k = λ d. k (dead_codes g below d)
 
 module _ (p : Problem) (round : Round) (whole : IsOrder p round.order) (s t : State) (at : IsStateAt round.order s t) where
   -- a list of groups by places has all that there are by codes
-  to_places : (h : List ℕ) → Fits round.language p s h → filter (contains h) round.order ≡ h → (g : List ℕ) × (codes_at round.order g ≡ h) × Below (length round.order) g × Fits round.language (at_places p round.order) t g × (filter (contains g) (places_below (length round.order)) ≡ g)
+  to_places : (h : List ℕ) → Fits round.format p s h → filter (contains h) round.order ≡ h → (g : List ℕ) × (codes_at round.order g ≡ h) × Below (length round.order) g × Fits round.format (at_places p round.order) t g × (filter (contains g) (places_below (length round.order)) ≡ g)
   to_places h f ordered =
       let same = codes_for p round.order (order_once p round.order whole) h ordered in
       let kept = places_ordered (length round.order) (λ i. contains h (code_at round.order i)) in
       let g = places_for p round.order (order_once p round.order whole) h in
       let below = below_ordered (length round.order) g kept in
-      (g, same, below, fits_places p round.order whole s t at round.language g below (subst (Fits round.language p s) (sym same) f), kept)
+      (g, same, below, fits_places p round.order whole s t at round.format g below (subst (Fits round.format p s) (sym same) f), kept)
 
   size_same : (g : List ℕ) → length (codes_at round.order g) ≡ length g
   size_same g = length-map g (code_at round.order)
@@ -272,7 +272,7 @@ module _ (p : Problem) (round : Round) (whole : IsOrder p round.order) (s t : St
       one g x =
           let below = below_ordered (length round.order) g x.in_order in
           record {
-            fits = fits_codes p round.order whole s t at round.language g below x.fits;
+            fits = fits_codes p round.order whole s t at round.format g below x.fits;
             in_order = ordered_codes p round.order (order_once p round.order whole) g x.in_order;
             has = member_code round.order (order_once p round.order whole) g below i l ∙ x.has;
             small = omega (arith, x.small, size_same g);
@@ -305,7 +305,7 @@ module _ (p : Problem) (round : Round) (whole : IsOrder p round.order) (s t : St
 
       one : (g : List ℕ) → IsGroupOf (at_places p round.order) (round_at round) t i g → IsGroupOf p round s i (codes_at round.order g)
       one g x = record {
-        fits = fits_codes p round.order whole s t at round.language g (below_ordered (length round.order) g x.in_order) x.fits;
+        fits = fits_codes p round.order whole s t at round.format g (below_ordered (length round.order) g x.in_order) x.fits;
         in_order = ordered_codes p round.order (order_once p round.order whole) g x.in_order;
         size = size_same g ∙ x.size;
       }
@@ -328,7 +328,7 @@ places_serve = record {
   part = λ p order region places xs whole at a. part_codes p order whole region places at xs a;
   parts = λ p order region places parts whole at are. parts_codes p order whole region places at parts are;
   cannot_fill = λ p order s t xs whole at below. (cannot_codes p order whole s t at xs (λ i h. below i (has_member xs i h)), cannot_places p order whole s t at xs (λ i h. below i (has_member xs i h)));
-  fits = λ p round s t g whole at below. (fits_codes p round.order whole s t at round.language g (λ i h. below i (has_member g i h)), fits_places p round.order whole s t at round.language g (λ i h. below i (has_member g i h)));
+  fits = λ p round s t g whole at below. (fits_codes p round.order whole s t at round.format g (λ i h. below i (has_member g i h)), fits_places p round.order whole s t at round.format g (λ i h. below i (has_member g i h)));
   groups_at = λ p round s t i j groups whole at l are. groups_at_codes p round whole s t at i j groups l are;
   groups_of_size = λ p round s t i groups whole at are. groups_of_codes p round whole s t at i groups are;
 }

@@ -6,8 +6,8 @@ use Rattle.grouping_laws.specs.Ranges.{seated}
 use Rattle.grouping_laws.proofs.Elements.{Has, contains_from_has}
 use Rattle.grouping_laws.proofs.Ranges.{people_have_ranges}
 use Rattle.grouping_laws.proofs.Seated.{seated_sets}
-use Rattle.certificate_data.specs.declared.language.Language.{Language}
-use Rattle.certificate_data.specs.declared.language.Language.TheVariants.{Plain, Wide}
+use Rattle.certificate_data.specs.declared.format.Format.{Format}
+use Rattle.certificate_data.specs.declared.format.Format.TheVariants.{Plain, Wide}
 use Rattle.certificate_data.specs.Round.{Round}
 use Rattle.certificate_laws.specs.State.{State, IsState, close, raise}
 use Rattle.certificate_laws.specs.Fitting.{NoGroupFits}
@@ -23,8 +23,8 @@ use Rattle.certificate_laws.proofs.Regions.{parts_exist}
 use Rattle.certificate_laws.proofs.Branches.{branch_keeps_state}
 use Rattle.certificate_laws.proofs.Ends.{finished_beats}
 
--- how a branch of that language names its limit
-limit_named : (language : Language) (round : Round) (s : State) (c j : ℕ) → GoesInOrder language round s c j → (limit : Option ℕ) × NamesLimit language limit × (limit_of round limit ≡ j)
+-- how a branch of that format names its limit
+limit_named : (format : Format) (round : Round) (s : State) (c j : ℕ) → GoesInOrder format round s c j → (limit : Option ℕ) × NamesLimit format limit × (limit_of round limit ≡ j)
 limit_named Plain round s c j turn = (None, tt, sym turn.0)
 limit_named Wide round s c j turn = (Some j, tt, refl)
 
@@ -45,14 +45,14 @@ module _ (p : Problem) (round : Round) (is : IsProblem p)
   each_take s c j next (g ∷ gs) from =
       ⊎_elim
       (λ t. ⊎_elim (λ ts. inl (take g t.0 ts.0, ap (λ z. g ∷ z) ts.1, (t.1, ts.2))) (λ h. inr h) (each_take s c j next gs (λ x h. from x (inr h))))
-      (λ h. inr (h.0, (h.1.0, (branch_keeps_state).closed_agrees round.language p s g h.0 (from g (inl refl)).fits h.1.1, h.1.2)))
+      (λ h. inr (h.0, (h.1.0, (branch_keeps_state).closed_agrees round.format p s g h.0 (from g (inl refl)).fits h.1.1, h.1.2)))
       (next g (from g (inl refl)))
 
   branching : (s : State) → IsState p round s → ((t : State) → steps_left p round.limit t < steps_left p round.limit s → IsState p round t → SearchEnd p round t) → (c j : ℕ) → CanBranch round s c j → SearchEnd p round s
   branching s state next c j can =
       let gs = groups s c j state can in
       let keep = branch_keeps_state in
-      let named = limit_named round.language round s c j can.in_turn in
+      let named = limit_named round.format round s c j can.in_turn in
       let back : j ≡ limit_of round named.0 = sym named.2 in
       ⊎_elim
       (λ ts. ⊎_elim

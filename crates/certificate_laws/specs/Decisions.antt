@@ -34,7 +34,7 @@ pub record LeavesAreDecided : Type 0 where
   -- a line's weights are fair where they are so for the groups of one list
   pub fair : (p : Problem) (round : Round) (s : State) (i quota : ℕ) (w : ℕ → ℕ) (groups : List (List ℕ))
       → IsOrder p round.order → AreGroupsOf p round s i groups → All (λ g. quota ≤ sum_by w g) groups
-      → (g : List ℕ) → Fits round.language p s g → length g ≡ i → quota ≤ sum_by w g
+      → (g : List ℕ) → Fits round.format p s g → length g ≡ i → quota ≤ sum_by w g
   -- the seats leaf goes by any list of the parts, all of which then suit some seats
   pub seats : (p : Problem) (s : State) (parts : List (List ℕ)) → AreParts p s.rest parts → IsOffSeats p s
       → ((ks : List ℕ) × SuitAll p parts ks)

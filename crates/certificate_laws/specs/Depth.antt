@@ -3,8 +3,8 @@ use Rattle.std.specs.Prelude.{ℕ, ◌+◌, ◌-◌, ◌*◌, ◌≡◌, ◌≤�
 use Rattle.grouping_laws.specs.Problem.{Problem}
 use Rattle.grouping_laws.specs.GroupsFrom.{IsOrder}
 pub use Rattle.certificate_data.specs.Levels.{after_raise}
-use Rattle.certificate_data.specs.declared.language.Language.{Language}
-use Rattle.certificate_data.specs.declared.language.Language.TheVariants.{Plain}
+use Rattle.certificate_data.specs.declared.format.Format.{Format}
+use Rattle.certificate_data.specs.declared.format.Format.TheVariants.{Plain}
 use Rattle.certificate_data.specs.Round.{Round}
 use Rattle.certificate_laws.specs.State.{State, IsState}
 use Rattle.certificate_data.specs.Tree.{Tree, leaf, branch, Takes, no_take, take}
@@ -13,14 +13,14 @@ use Rattle.certificate_laws.specs.Branching.{steps_left}
 
 -- the depth of each branch is below n: in a wide text how many takes it stands in, in a plain one how many branches
 abbrev mutual
-  pub IsWithin : Language → ℕ → Tree → Type 0
-  IsWithin language n (leaf l) = ⊤
-  IsWithin language n (branch county limit takes raised) =
-      (1 ≤ n) × EachWithin language (n - 1) takes × IsWithin language (after_raise language n) raised
+  pub IsWithin : Format → ℕ → Tree → Type 0
+  IsWithin format n (leaf l) = ⊤
+  IsWithin format n (branch county limit takes raised) =
+      (1 ≤ n) × EachWithin format (n - 1) takes × IsWithin format (after_raise format n) raised
 
-  pub EachWithin : Language → ℕ → Takes → Type 0
-  EachWithin language n no_take = ⊤
-  EachWithin language n (take codes tree others) = IsWithin language n tree × EachWithin language n others
+  pub EachWithin : Format → ℕ → Takes → Type 0
+  EachWithin format n no_take = ⊤
+  EachWithin format n (take codes tree others) = IsWithin format n tree × EachWithin format n others
 
 -- the most branches on a path
 abbrev mutual
@@ -43,14 +43,14 @@ abbrev mutual
   EachHasLimits round no_take = ⊤
   EachHasLimits round (take codes tree others) = HasLimits round tree × EachHasLimits round others
 
--- Each proof tree keeps the depth of its language, and no path of it has more branches than there are steps left, in a
+-- Each proof tree keeps the depth of its format, and no path of it has more branches than there are steps left, in a
 -- plain round than there are counties.
 pub record TreesAreShallow : Type 0 where
   pub within : (p : Problem) (round : Round) (s : State) (tree : Tree) → IsOrder p round.order → IsState p round s
-      → Proves tree p round s → IsWithin round.language (length round.order) tree
+      → Proves tree p round s → IsWithin round.format (length round.order) tree
   pub few_branches : (p : Problem) (round : Round) (s : State) (tree : Tree) → IsState p round s → Proves tree p round s
       → branches_on tree ≤ steps_left p round.limit s
-  pub few_in_order : (p : Problem) (round : Round) (s : State) (tree : Tree) → round.language ≡ Plain
+  pub few_in_order : (p : Problem) (round : Round) (s : State) (tree : Tree) → round.format ≡ Plain
       → IsOrder p round.order → IsState p round s → Proves tree p round s → branches_on tree ≤ length round.order
   pub few_with_limits : (p : Problem) (round : Round) (s : State) (tree : Tree) → IsState p round s
       → Proves tree p round s → HasLimits round tree → branches_on tree ≤ length p.counties * round.limit

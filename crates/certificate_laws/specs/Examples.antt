@@ -2,7 +2,7 @@
 use Rattle.std.specs.Prelude.{ℕ, Bool, cond, ◌||◌, ◌&&◌, ◌==◌, List, [], ◌∷◌, Some, None}
 use Rattle.grouping_laws.specs.Problem.{Problem}
 use Rattle.grouping_laws.specs.Grouping.{Grouping}
-use Rattle.certificate_data.specs.declared.language.Language.TheVariants.{Plain, Wide}
+use Rattle.certificate_data.specs.declared.format.Format.TheVariants.{Plain, Wide}
 use Rattle.certificate_data.specs.Round.{Round}
 use Rattle.certificate_data.specs.Tree.{stuck, bound, room, weigh, Tree, leaf, branch, take, no_take}
 
@@ -29,7 +29,7 @@ together = record { seats = 2; codes = path } ∷ []
 
 -- The plain certificate: the first county is in a group of all three, or stuck.
 abbrev pub plain_round : Round
-plain_round = record { order = path; limit = 3; target = Some together; language = Plain; window = None }
+plain_round = record { order = path; limit = 3; target = Some together; format = Plain; window = None }
 
 abbrev pub plain_tree : Tree
 plain_tree = branch 37001 None (take path (leaf (bound (room ∷ room ∷ room ∷ []))) no_take) (leaf (stuck 37001))
@@ -37,11 +37,11 @@ plain_tree = branch 37001 None (take path (leaf (bound (room ∷ room ∷ room �
 -- The wide certificate: the middle county alone leaves a stuck part, so it is not alone, no group of one or two fits,
 -- and there is room for one of three.
 abbrev pub wide_round : Round
-wide_round = record { order = path; limit = 3; target = Some together; language = Wide; window = None }
+wide_round = record { order = path; limit = 3; target = Some together; format = Wide; window = None }
 
 abbrev pub wide_tree : Tree
 wide_tree = branch 37003 (Some 1) no_take (leaf (bound (weigh 1 [] ∷ weigh 1 [] ∷ room ∷ [])))
 
--- Dead groups are left out, so in the wide language no group of one or two fits at the empty state either.
+-- Dead groups are left out, so in the wide format no group of one or two fits at the empty state either.
 abbrev pub lone_leaf : Tree
 lone_leaf = leaf (bound (weigh 1 [] ∷ weigh 1 [] ∷ room ∷ []))

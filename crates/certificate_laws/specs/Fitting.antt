@@ -2,8 +2,8 @@
 use Rattle.std.specs.Prelude.{ℕ, ◌≤◌, List, length, ⊤}
 use Rattle.grouping_laws.specs.Sets.{Inside}
 use Rattle.grouping_laws.specs.Problem.{Problem, LawfulGroup}
-use Rattle.certificate_data.specs.declared.language.Language.{Language}
-use Rattle.certificate_data.specs.declared.language.Language.TheVariants.{Plain, Wide}
+use Rattle.certificate_data.specs.declared.format.Format.{Format}
+use Rattle.certificate_data.specs.declared.format.Format.TheVariants.{Plain, Wide}
 use Rattle.certificate_data.specs.Round.{Round}
 use Rattle.certificate_laws.specs.Regions.{without}
 use Rattle.certificate_laws.specs.State.{State, open_to}
@@ -17,17 +17,17 @@ IsDead p s g = StuckPart p s (without g s.rest)
 abbrev pub IsLive : Problem → State → List ℕ → Type 0
 IsLive p s g = ¬ IsDead p s g
 
--- a wide language leaves dead groups out, and a plain one keeps all
-abbrev pub IsKept : Language → Problem → State → List ℕ → Type 0
+-- a wide format leaves dead groups out, and a plain one keeps all
+abbrev pub IsKept : Format → Problem → State → List ℕ → Type 0
 IsKept Plain p s g = ⊤
 IsKept Wide p s g = IsLive p s g
 
--- a lawful group whose counties are all open to a group of its size, in a wide language a live one
-pub record Fits (language : Language) (p : Problem) (s : State) (g : List ℕ) : Type 0 where
+-- a lawful group whose counties are all open to a group of its size, in a wide format a live one
+pub record Fits (format : Format) (p : Problem) (s : State) (g : List ℕ) : Type 0 where
   pub lawful : LawfulGroup p g
   pub inside : Inside (open_to s (length g)) g
-  pub kept : IsKept language p s g
+  pub kept : IsKept format p s g
 
 -- no group of at most the limit fits
 abbrev pub NoGroupFits : Problem → Round → State → Type 0
-NoGroupFits p round s = (g : List ℕ) → Fits round.language p s g → length g ≤ round.limit → ⊥
+NoGroupFits p round s = (g : List ℕ) → Fits round.format p s g → length g ≤ round.limit → ⊥

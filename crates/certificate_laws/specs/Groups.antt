@@ -10,7 +10,7 @@ use Rattle.certificate_laws.specs.Fitting.{Fits}
 
 -- a group that fits, has the county and has at most so many counties, its codes in the order of places
 pub record IsGroupAt (p : Problem) (round : Round) (s : State) (county limit : ℕ) (g : List ℕ) : Type 0 where
-  pub fits : Fits round.language p s g
+  pub fits : Fits round.format p s g
   pub in_order : filter (contains g) round.order ≡ g
   pub has : contains g county ≡ true
   pub small : length g ≤ limit
@@ -23,7 +23,7 @@ pub record AreGroupsAt (p : Problem) (round : Round) (s : State) (county limit :
 
 -- a group of i counties that fits, its codes in the order of places
 pub record IsGroupOf (p : Problem) (round : Round) (s : State) (i : ℕ) (g : List ℕ) : Type 0 where
-  pub fits : Fits round.language p s g
+  pub fits : Fits round.format p s g
   pub in_order : filter (contains g) round.order ≡ g
   pub size : length g ≡ i
 

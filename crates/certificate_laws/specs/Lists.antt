@@ -4,7 +4,7 @@ use Rattle.std.specs.Prelude.{Contains, ◌↔◌}
 use Rattle.grouping_laws.specs.Sets.{contains}
 use Rattle.grouping_laws.specs.Problem.{Problem}
 use Rattle.grouping_laws.specs.GroupsFrom.{IsOrder, IsBefore}
-use Rattle.certificate_data.specs.declared.language.Language.TheVariants.{Wide}
+use Rattle.certificate_data.specs.declared.format.Format.TheVariants.{Wide}
 use Rattle.certificate_data.specs.Round.{Round}
 use Rattle.certificate_laws.specs.State.{State}
 use Rattle.certificate_laws.specs.Fitting.{Fits, NoGroupFits}
@@ -27,22 +27,22 @@ pub record ListsServe : Type 0 where
   pub kept_at : (p : Problem) (round : Round) (s : State) (c j : ℕ) (keep : List ℕ → Bool) (groups : List (List ℕ))
       → ((g : List ℕ) → Contains groups g ↔ (IsSetAt p round.order s c j g × (keep g ≡ true)))
       → AllPairs (IsBefore round.order) groups
-      → ((g : List ℕ) → IsSetAt p round.order s c j g → (keep g ≡ true) ↔ Fits round.language p s g)
+      → ((g : List ℕ) → IsSetAt p round.order s c j g → (keep g ≡ true) ↔ Fits round.format p s g)
       → AreGroupsAt p round s c j groups
   pub kept_of : (p : Problem) (round : Round) (s : State) (i : ℕ) (keep : List ℕ → Bool) (groups : List (List ℕ))
       → ((g : List ℕ) → Contains groups g ↔ (IsSetWithin p round.order s i g × (keep g ≡ true)))
       → AllPairs (IsBefore round.order) groups
       → ((g : List ℕ) → IsSetWithin p round.order s i g → (keep g ≡ true)
-      ↔ (Fits round.language p s g × (length g ≡ i))) → AreGroupsOf p round s i groups
+      ↔ (Fits round.format p s g × (length g ≡ i))) → AreGroupsOf p round s i groups
   -- at a state into which no other groups fit, a list is what is left of the old one when the groups that don't fit any
   -- more are dropped
   pub narrower_at : (p : Problem) (round : Round) (s t : State) (c j k : ℕ) (groups : List (List ℕ)) (keep : List ℕ
-      → Bool) → Narrows round.language p s t → k ≤ j
-      → ((g : List ℕ) → Contains groups g → (keep g ≡ true) ↔ (Fits round.language p t g × (length g ≤ k)))
+      → Bool) → Narrows round.format p s t → k ≤ j
+      → ((g : List ℕ) → Contains groups g → (keep g ≡ true) ↔ (Fits round.format p t g × (length g ≤ k)))
       → AreGroupsAt p round s c j groups → AreGroupsAt p round t c k (filter keep groups)
   pub narrower_of : (p : Problem) (round : Round) (s t : State) (i : ℕ) (groups : List (List ℕ)) (keep : List ℕ → Bool)
-      → Narrows round.language p s t
-      → ((g : List ℕ) → Contains groups g → (keep g ≡ true) ↔ Fits round.language p t g)
+      → Narrows round.format p s t
+      → ((g : List ℕ) → Contains groups g → (keep g ≡ true) ↔ Fits round.format p t g)
       → AreGroupsOf p round s i groups → AreGroupsOf p round t i (filter keep groups)
   -- the takes of a branch are the groups of the lists that have the county
   pub takes : (p : Problem) (round : Round) (s : State) (c j : ℕ) (lists : ℕ → List (List ℕ))
@@ -52,7 +52,7 @@ pub record ListsServe : Type 0 where
       → ((i : ℕ) → 1 ≤ i → i < j → lists i ≡ []) → AreLists p round s j lists
       → AreGroupsAt p round s c j (filter (λ g. contains g c) (lists j))
   -- in a wide round one may branch at each county of a listed group
-  pub can : (p : Problem) (round : Round) (s : State) (c j : ℕ) (g : List ℕ) → round.language ≡ Wide
+  pub can : (p : Problem) (round : Round) (s : State) (c j : ℕ) (g : List ℕ) → round.format ≡ Wide
       → IsGroupOf p round s j g → contains g c ≡ true → j ≤ round.limit → CanBranch round s c j
   -- where all lists are empty no group fits
   pub none : (p : Problem) (round : Round) (s : State) (lists : ℕ → List (List ℕ)) → IsOrder p round.order

@@ -1,5 +1,5 @@
--- The plain language said by itself: a county is marked where it lies in a group above the one limit. The laws say
--- that this is the plain language of the other definitions.
+-- The plain format said by itself: a county is marked where it lies in a group above the one limit. The laws say
+-- that this is the plain format of the other definitions.
 use Rattle.std.specs.Prelude.{ℕ, ◌+◌, ◌-◌, ◌*◌, ◌/◌, ◌≡◌, ◌≤◌, ◌<◌, min, cond, Bool, true, false, not, nat_le, ◌&&◌}
 use Rattle.std.specs.Prelude.{◌||◌, List, [], ◌∷◌, ◌++◌, length, ◌==◌, All, Contains, filter, Some, None, ◌⊎◌, ◌↔◌, ⊤}
 use Rattle.county_codes.specs.declared.group.Group.{Group}
@@ -10,7 +10,7 @@ use Rattle.grouping_laws.specs.Parts.{IsPart, AreParts}
 use Rattle.std.specs.List.{AllZip}
 use Rattle.grouping_laws.specs.Ranges.{IsLeast, IsMost}
 use Rattle.grouping_laws.specs.GroupsFrom.{BeginsWith, AreGroupsFrom, IsSetFrom}
-use Rattle.certificate_data.specs.declared.language.Language.TheVariants.{Plain, Wide}
+use Rattle.certificate_data.specs.declared.format.Format.TheVariants.{Plain, Wide}
 use Rattle.certificate_data.specs.Round.{Round}
 use Rattle.certificate_laws.specs.Regions.{without, listed}
 use Rattle.certificate_laws.specs.State.{State, IsState, open_to, empty_state}
@@ -30,7 +30,8 @@ pub record MarkedState : Type 0 where
 
 -- lawful groups of at most the limit, marked counties and the rest make up the counties, each county once
 pub record IsMarkedState (p : Problem) (limit : ℕ) (s : MarkedState) : Type 0 where
-  pub once : (c : ℕ) → count_in c s.closed + indicator (s.marked c) + indicator (s.rest c) ≡ indicator (contains p.counties c)
+  pub once : (c : ℕ)
+      → count_in c s.closed + indicator (s.marked c) + indicator (s.rest c) ≡ indicator (contains p.counties c)
   pub lawful : All (LawfulGroup p) s.closed
   pub small : All (λ g. length g ≤ limit) s.closed
 
@@ -129,12 +130,12 @@ abbrev pub as_marked : ℕ → State → MarkedState
 as_marked limit s =
     record { closed = s.closed; marked = λ c. s.rest c && not (nat_le (s.least c) limit); rest = open_to s limit }
 
--- In a plain round the plain language by marks and the general one say the same, word for word.
+-- In a plain round the plain format by marks and the general one say the same, word for word.
 pub record PlainIsMarked : Type 0 where
   -- the states are the same
-  pub states : (p : Problem) (round : Round) (s : MarkedState) → round.language ≡ Plain → IsMarkedState p round.limit s
+  pub states : (p : Problem) (round : Round) (s : MarkedState) → round.format ≡ Plain → IsMarkedState p round.limit s
       → IsState p round (as_state round.limit s)
-  pub back : (p : Problem) (round : Round) (s : State) → round.language ≡ Plain → IsState p round s
+  pub back : (p : Problem) (round : Round) (s : State) → round.format ≡ Plain → IsState p round s
       → IsMarkedState p round.limit (as_marked round.limit s) × (as_state round.limit (as_marked round.limit s) ≡ s)
   pub empty : (p : Problem) (limit : ℕ) → as_state limit (none_marked p) ≡ empty_state p
   -- the counties that may lie in a group of any size through the limit are the rest
@@ -144,7 +145,7 @@ pub record PlainIsMarked : Type 0 where
   pub groupings : (p : Problem) (limit : ℕ) (s : MarkedState) (g : Grouping) → IsMarkedState p limit s → Lawful p g
       → AgreesAbove limit s g ↔ Agrees (as_state limit s) g
   -- the groups of a branch are those from the first place of the rest, inside the rest
-  pub takes : (p : Problem) (round : Round) (s : State) (c : ℕ) (groups : List (List ℕ)) → round.language ≡ Plain
+  pub takes : (p : Problem) (round : Round) (s : State) (c : ℕ) (groups : List (List ℕ)) → round.format ≡ Plain
       → IsState p round s → BeginsWith c (filter (open_to s round.limit) round.order)
       → AreGroupsAt p round s c round.limit groups
       ↔ AreGroupsFrom p round.order round.limit c (open_to s round.limit) groups
@@ -152,10 +153,10 @@ pub record PlainIsMarked : Type 0 where
   pub sets : (p : Problem) (order : List ℕ) (s : State) (c limit : ℕ) (g : List ℕ)
       → BeginsWith c (filter (open_to s limit) order) → IsSetAt p order s c limit g → IsSetFrom p order limit c g
   -- the valid leaves and the proof trees are the same
-  pub leaves : (p : Problem) (round : Round) (s : MarkedState) (l : Leaf) → round.language ≡ Plain
+  pub leaves : (p : Problem) (round : Round) (s : MarkedState) (l : Leaf) → round.format ≡ Plain
       → IsMarkedState p round.limit s → IsMarkedLeaf p round s l ↔ IsValidLeaf p round (as_state round.limit s) l
-  pub trees : (p : Problem) (round : Round) (s : MarkedState) (tree : Tree) → round.language ≡ Plain
+  pub trees : (p : Problem) (round : Round) (s : MarkedState) (tree : Tree) → round.format ≡ Plain
       → IsMarkedState p round.limit s → MarkedProves tree p round s ↔ Proves tree p round (as_state round.limit s)
   -- a leaf that is valid in a plain round is valid in the wide one, where fewer groups fit
-  pub widens : (p : Problem) (round : Round) (s : State) (l : Leaf) → round.language ≡ Plain → IsValidLeaf p round s l
-      → IsValidLeaf p (record round { language = Wide }) s l
+  pub widens : (p : Problem) (round : Round) (s : State) (l : Leaf) → round.format ≡ Plain → IsValidLeaf p round s l
+      → IsValidLeaf p (record round { format = Wide }) s l

@@ -1,4 +1,4 @@
--- The language by the places of the round's order: what is found there holds of the codes.
+-- The format by the places of the round's order: what is found there holds of the codes.
 use Rattle.std.specs.Prelude.{ℕ, ◌≡◌, ◌≤◌, ◌<◌, Bool, true, ◌&&◌, cond, List, map, filter, length, ◌↔◌}
 use Rattle.grouping_laws.specs.Sets.{sum_by, count, contains}
 use Rattle.grouping_laws.specs.Problem.{Problem, IsProblem}
@@ -55,7 +55,7 @@ pub record PlacesServe : Type 0 where
       → CannotFill (at_places p order) t xs ↔ CannotFill p s (codes_at order xs)
   pub fits : (p : Problem) (round : Round) (s t : State) (g : List ℕ) → IsOrder p round.order
       → IsStateAt round.order s t → ((i : ℕ) → contains g i ≡ true → i < length round.order)
-      → Fits round.language (at_places p round.order) t g ↔ Fits round.language p s (codes_at round.order g)
+      → Fits round.format (at_places p round.order) t g ↔ Fits round.format p s (codes_at round.order g)
   pub groups_at : (p : Problem) (round : Round) (s t : State) (i j : ℕ) (groups : List (List ℕ)) → IsOrder p round.order
       → IsStateAt round.order s t → i < length round.order
       → AreGroupsAt (at_places p round.order) (round_at round) t i j groups

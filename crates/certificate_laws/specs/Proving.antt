@@ -3,8 +3,8 @@
 use Rattle.std.specs.Prelude.{ℕ, ◌≡◌, ◌≤◌, true, filter, Option, Some, None, ⊤}
 use Rattle.grouping_laws.specs.Problem.{Problem}
 use Rattle.grouping_laws.specs.GroupsFrom.{BeginsWith}
-use Rattle.certificate_data.specs.declared.language.Language.{Language}
-use Rattle.certificate_data.specs.declared.language.Language.TheVariants.{Plain, Wide}
+use Rattle.certificate_data.specs.declared.format.Format.{Format}
+use Rattle.certificate_data.specs.declared.format.Format.TheVariants.{Plain, Wide}
 use Rattle.certificate_data.specs.Round.{Round}
 use Rattle.certificate_laws.specs.State.{State, open_to, close, raise}
 use Rattle.certificate_laws.specs.Groups.{AreGroupsAt}
@@ -17,7 +17,7 @@ limit_of round None = round.limit
 limit_of round (Some limit) = limit
 
 -- a wide branch names a limit, and a plain one doesn't
-abbrev pub NamesLimit : Language → Option ℕ → Type 0
+abbrev pub NamesLimit : Format → Option ℕ → Type 0
 NamesLimit Plain None = ⊤
 NamesLimit Plain (Some limit) = ⊥
 NamesLimit Wide None = ⊥
@@ -25,7 +25,7 @@ NamesLimit Wide (Some limit) = ⊤
 
 -- in a plain round a branch has the round's limit, and stands at the first county of the order that may lie in a group
 -- of so many
-abbrev pub GoesInOrder : Language → Round → State → ℕ → ℕ → Type 0
+abbrev pub GoesInOrder : Format → Round → State → ℕ → ℕ → Type 0
 GoesInOrder Plain round s county limit =
     (limit ≡ round.limit) × BeginsWith county (filter (open_to s limit) round.order)
 GoesInOrder Wide round s county limit = ⊤
@@ -34,14 +34,14 @@ GoesInOrder Wide round s county limit = ⊤
 pub record CanBranch (round : Round) (s : State) (county limit : ℕ) : Type 0 where
   pub small : limit ≤ round.limit
   pub is_open : open_to s limit county ≡ true
-  pub in_turn : GoesInOrder round.language round s county limit
+  pub in_turn : GoesInOrder round.format round s county limit
 
 -- a tree of valid leaves and whole branches
 abbrev mutual
   pub Proves : Tree → Problem → Round → State → Type 0
   Proves (leaf l) p round s = IsValidLeaf p round s l
   Proves (branch county limit takes raised) p round s =
-      NamesLimit round.language limit
+      NamesLimit round.format limit
       × CanBranch round s county (limit_of round limit)
       × AreGroupsAt p round s county (limit_of round limit) (groups_of takes)
       × EachProves takes p round s

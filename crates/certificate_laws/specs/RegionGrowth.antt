@@ -43,7 +43,7 @@ pub record RegionsAreGrown : Type 0 where
   pub groups_at : (p : Problem) (round : Round) (n limit at : ℕ) (s : State) (set free : ℕ → Bool) (keep : List ℕ
       → Bool) (sets groups : List (List ℕ)) → round.order ≡ places_below n
       → IsStartIn n at (open_to s limit) set free
-      → ((g : List ℕ) → IsSetAt p (places_below n) s at limit g → (keep g ≡ true) ↔ Fits round.language p s g)
+      → ((g : List ℕ) → IsSetAt p (places_below n) s at limit g → (keep g ≡ true) ↔ Fits round.format p s g)
       → AreKept p n limit keep set free sets → IsPermutation sets groups
       → IsSortedBy (λ g h. is_lt (slice_cmp nat_cmp (sort_key g) (sort_key h))) groups
       → AreGroupsAt p round s at limit groups

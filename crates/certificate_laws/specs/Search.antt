@@ -6,7 +6,7 @@ use Rattle.grouping_laws.specs.Problem.{Problem, IsProblem}
 use Rattle.grouping_laws.specs.Grouping.{Grouping, Lawful, counts, sets_of, IsImpossible}
 use Rattle.grouping_laws.specs.Parts.{AreParts}
 use Rattle.grouping_laws.specs.Ranges.{HasRange, seated, SuitAll}
-use Rattle.certificate_data.specs.declared.language.Language.{Language}
+use Rattle.certificate_data.specs.declared.format.Format.{Format}
 use Rattle.certificate_data.specs.Round.{Round}
 use Rattle.certificate_laws.specs.State.{State, IsState, empty_state}
 use Rattle.certificate_laws.specs.Agreement.{Agrees}
@@ -18,26 +18,26 @@ use Rattle.certificate_laws.specs.Groups.{AreGroupsAt}
 use Rattle.certificate_laws.specs.Certificate.{Beats}
 
 -- a county of some group of i counties that fits
-abbrev pub IsInFittingGroup : Language → Problem → State → ℕ → ℕ → Type 0
-IsInFittingGroup language p s i c = (g : List ℕ) × Fits language p s g × (length g ≡ i) × (contains g c ≡ true)
+abbrev pub IsInFittingGroup : Format → Problem → State → ℕ → ℕ → Type 0
+IsInFittingGroup format p s i c = (g : List ℕ) × Fits format p s g × (length g ≡ i) × (contains g c ≡ true)
 
 -- a count line, for size i: the quota is i, and each county of some group of i counties that fits has weight 1
-pub record IsCountLine (language : Language) (p : Problem) (s : State) (i : ℕ) (line : Allowance) : Type 0 where
+pub record IsCountLine (format : Format) (p : Problem) (s : State) (i : ℕ) (line : Allowance) : Type 0 where
   pub weights : List Weight
   pub is : line ≡ weigh i weights
   pub ascending : AllPairs (λ v w. v.county < w.county) weights
-  pub each : (w : Weight) → Contains weights w ↔ ((w.weight ≡ 1) × IsInFittingGroup language p s i w.county)
+  pub each : (w : Weight) → Contains weights w ↔ ((w.weight ≡ 1) × IsInFittingGroup format p s i w.county)
 
 -- count lines for the sizes i, i + 1 and so on
-abbrev pub AreCountLines : Language → Problem → State → ℕ → List Allowance → Type 0
-AreCountLines language p s i [] = ⊤
-AreCountLines language p s i (line ∷ lines) = IsCountLine language p s i line × AreCountLines language p s (i + 1) lines
+abbrev pub AreCountLines : Format → Problem → State → ℕ → List Allowance → Type 0
+AreCountLines format p s i [] = ⊤
+AreCountLines format p s i (line ∷ lines) = IsCountLine format p s i line × AreCountLines format p s (i + 1) lines
 
 -- no stuck leaf, no seats leaf and no bound leaf of at most so many count lines is valid
 pub record HasNoLeaf (p : Problem) (round : Round) (most : ℕ) (s : State) : Type 0 where
   pub no_stuck : (c : ℕ) → ¬ IsValidLeaf p round s (stuck c)
   pub no_seats : ¬ IsValidLeaf p round s seats
-  pub no_count : (lines : List Allowance) → length lines ≤ most → AreCountLines round.language p s 1 lines
+  pub no_count : (lines : List Allowance) → length lines ≤ most → AreCountLines round.format p s 1 lines
       → ¬ IsValidLeaf p round s (bound lines)
 
 -- Some seats suit the closed groups and the connected parts of the rest and add up to the seats left, and whichever do

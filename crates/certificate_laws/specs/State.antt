@@ -4,8 +4,8 @@ use Rattle.std.specs.Prelude.{ℕ, ◌+◌, ◌≡◌, ◌≤◌, Bool, false, c
 use Rattle.std.specs.Prelude.{All, ◌⊎◌, ⊤}
 use Rattle.grouping_laws.specs.Sets.{indicator, count_in, contains}
 use Rattle.grouping_laws.specs.Problem.{Problem, LawfulGroup}
-use Rattle.certificate_data.specs.declared.language.Language.{Language}
-use Rattle.certificate_data.specs.declared.language.Language.TheVariants.{Plain, Wide}
+use Rattle.certificate_data.specs.declared.format.Format.{Format}
+use Rattle.certificate_data.specs.declared.format.Format.TheVariants.{Plain, Wide}
 use Rattle.certificate_data.specs.Round.{Round}
 use Rattle.certificate_laws.specs.Regions.{without}
 
@@ -34,7 +34,7 @@ abbrev pub raise : ℕ → ℕ → State → State
 raise county j s = record { closed = s.closed; rest = s.rest; least = λ c. cond (c == county) (j + 1) (s.least c) }
 
 -- the least sizes that there are: in a plain round 0 and one more than the limit, in a wide one all
-abbrev pub IsLeastSize : Language → ℕ → ℕ → Type 0
+abbrev pub IsLeastSize : Format → ℕ → ℕ → Type 0
 IsLeastSize Plain limit n = (n ≡ 0) ⊎ (n ≡ limit + 1)
 IsLeastSize Wide limit n = ⊤
 
@@ -44,5 +44,5 @@ pub record IsState (p : Problem) (round : Round) (s : State) : Type 0 where
   pub once : (c : ℕ) → count_in c s.closed + indicator (s.rest c) ≡ indicator (contains p.counties c)
   pub lawful : All (LawfulGroup p) s.closed
   pub small : All (λ g. length g ≤ round.limit) s.closed
-  pub sizes : (c : ℕ) → IsLeastSize round.language round.limit (s.least c)
+  pub sizes : (c : ℕ) → IsLeastSize round.format round.limit (s.least c)
   pub settled : (c : ℕ) → s.rest c ≡ false → s.least c ≡ 0

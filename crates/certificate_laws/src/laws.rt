@@ -48,7 +48,7 @@ pub fn searches_end()
     ensures { SearchEnds }
 {}
 
-/// States that if no grouping is lawful, one leaf at the empty state shows it, in a round of either language.
+/// States that if no grouping is lawful, one leaf at the empty state shows it, in a round of either format.
 pub fn impossible_is_a_leaf()
     ensures { ImpossibleIsLeaf }
 {}
@@ -78,7 +78,7 @@ pub fn regions_are_grown()
     ensures { RegionsAreGrown }
 {}
 
-/// States that a proof tree keeps the depth of its language, and that no path of it has more branches than steps are
+/// States that a proof tree keeps the depth of its format, and that no path of it has more branches than steps are
 /// left.
 pub fn trees_are_shallow()
     ensures { TreesAreShallow }
@@ -91,8 +91,8 @@ pub fn plain_rules_are_the_marked_ones()
 {}
 
 /// States the certificates of an example: three counties whose middle one strands its neighbours. They have a
-/// certificate in each language. In the wide language a leaf alone is a certificate too, since the dead group is left
-/// out. That leaf is no certificate in the plain language.
+/// certificate in each format. In the wide format a leaf alone is a certificate too, since the dead group is left
+/// out. That leaf is no certificate in the plain format.
 pub fn example_certificates()
     ensures plainly { IsCertificate stranding plain_round plain_tree }
     ensures widely { IsCertificate stranding wide_round wide_tree }

@@ -1,6 +1,6 @@
 //! Certificates that a grouping is best, or that none is lawful. Definitions and laws say what they show.
 //!
-//! A *round* names an order of the counties, a limit of sizes, a target (or none) and one of two languages. A *state*
+//! A *round* names an order of the counties, a limit of sizes, a target (or none) and one of two formats. A *state*
 //! has closed groups, the rest of the counties, and for each of these the least size of a group in which it may lie. A
 //! lawful grouping *agrees* with a state if each closed group is one of its sets, and each county of the rest lies in a
 //! set as large as the county asks for. With the empty state each lawful grouping agrees.
@@ -18,7 +18,7 @@
 
 mod laws;
 
-pub use certificate_data::Language;
+pub use certificate_data::Format;
 pub use laws::{
     branches_keep_states, certificates_show, example_certificates, finished_states_beat,
     impossible_is_a_leaf, leaves_are_decided, lists_serve, places_serve,

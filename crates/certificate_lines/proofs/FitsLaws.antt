@@ -20,8 +20,8 @@ use Rattle.certificate_lines.proofs.TextLaws.{item_ok, seen_ok, in_front_ok}
 use Rattle.certificate_lines.specs.declared.fault.TextKind.{TextKind}
 use Rattle.certificate_lines.specs.declared.fault.TextKind.TheVariants.{BadWord, NotCanonical, CutShort, TooDeep}
 use Rattle.certificate_lines.specs.declared.fault.TextFault.{TextFault}
-use Rattle.certificate_data.specs.declared.language.Language.{Language}
-use Rattle.certificate_data.specs.declared.language.Language.TheVariants.{Plain, Wide}
+use Rattle.certificate_data.specs.declared.format.Format.{Format}
+use Rattle.certificate_data.specs.declared.format.Format.TheVariants.{Plain, Wide}
 use Rattle.certificate_data.specs.declared.weights.Weight.{Weight}
 use Rattle.county_codes.specs.declared.group.Group.{Group}
 use Rattle.certificate_data.specs.declared.allowance.Allowance.{Allowance}
@@ -88,7 +88,7 @@ deep_go : (levels : ℕ) (x y : Opening) (t : Bool) → nat_lt 0 levels ≡ t �
 deep_go levels x y true e h = (cc, ltb-true 0 levels e)
 deep_go levels x y false e h = cc
 
-branch_fits : (language : Language) (levels : ℕ) (words : List (List ℕ)) (o : Opening) → branch_on language levels words ≡ Ok o → IsWanted (want.Tree language levels) (Opens o)
+branch_fits : (format : Format) (levels : ℕ) (words : List (List ℕ)) (o : Opening) → branch_on format levels words ≡ Ok o → IsWanted (want.Tree format levels) (Opens o)
 unfolding branch_on
 branch_fits Plain levels words o h =
     let a = bind_ok (counted 1 1 words) _ o h in
@@ -103,71 +103,71 @@ branch_fits Wide levels words o h =
     let d = deep_go levels (Branch b.value.0 (Some l.value.0)) o _ refl l.then in
     subst (λ (q : Opening). IsWanted (want.Tree Wide levels) (Opens q)) d.0 ((code_at_ok a.value b.value b.first).to, n.from, n.to, d.1)
 
--- a leaf fits in both languages
-leaf_both : (P : Language → Type 0) → P Plain → P Wide → (language : Language) → P language
+-- a leaf fits in both formats
+leaf_both : (P : Format → Type 0) → P Plain → P Wide → (format : Format) → P format
 leaf_both P p w Plain = p
 leaf_both P p w Wide = w
 
-stuck_fits : (language : Language) (levels : ℕ) (words : List (List ℕ)) (o : Opening) → stuck_on words ≡ Ok o → IsWanted (want.Tree language levels) (Opens o)
+stuck_fits : (format : Format) (levels : ℕ) (words : List (List ℕ)) (o : Opening) → stuck_on words ≡ Ok o → IsWanted (want.Tree format levels) (Opens o)
 unfolding stuck_on
-stuck_fits language levels words o h =
+stuck_fits format levels words o h =
     let a = bind_ok (counted 1 1 words) _ o h in
     let b = bind_ok (code_word_at a.value) _ o a.then in
     let same : Stuck b.value.0 ≡ o = cc (b.then) in
     let small = (code_at_ok a.value b.value b.first).to in
-    subst (λ (q : Opening). IsWanted (want.Tree language levels) (Opens q)) same (leaf_both (λ (l : Language). IsWanted (want.Tree l levels) (Opens (Stuck b.value.0))) small small language)
+    subst (λ (q : Opening). IsWanted (want.Tree format levels) (Opens q)) same (leaf_both (λ (l : Format). IsWanted (want.Tree l levels) (Opens (Stuck b.value.0))) small small format)
 
-bound_fits : (language : Language) (levels : ℕ) (words : List (List ℕ)) (o : Opening) → bound_on words ≡ Ok o → IsWanted (want.Tree language levels) (Opens o)
+bound_fits : (format : Format) (levels : ℕ) (words : List (List ℕ)) (o : Opening) → bound_on words ≡ Ok o → IsWanted (want.Tree format levels) (Opens o)
 unfolding bound_on
-bound_fits language levels words o h =
+bound_fits format levels words o h =
     let a = bind_ok (counted 1 1 words) _ o h in
     let b = bind_ok (number_at 0 most a.value) _ o a.then in
     let same : Bound b.value.0 ≡ o = cc (b.then) in
     let few = (number_at_ok 0 most (lit< tt) a.value b.value b.first).to in
-    subst (λ (q : Opening). IsWanted (want.Tree language levels) (Opens q)) same (leaf_both (λ (l : Language). IsWanted (want.Tree l levels) (Opens (Bound b.value.0))) few few language)
+    subst (λ (q : Opening). IsWanted (want.Tree format levels) (Opens q)) same (leaf_both (λ (l : Format). IsWanted (want.Tree l levels) (Opens (Bound b.value.0))) few few format)
 
-module _ (language : Language) (levels : ℕ) (line : List (List ℕ)) (o : Opening) where
-  bound_go : (t : Bool) → cond t (bound_on (drop 1 line)) (Err BadWord) ≡ Ok o → IsWanted (want.Tree language levels) (Opens o)
+module _ (format : Format) (levels : ℕ) (line : List (List ℕ)) (o : Opening) where
+  bound_go : (t : Bool) → cond t (bound_on (drop 1 line)) (Err BadWord) ≡ Ok o → IsWanted (want.Tree format levels) (Opens o)
   bound_go false h = cc
-  bound_go true h = bound_fits language levels (drop 1 line) o h
+  bound_go true h = bound_fits format levels (drop 1 line) o h
 
-  seats_go : (t u : Bool) → cond t (counted 0 0 (drop 1 line) >>= λ _. Ok Seats) (cond u (bound_on (drop 1 line)) (Err BadWord)) ≡ Ok o → IsWanted (want.Tree language levels) (Opens o)
+  seats_go : (t u : Bool) → cond t (counted 0 0 (drop 1 line) >>= λ _. Ok Seats) (cond u (bound_on (drop 1 line)) (Err BadWord)) ≡ Ok o → IsWanted (want.Tree format levels) (Opens o)
   seats_go false u h = bound_go u h
   seats_go true u h =
       let a = bind_ok (counted 0 0 (drop 1 line)) _ o h in
       let same : Seats ≡ o = cc (a.then) in
-      subst (λ (q : Opening). IsWanted (want.Tree language levels) (Opens q)) same (leaf_both (λ (l : Language). IsWanted (want.Tree l levels) (Opens Seats)) tt tt language)
+      subst (λ (q : Opening). IsWanted (want.Tree format levels) (Opens q)) same (leaf_both (λ (l : Format). IsWanted (want.Tree l levels) (Opens Seats)) tt tt format)
 
-  stuck_go : (s t u : Bool) → cond s (stuck_on (drop 1 line)) (cond t (counted 0 0 (drop 1 line) >>= λ _. Ok Seats) (cond u (bound_on (drop 1 line)) (Err BadWord))) ≡ Ok o → IsWanted (want.Tree language levels) (Opens o)
+  stuck_go : (s t u : Bool) → cond s (stuck_on (drop 1 line)) (cond t (counted 0 0 (drop 1 line) >>= λ _. Ok Seats) (cond u (bound_on (drop 1 line)) (Err BadWord))) ≡ Ok o → IsWanted (want.Tree format levels) (Opens o)
   stuck_go false t u h = seats_go t u h
-  stuck_go true t u h = stuck_fits language levels (drop 1 line) o h
+  stuck_go true t u h = stuck_fits format levels (drop 1 line) o h
 
-  branch_go : (r s t u : Bool) → cond r (branch_on language levels (drop 1 line)) (cond s (stuck_on (drop 1 line)) (cond t (counted 0 0 (drop 1 line) >>= λ _. Ok Seats) (cond u (bound_on (drop 1 line)) (Err BadWord)))) ≡ Ok o → IsWanted (want.Tree language levels) (Opens o)
+  branch_go : (r s t u : Bool) → cond r (branch_on format levels (drop 1 line)) (cond s (stuck_on (drop 1 line)) (cond t (counted 0 0 (drop 1 line) >>= λ _. Ok Seats) (cond u (bound_on (drop 1 line)) (Err BadWord)))) ≡ Ok o → IsWanted (want.Tree format levels) (Opens o)
   branch_go false s t u h = stuck_go s t u h
-  branch_go true s t u h = branch_fits language levels (drop 1 line) o h
+  branch_go true s t u h = branch_fits format levels (drop 1 line) o h
 
-  opening_fits : opening_on language levels line ≡ Ok o → IsWanted (want.Tree language levels) (Opens o)
+  opening_fits : opening_on format levels line ≡ Ok o → IsWanted (want.Tree format levels) (Opens o)
   unfolding opening_on
   opening_fits h = branch_go _ _ _ _ h
 
-module _ (language : Language) (levels : ℕ) (line : List (List ℕ)) (r : Option (List ℕ)) where
-  mark_go : (t : Bool) → cond t (counted 0 0 (drop 1 line) >>= λ _. Ok None) (Err BadWord) ≡ Ok r → IsWanted (want.Takes language levels) (taken r)
+module _ (format : Format) (levels : ℕ) (line : List (List ℕ)) (r : Option (List ℕ)) where
+  mark_go : (t : Bool) → cond t (counted 0 0 (drop 1 line) >>= λ _. Ok None) (Err BadWord) ≡ Ok r → IsWanted (want.Takes format levels) (taken r)
   mark_go false h = cc
   mark_go true h =
       let a = bind_ok (counted 0 0 (drop 1 line)) _ r h in
       let same : None ≡ r = cc (a.then) in
-      subst (λ (q : Option (List ℕ)). IsWanted (want.Takes language levels) (taken q)) same tt
+      subst (λ (q : Option (List ℕ)). IsWanted (want.Takes format levels) (taken q)) same tt
 
-  take_go : (s t : Bool) → cond s (counted 1 most (drop 1 line) >>= λ words. (each code words >>= λ cs. Ok (Some cs))) (cond t (counted 0 0 (drop 1 line) >>= λ _. Ok None) (Err BadWord)) ≡ Ok r → IsWanted (want.Takes language levels) (taken r)
+  take_go : (s t : Bool) → cond s (counted 1 most (drop 1 line) >>= λ words. (each code words >>= λ cs. Ok (Some cs))) (cond t (counted 0 0 (drop 1 line) >>= λ _. Ok None) (Err BadWord)) ≡ Ok r → IsWanted (want.Takes format levels) (taken r)
   take_go false t h = mark_go t h
   take_go true t h =
       let a = bind_ok (counted 1 most (drop 1 line)) _ r h in
       let b = bind_ok (each code a.value) _ r a.then in
       let few = counted_ok 1 most (drop 1 line) a.value a.first in
       let same : Some b.value ≡ r = cc (b.then) in
-      subst (λ (q : Option (List ℕ)). IsWanted (want.Takes language levels) (taken q)) same (set_fits a.value b.value b.first few.from few.to)
+      subst (λ (q : Option (List ℕ)). IsWanted (want.Takes format levels) (taken q)) same (set_fits a.value b.value b.first few.from few.to)
 
-  take_fits : take_on line ≡ Ok r → IsWanted (want.Takes language levels) (taken r)
+  take_fits : take_on line ≡ Ok r → IsWanted (want.Takes format levels) (taken r)
   unfolding take_on
   take_fits h = take_go _ _ h
 
@@ -240,13 +240,13 @@ pub item_fits : (wanted : Wanted) (piece : RawLine) (item : Item) → item_on wa
 item_fits want.Head piece item h =
     let s = seen_ok headed (head_in piece.bytes piece.ended) item h in
     subst (λ (i : Item). IsWanted want.Head i) s.view_is tt
-item_fits (want.Window language) piece item h = said_fits (want.Window language) line.window_on Within piece item window_fits h
-item_fits (want.Order language) piece item h = said_fits (want.Order language) line.order_on Order piece item (λ words cs e. (order_few words cs e, order_codes words cs e)) h
+item_fits (want.Window format) piece item h = said_fits (want.Window format) line.window_on Within piece item window_fits h
+item_fits (want.Order format) piece item h = said_fits (want.Order format) line.order_on Order piece item (λ words cs e. (order_few words cs e, order_codes words cs e)) h
 item_fits want.Limit piece item h = said_fits want.Limit line.limit_on Limit piece item limit_fits h
 item_fits want.Target piece item h = said_fits want.Target line.target_on Target piece item target_fits h
 item_fits (want.Groups left) piece item h = said_fits (want.Groups left) line.group_on Grouped piece item group_fits h
-item_fits (want.Tree language levels) piece item h = said_fits (want.Tree language levels) (line.opening_on language levels) Opens piece item (λ words o e. opening_fits language levels words o e) h
-item_fits (want.Takes language levels) piece item h = said_fits (want.Takes language levels) line.take_on taken piece item (λ words r e. take_fits language levels words r e) h
+item_fits (want.Tree format levels) piece item h = said_fits (want.Tree format levels) (line.opening_on format levels) Opens piece item (λ words o e. opening_fits format levels words o e) h
+item_fits (want.Takes format levels) piece item h = said_fits (want.Takes format levels) line.take_on taken piece item (λ words r e. take_fits format levels words r e) h
 item_fits (want.Allowances left) piece item h = allows_fits left piece item h
 item_fits want.End piece item h = said_fits want.End line.end_on (λ _. End) piece item (λ words x e. tt) h
 

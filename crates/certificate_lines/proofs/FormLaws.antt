@@ -17,8 +17,8 @@ use Rattle.certificate_lines.specs.Items.{taken}
 use Rattle.certificate_lines.specs.Fitting.{FitsWeight}
 use Rattle.certificate_lines.proofs.WordLaws.{bind_ok, number_ok, code_ok, pair_ok, each_ok}
 use Rattle.certificate_lines.specs.declared.fault.TextKind.TheVariants.{BadWord, BadNumber, NotCanonical, TooDeep}
-use Rattle.certificate_data.specs.declared.language.Language.{Language}
-use Rattle.certificate_data.specs.declared.language.Language.TheVariants.{Plain, Wide}
+use Rattle.certificate_data.specs.declared.format.Format.{Format}
+use Rattle.certificate_data.specs.declared.format.Format.TheVariants.{Plain, Wide}
 use Rattle.certificate_data.specs.declared.weights.Weight.{Weight}
 use Rattle.certificate_data.specs.declared.allowance.Allowance.{Allowance}
 use Rattle.certificate_data.specs.declared.allowance.Allowance.TheVariants.{Room, Weigh}
@@ -204,7 +204,7 @@ deep_go : (levels : ℕ) (x y : Opening) (t : Bool) → nat_lt 0 levels ≡ t �
 deep_go levels x y true e h = cc
 deep_go levels x y false e h = cc
 
-branch_ok : (language : Language) (levels : ℕ) (words : List (List ℕ)) (opening : Opening) → branch_on language levels words ≡ Ok opening → codes "branch" ∷ words ≡ item_words (Opens opening)
+branch_ok : (format : Format) (levels : ℕ) (words : List (List ℕ)) (opening : Opening) → branch_on format levels words ≡ Ok opening → codes "branch" ∷ words ≡ item_words (Opens opening)
 unfolding branch_on
 branch_ok Plain levels words opening h =
     let a = bind_ok (counted 1 1 words) _ opening h in
@@ -254,7 +254,7 @@ none_ok x y words h =
     let few = counted_ok 0 0 words a.value a.first in
     (few.same ∙ empty a.value few.to, cc (a.then))
 
-module _ (language : Language) (levels : ℕ) (line : List (List ℕ)) (opening : Opening) where
+module _ (format : Format) (levels : ℕ) (line : List (List ℕ)) (opening : Opening) where
   bound_go : (t : Bool) → begins (codes "bound") line ≡ t → cond t (bound_on (drop 1 line)) (Err BadWord) ≡ Ok opening → line ≡ item_words (Opens opening)
   bound_go false e h = cc
   bound_go true e h = begins_ok (codes "bound") line e ∙ bound_ok (drop 1 line) opening h
@@ -269,11 +269,11 @@ module _ (language : Language) (levels : ℕ) (line : List (List ℕ)) (opening 
   stuck_go false e h = seats_go _ refl h
   stuck_go true e h = begins_ok (codes "stuck") line e ∙ stuck_ok (drop 1 line) opening h
 
-  branch_go : (t : Bool) → begins (codes "branch") line ≡ t → cond t (branch_on language levels (drop 1 line)) (cond (begins (codes "stuck") line) (stuck_on (drop 1 line)) (cond (begins (codes "seats") line) (counted 0 0 (drop 1 line) >>= λ _. Ok Seats) (cond (begins (codes "bound") line) (bound_on (drop 1 line)) (Err BadWord)))) ≡ Ok opening → line ≡ item_words (Opens opening)
+  branch_go : (t : Bool) → begins (codes "branch") line ≡ t → cond t (branch_on format levels (drop 1 line)) (cond (begins (codes "stuck") line) (stuck_on (drop 1 line)) (cond (begins (codes "seats") line) (counted 0 0 (drop 1 line) >>= λ _. Ok Seats) (cond (begins (codes "bound") line) (bound_on (drop 1 line)) (Err BadWord)))) ≡ Ok opening → line ≡ item_words (Opens opening)
   branch_go false e h = stuck_go _ refl h
-  branch_go true e h = begins_ok (codes "branch") line e ∙ branch_ok language levels (drop 1 line) opening h
+  branch_go true e h = begins_ok (codes "branch") line e ∙ branch_ok format levels (drop 1 line) opening h
 
-  pub opening_ok : opening_on language levels line ≡ Ok opening → line ≡ item_words (Opens opening)
+  pub opening_ok : opening_on format levels line ≡ Ok opening → line ≡ item_words (Opens opening)
   unfolding opening_on
   opening_ok h = branch_go _ refl h
 

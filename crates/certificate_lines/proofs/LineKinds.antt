@@ -7,8 +7,8 @@ use Rattle.field_lines.specs.Fault.{most_bytes}
 use Rattle.field_lines.specs.Fields.{fields_of}
 use Rattle.field_lines.specs.Number.{number_in, digits_of}
 use Rattle.field_lines.specs.RawPieces.{RawLine}
-use Rattle.certificate_data.specs.declared.language.Language.{Language}
-use Rattle.certificate_data.specs.declared.language.Language.TheVariants.{Plain, Wide}
+use Rattle.certificate_data.specs.declared.format.Format.{Format}
+use Rattle.certificate_data.specs.declared.format.Format.TheVariants.{Plain, Wide}
 use Rattle.certificate_lines.specs.Words.{is_numeral, has_leading_zero, is_canonical, words_of, line_bytes, line_words, number, code, halves, pair}
 use Rattle.certificate_lines.specs.Lines as line
 use Rattle.certificate_lines.specs.Lines.{most, begins, named, counted, number_at, code_word_at, each}
@@ -117,7 +117,7 @@ group_said words =
     (λ vs. bind_said (number_at 0 65535 vs) _ (number_at_said 0 65535 vs)
     (λ n. bind_said (each code n.1) _ (each_said code code_said n.1) (λ cs. tt))))
 
-pub branch_said : (language : Language) (levels : ℕ) (words : List (List ℕ)) → Said (line.branch_on language levels words)
+pub branch_said : (format : Format) (levels : ℕ) (words : List (List ℕ)) → Said (line.branch_on format levels words)
 unfolding line.branch_on
 branch_said Plain levels words = bind_said (counted 1 1 words) _ (counted_said 1 1 words)
     (λ ws. bind_said (code_word_at ws) _ (code_at_said ws) (λ c. cond_said (nat_lt 0 levels) _ _ tt tt))
@@ -135,10 +135,10 @@ unfolding line.bound_on
 bound_said words = bind_said (counted 1 1 words) _ (counted_said 1 1 words)
     (λ ws. bind_said (number_at 0 most ws) _ (number_at_said 0 most ws) (λ n. tt))
 
-pub opening_said : (language : Language) (levels : ℕ) (words : List (List ℕ)) → Said (line.opening_on language levels words)
+pub opening_said : (format : Format) (levels : ℕ) (words : List (List ℕ)) → Said (line.opening_on format levels words)
 unfolding line.opening_on
-opening_said language levels words =
-    cond_said (begins (codes "branch") words) _ _ (branch_said language levels (drop 1 words))
+opening_said format levels words =
+    cond_said (begins (codes "branch") words) _ _ (branch_said format levels (drop 1 words))
     (cond_said (begins (codes "stuck") words) _ _ (stuck_said (drop 1 words))
     (cond_said (begins (codes "seats") words) _ _ (bind_said (counted 0 0 (drop 1 words)) _ (counted_said 0 0 (drop 1 words)) (λ ws. tt))
     (cond_said (begins (codes "bound") words) _ _ (bound_said (drop 1 words)) tt)))
@@ -182,8 +182,8 @@ words_then_said read piece h = bind_said (line_words piece.bytes piece.ended) re
 -- what may be wanted of a tree or of groups
 abbrev pub IsBehind : Wanted → Type 0
 IsBehind (want.Groups left) = Unit {0}
-IsBehind (want.Tree language levels) = Unit {0}
-IsBehind (want.Takes language levels) = Unit {0}
+IsBehind (want.Tree format levels) = Unit {0}
+IsBehind (want.Takes format levels) = Unit {0}
 IsBehind (want.Allowances left) = Unit {0}
 IsBehind wanted = ⊥
 
@@ -208,19 +208,19 @@ allowances_behind n = cond_behind (nat_lt 0 n) (want.Allowances n) tt
 pub after_behind : (w : Wanted) (i : Item) → IsBehind w → AreBehind (wanted_after w i)
 after_behind (want.Groups left) i b = groups_behind (left - 1)
 after_behind (want.Allowances left) i b = allowances_behind (left - 1)
-after_behind (want.Tree language levels) (item.Opens (opening.Branch county limit)) b = (tt, tt)
-after_behind (want.Tree language levels) (item.Opens (opening.Bound lines)) b = allowances_behind lines
-after_behind (want.Tree language levels) _ b = tt
-after_behind (want.Takes language levels) (item.Takes county_codes) b = (tt, (tt, tt))
-after_behind (want.Takes language levels) item.Mark b = (tt, tt)
-after_behind (want.Takes language levels) _ b = tt
+after_behind (want.Tree format levels) (item.Opens (opening.Branch county limit)) b = (tt, tt)
+after_behind (want.Tree format levels) (item.Opens (opening.Bound lines)) b = allowances_behind lines
+after_behind (want.Tree format levels) _ b = tt
+after_behind (want.Takes format levels) (item.Takes county_codes) b = (tt, (tt, tt))
+after_behind (want.Takes format levels) item.Mark b = (tt, tt)
+after_behind (want.Takes format levels) _ b = tt
 after_behind _ i b = absurd b
 
 pub item_said : (wanted : Wanted) (piece : RawLine) → IsBehind wanted → Said (item_on wanted piece)
 item_said (want.Groups left) piece b = seen_said item.Grouped (by_words line.group_on piece) (words_then_said line.group_on piece group_said)
-item_said (want.Tree language levels) piece b = seen_said item.Opens (by_words (line.opening_on language levels) piece)
-    (words_then_said (line.opening_on language levels) piece (opening_said language levels))
-item_said (want.Takes language levels) piece b = seen_said taken (by_words line.take_on piece) (words_then_said line.take_on piece take_said)
+item_said (want.Tree format levels) piece b = seen_said item.Opens (by_words (line.opening_on format levels) piece)
+    (words_then_said (line.opening_on format levels) piece (opening_said format levels))
+item_said (want.Takes format levels) piece b = seen_said taken (by_words line.take_on piece) (words_then_said line.take_on piece take_said)
 item_said (want.Allowances left) piece b = seen_said item.Allows (by_words line.allowance_on piece)
     (words_then_said line.allowance_on piece allowance_said)
 item_said _ piece b = absurd b

@@ -10,8 +10,8 @@ use Rattle.certificate_lines.specs.Stacks.{HasRoom, greatest_place, IsBounded}
 use Rattle.certificate_lines.proofs.FitsLaws.{item_fits}
 use Rattle.certificate_lines.proofs.ReadLaws.{stacked_one}
 use Rattle.certificate_data.specs.Levels.{after_raise}
-use Rattle.certificate_data.specs.declared.language.Language.{Language}
-use Rattle.certificate_data.specs.declared.language.Language.TheVariants.{Plain, Wide}
+use Rattle.certificate_data.specs.declared.format.Format.{Format}
+use Rattle.certificate_data.specs.declared.format.Format.TheVariants.{Plain, Wide}
 use Rattle.certificate_lines.specs.declared.item.Version.TheVariants.{One, Two}
 use Rattle.certificate_lines.specs.declared.item.Opening.TheVariants.{Branch, Bound}
 use Rattle.certificate_lines.specs.declared.item.Item.{Item}
@@ -24,28 +24,28 @@ counted_go : (w : Wanted) (below : List Wanted) (t : Bool) → HasRoom (length b
 counted_go w below true room h = omega arith
 counted_go w below false room h = h
 
-raised : (language : Language) (levels : ℕ) → after_raise language levels ≤ levels
+raised : (format : Format) (levels : ℕ) → after_raise format levels ≤ levels
 raised Plain levels = omega arith
 raised Wide levels = omega arith
 
 -- what is wanted after an item has room where the item has
 module _ (below : List Wanted) where
   pub bounded_after : (w : Wanted) (item : Item) → IsWanted w item → HasRoom (length below) w → greatest_place below ≤ most + 1 → greatest_place (wanted_after w item ++ below) ≤ most + 1
-  bounded_after want.Head (Head language One) fits room h = omega arith
-  bounded_after want.Head (Head language Two) fits room h = omega arith
-  bounded_after (want.Window language) (Within window) fits room h = omega arith
-  bounded_after (want.Order language) (Order county_codes) fits room h = omega arith
+  bounded_after want.Head (Head format One) fits room h = omega arith
+  bounded_after want.Head (Head format Two) fits room h = omega arith
+  bounded_after (want.Window format) (Within window) fits room h = omega arith
+  bounded_after (want.Order format) (Order county_codes) fits room h = omega arith
   bounded_after want.Target (Target (Some groups)) fits room h = counted_go (want.Groups groups) below (nat_lt 0 groups) room h
   bounded_after (want.Groups left) item fits room h = counted_go (want.Groups (left - 1)) below (nat_lt 0 (left - 1)) room h
   bounded_after (want.Tree Plain levels) (Opens (Branch county None)) fits room h = omega arith
   bounded_after (want.Tree Plain levels) (Opens (Branch county (Some limit))) fits room h = absurd fits
   bounded_after (want.Tree Wide levels) (Opens (Branch county None)) fits room h = absurd fits
   bounded_after (want.Tree Wide levels) (Opens (Branch county (Some limit))) fits room h = omega arith
-  bounded_after (want.Tree language levels) (Opens (Bound lines)) fits room h =
+  bounded_after (want.Tree format levels) (Opens (Bound lines)) fits room h =
       let one : HasRoom (length below) (want.Allowances lines) = omega arith in
       counted_go (want.Allowances lines) below (nat_lt 0 lines) one h
-  bounded_after (want.Takes language levels) (Takes county_codes) fits room h = omega arith
-  bounded_after (want.Takes language levels) Mark fits room h = omega (arith, raised language levels)
+  bounded_after (want.Takes format levels) (Takes county_codes) fits room h = omega arith
+  bounded_after (want.Takes format levels) Mark fits room h = omega (arith, raised format levels)
   bounded_after (want.Allowances left) item fits room h = counted_go (want.Allowances (left - 1)) below (nat_lt 0 (left - 1)) room h
   bounded_after w item fits room h = h
 

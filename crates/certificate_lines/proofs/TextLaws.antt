@@ -17,8 +17,8 @@ use Rattle.certificate_lines.proofs.FormLaws.{window_ok, order_ok, limit_ok, tar
 use Rattle.certificate_lines.specs.declared.fault.TextKind.{TextKind}
 use Rattle.certificate_lines.specs.declared.fault.TextKind.TheVariants.{BadWord, NotCanonical, CutShort}
 use Rattle.certificate_lines.specs.declared.fault.TextFault.{TextFault}
-use Rattle.certificate_data.specs.declared.language.Language.{Language}
-use Rattle.certificate_data.specs.declared.language.Language.TheVariants.{Plain, Wide}
+use Rattle.certificate_data.specs.declared.format.Format.{Format}
+use Rattle.certificate_data.specs.declared.format.Format.TheVariants.{Plain, Wide}
 use Rattle.certificate_lines.specs.declared.item.Version.{Version}
 use Rattle.certificate_lines.specs.declared.item.Version.TheVariants.{One, Two}
 use Rattle.certificate_lines.specs.declared.item.Item.{Item}
@@ -79,16 +79,16 @@ by_words_ok read view piece item law h =
     let is : w.value ≡ item_words item = law w.value s.value w.then ∙ ap item_words s.view_is in
     record { ended = l.0; bytes = ap (λ (ws : List (List ℕ)). join_with_byte 32 ws) (sym is) ∙ l.1 }
 
-module _ (bytes : List ℕ) (head : Language × Version) where
+module _ (bytes : List ℕ) (head : Format × Version) where
   abbrev IsHead : Type 0
   IsHead = join_with_byte 32 (item_words (headed head)) ≡ bytes
 
   -- this head stands there, or the others are left
-  one_head : (is : Language × Version) (others : Result (Language × Version) TextKind) (t : Bool) → pointwise nat_eq bytes (join_with_byte 32 (item_words (headed is))) ≡ t
+  one_head : (is : Format × Version) (others : Result (Format × Version) TextKind) (t : Bool) → pointwise nat_eq bytes (join_with_byte 32 (item_words (headed is))) ≡ t
       → (others ≡ Ok head → IsHead) → cond t (Ok is) others ≡ Ok head → IsHead
   one_head is others true e later h =
       let same : is ≡ head = cc in
-      subst (λ (l : Language × Version). join_with_byte 32 (item_words (headed l)) ≡ bytes) same (sym ((bytes_decides bytes (join_with_byte 32 (item_words (headed is)))).0 e))
+      subst (λ (l : Format × Version). join_with_byte 32 (item_words (headed l)) ≡ bytes) same (sym ((bytes_decides bytes (join_with_byte 32 (item_words (headed is)))).0 e))
   one_head is others false e later h = later h
 
   head_ok : line.head_on bytes ≡ Ok head → IsHead
@@ -101,13 +101,13 @@ item_ok want.Head piece item h =
     let b = bind_ok (line_bytes piece.bytes piece.ended) line.head_on s.value s.first in
     let l = line_bytes_ok piece.bytes b.value piece.ended b.first in
     record { ended = l.0; bytes = ap (λ (i : Item). join_with_byte 32 (item_words i)) (sym s.view_is) ∙ head_ok b.value s.value b.then ∙ sym l.1 }
-item_ok (want.Window language) piece item h = by_words_ok line.window_on Within piece item window_ok h
-item_ok (want.Order language) piece item h = by_words_ok line.order_on Order piece item order_ok h
+item_ok (want.Window format) piece item h = by_words_ok line.window_on Within piece item window_ok h
+item_ok (want.Order format) piece item h = by_words_ok line.order_on Order piece item order_ok h
 item_ok want.Limit piece item h = by_words_ok line.limit_on Limit piece item limit_ok h
 item_ok want.Target piece item h = by_words_ok line.target_on Target piece item target_ok h
 item_ok (want.Groups left) piece item h = by_words_ok line.group_on Grouped piece item group_ok h
-item_ok (want.Tree language levels) piece item h = by_words_ok (line.opening_on language levels) Opens piece item (λ words x e. opening_ok language levels words x e) h
-item_ok (want.Takes language levels) piece item h = by_words_ok line.take_on taken piece item take_ok h
+item_ok (want.Tree format levels) piece item h = by_words_ok (line.opening_on format levels) Opens piece item (λ words x e. opening_ok format levels words x e) h
+item_ok (want.Takes format levels) piece item h = by_words_ok line.take_on taken piece item take_ok h
 item_ok (want.Allowances left) piece item h = by_words_ok line.allowance_on Allows piece item allowance_ok h
 item_ok want.End piece item h = by_words_ok line.end_on (λ _. End) piece item end_ok h
 

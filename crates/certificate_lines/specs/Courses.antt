@@ -7,7 +7,7 @@ use Rattle.certificate_lines.specs.Items.{item_on, wanted_after}
 use Rattle.certificate_lines.specs.declared.fault.TextKind.{TextKind}
 use Rattle.certificate_lines.specs.declared.fault.TextKind.TheVariants.{CutShort, AfterEnd, Memory}
 use Rattle.certificate_lines.specs.declared.fault.TextFault.{TextFault}
-use Rattle.certificate_data.specs.declared.language.Language.{Language}
+use Rattle.certificate_data.specs.declared.format.Format.{Format}
 use Rattle.certificate_lines.specs.declared.item.Item.{Item}
 use Rattle.certificate_lines.specs.declared.item.Wanted.{Wanted}
 use Rattle.certificate_lines.specs.declared.item.Wanted.TheVariants as want
@@ -41,8 +41,8 @@ course_from (wanted ∷ more) n (piece ∷ pieces) = elim (item_on wanted piece)
 abbrev pub certificate_course : List ℕ → Unread
 certificate_course text = course_from (want.Head ∷ []) 1 (raw_lines text)
 
-abbrev pub tree_course : Language → ℕ → List ℕ → Unread
-tree_course language counties text = course_from (want.Tree language counties ∷ []) 1 (raw_lines text)
+abbrev pub tree_course : Format → ℕ → List ℕ → Unread
+tree_course format counties text = course_from (want.Tree format counties ∷ []) 1 (raw_lines text)
 
 -- the items, where no fault ends them
 abbrev pub whole : List Item → Option TextFault → Result (List Item) TextFault

@@ -6,7 +6,7 @@ use Rattle.county_codes.specs.Windows.{is_window}
 use Rattle.certificate_lines.specs.Lines.{most, ascend}
 use Rattle.certificate_lines.specs.Items.{wanted_after}
 use Rattle.certificate_lines.specs.Spelling.{item_words}
-use Rattle.certificate_data.specs.declared.language.Language.TheVariants.{Plain, Wide}
+use Rattle.certificate_data.specs.declared.format.Format.TheVariants.{Plain, Wide}
 use Rattle.certificate_data.specs.declared.weights.Weight.{Weight}
 use Rattle.certificate_data.specs.declared.allowance.Allowance.TheVariants.{Room, Weigh}
 use Rattle.certificate_lines.specs.declared.item.Opening.TheVariants.{Branch, Stuck, Seats, Bound}
@@ -40,9 +40,9 @@ pub record AreWeights (quota : ℕ) (weights : List Weight) : Type 0 where
 
 -- the item may stand where this is wanted, and its numbers are in their ranges
 abbrev pub IsWanted : Wanted → Item → Type 0
-IsWanted want.Head (Head language version) = Unit {0}
-IsWanted (want.Window language) (Within window) = is_window window ≡ true
-IsWanted (want.Order language) (Order county_codes) = (length county_codes ≤ most) × AreCodes county_codes
+IsWanted want.Head (Head format version) = Unit {0}
+IsWanted (want.Window format) (Within window) = is_window window ≡ true
+IsWanted (want.Order format) (Order county_codes) = (length county_codes ≤ most) × AreCodes county_codes
 IsWanted want.Limit (Limit limit) = limit ≤ most
 IsWanted want.Target (Target None) = Unit {0}
 IsWanted want.Target (Target (Some groups)) = groups ≤ most
@@ -50,11 +50,11 @@ IsWanted (want.Groups left) (Grouped group) = (group.seats ≤ 65535) × IsSet g
 IsWanted (want.Tree Plain levels) (Opens (Branch county None)) = (county ≤ 99999) × (0 < levels)
 IsWanted (want.Tree Wide levels) (Opens (Branch county (Some limit))) =
     (county ≤ 99999) × (1 ≤ limit) × (limit ≤ most) × (0 < levels)
-IsWanted (want.Tree language levels) (Opens (Stuck county)) = county ≤ 99999
-IsWanted (want.Tree language levels) (Opens Seats) = Unit {0}
-IsWanted (want.Tree language levels) (Opens (Bound lines)) = lines ≤ most
-IsWanted (want.Takes language levels) (Takes county_codes) = IsSet county_codes
-IsWanted (want.Takes language levels) Mark = Unit {0}
+IsWanted (want.Tree format levels) (Opens (Stuck county)) = county ≤ 99999
+IsWanted (want.Tree format levels) (Opens Seats) = Unit {0}
+IsWanted (want.Tree format levels) (Opens (Bound lines)) = lines ≤ most
+IsWanted (want.Takes format levels) (Takes county_codes) = IsSet county_codes
+IsWanted (want.Takes format levels) Mark = Unit {0}
 IsWanted (want.Allowances left) (Allows Room) = Unit {0}
 IsWanted (want.Allowances left) (Allows (Weigh quota weights)) = AreWeights quota weights
 IsWanted want.End End = Unit {0}

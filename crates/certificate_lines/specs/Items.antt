@@ -10,7 +10,7 @@ use Rattle.certificate_lines.specs.Rest.{text_fault_at}
 use Rattle.certificate_lines.specs.declared.fault.TextKind.{TextKind}
 use Rattle.certificate_lines.specs.declared.fault.TextKind.TheVariants.{CutShort, AfterEnd}
 use Rattle.certificate_lines.specs.declared.fault.TextFault.{TextFault}
-use Rattle.certificate_data.specs.declared.language.Language.{Language}
+use Rattle.certificate_data.specs.declared.format.Format.{Format}
 use Rattle.certificate_lines.specs.declared.item.Version.{Version}
 use Rattle.certificate_lines.specs.declared.item.Version.TheVariants.{One, Two}
 use Rattle.certificate_lines.specs.declared.item.Opening.TheVariants as opening
@@ -27,7 +27,7 @@ by_words read piece = do
   read words
 
 -- what the head says; any other first line is a bad head
-abbrev pub head_in : List ℕ → Bool → Result (Language × Version) TextKind
+abbrev pub head_in : List ℕ → Bool → Result (Format × Version) TextKind
 head_in bytes ended = do
   first ← line_bytes bytes ended
   line.head_on first
@@ -43,19 +43,19 @@ taken (Some county_codes) = Takes county_codes
 taken None = Mark
 
 -- a head
-abbrev pub headed : Language × Version → Item
+abbrev pub headed : Format × Version → Item
 headed head = Head head.0 head.1
 
 -- the item on a line, where something is wanted
 abbrev pub item_on : Wanted → RawLine → Result Item TextKind
 item_on want.Head piece = seen headed (head_in piece.bytes piece.ended)
-item_on (want.Window language) piece = seen Within (by_words line.window_on piece)
-item_on (want.Order language) piece = seen Order (by_words line.order_on piece)
+item_on (want.Window format) piece = seen Within (by_words line.window_on piece)
+item_on (want.Order format) piece = seen Order (by_words line.order_on piece)
 item_on want.Limit piece = seen Limit (by_words line.limit_on piece)
 item_on want.Target piece = seen Target (by_words line.target_on piece)
 item_on (want.Groups left) piece = seen Grouped (by_words line.group_on piece)
-item_on (want.Tree language levels) piece = seen Opens (by_words (line.opening_on language levels) piece)
-item_on (want.Takes language levels) piece = seen taken (by_words line.take_on piece)
+item_on (want.Tree format levels) piece = seen Opens (by_words (line.opening_on format levels) piece)
+item_on (want.Takes format levels) piece = seen taken (by_words line.take_on piece)
 item_on (want.Allowances left) piece = seen Allows (by_words line.allowance_on piece)
 item_on want.End piece = seen (λ _. End) (by_words line.end_on piece)
 
@@ -68,18 +68,18 @@ allowances_wanted n = if nat_lt 0 n then want.Allowances n ∷ [] else []
 
 -- what is wanted in the place of what was wanted, after an item
 abbrev pub wanted_after : Wanted → Item → List Wanted
-wanted_after want.Head (Head language One) = want.Order language ∷ []
-wanted_after want.Head (Head language Two) = want.Window language ∷ []
-wanted_after (want.Window language) (Within window) = want.Order language ∷ []
-wanted_after (want.Order language) (Order county_codes) =
-    want.Limit ∷ want.Target ∷ want.Tree language (length county_codes) ∷ want.End ∷ []
+wanted_after want.Head (Head format One) = want.Order format ∷ []
+wanted_after want.Head (Head format Two) = want.Window format ∷ []
+wanted_after (want.Window format) (Within window) = want.Order format ∷ []
+wanted_after (want.Order format) (Order county_codes) =
+    want.Limit ∷ want.Target ∷ want.Tree format (length county_codes) ∷ want.End ∷ []
 wanted_after want.Target (Target (Some groups)) = groups_wanted groups
 wanted_after (want.Groups left) item = groups_wanted (left - 1)
-wanted_after (want.Tree language levels) (Opens (opening.Branch county limit)) = want.Takes language levels ∷ []
-wanted_after (want.Tree language levels) (Opens (opening.Bound lines)) = allowances_wanted lines
-wanted_after (want.Takes language levels) (Takes county_codes) =
-    want.Tree language (levels - 1) ∷ want.Takes language levels ∷ []
-wanted_after (want.Takes language levels) Mark = want.Tree language (after_raise language levels) ∷ []
+wanted_after (want.Tree format levels) (Opens (opening.Branch county limit)) = want.Takes format levels ∷ []
+wanted_after (want.Tree format levels) (Opens (opening.Bound lines)) = allowances_wanted lines
+wanted_after (want.Takes format levels) (Takes county_codes) =
+    want.Tree format (levels - 1) ∷ want.Takes format levels ∷ []
+wanted_after (want.Takes format levels) Mark = want.Tree format (after_raise format levels) ∷ []
 wanted_after (want.Allowances left) item = allowances_wanted (left - 1)
 wanted_after wanted item = []
 
@@ -102,5 +102,5 @@ items_from (wanted ∷ more) n (piece ∷ pieces) = elim (item_on wanted piece) 
 abbrev pub certificate_items : List ℕ → Result (List Item) TextFault
 certificate_items text = items_from (want.Head ∷ []) 1 (raw_lines text)
 
-abbrev pub tree_items : Language → ℕ → List ℕ → Result (List Item) TextFault
-tree_items language counties text = items_from (want.Tree language counties ∷ []) 1 (raw_lines text)
+abbrev pub tree_items : Format → ℕ → List ℕ → Result (List Item) TextFault
+tree_items format counties text = items_from (want.Tree format counties ∷ []) 1 (raw_lines text)

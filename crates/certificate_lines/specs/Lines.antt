@@ -11,8 +11,8 @@ use Rattle.certificate_lines.specs.Words.{number, code, pair}
 use Rattle.certificate_lines.specs.declared.fault.TextKind.{TextKind}
 use Rattle.certificate_lines.specs.declared.fault.TextKind.TheVariants.{BadHead, BadWord, BadNumber, NotCanonical}
 use Rattle.certificate_lines.specs.declared.fault.TextKind.TheVariants.{TooDeep}
-use Rattle.certificate_data.specs.declared.language.Language.{Language}
-use Rattle.certificate_data.specs.declared.language.Language.TheVariants.{Plain, Wide}
+use Rattle.certificate_data.specs.declared.format.Format.{Format}
+use Rattle.certificate_data.specs.declared.format.Format.TheVariants.{Plain, Wide}
 use Rattle.certificate_data.specs.declared.weights.Weight.{Weight}
 use Rattle.certificate_lines.specs.declared.item.Version.{Version}
 use Rattle.certificate_lines.specs.declared.item.Version.TheVariants.{One, Two}
@@ -66,7 +66,7 @@ abbrev pub ascend : List Weight → Bool
 ascend (a ∷ b ∷ ws) = nat_lt a.county b.county && ascend (b ∷ ws)
 ascend _ = true
 
-unfoldable pub head_on : List ℕ → Result (Language × Version) TextKind
+unfoldable pub head_on : List ℕ → Result (Format × Version) TextKind
 head_on bytes =
     if pointwise nat_eq bytes (codes "county-groups certificate 1") then Ok (Plain, One)
     else if pointwise nat_eq bytes (codes "county-groups wide certificate 1") then Ok (Wide, One)
@@ -113,7 +113,7 @@ group_on line = do
   Ok (record { seats = seats.0; codes = county_codes })
 
 -- a branch has a limit of its own in a wide certificate, and there has to be a level for it
-unfoldable pub branch_on : Language → ℕ → List (List ℕ) → Result Opening TextKind
+unfoldable pub branch_on : Format → ℕ → List (List ℕ) → Result Opening TextKind
 branch_on Plain levels words = do
   words ← counted 1 1 words
   county ← code_word_at words
@@ -136,9 +136,9 @@ bound_on words = do
   lines ← number_at 0 most words
   Ok (Bound lines.0)
 
-unfoldable pub opening_on : Language → ℕ → List (List ℕ) → Result Opening TextKind
-opening_on language levels line =
-    if begins (codes "branch") line then branch_on language levels (drop 1 line)
+unfoldable pub opening_on : Format → ℕ → List (List ℕ) → Result Opening TextKind
+opening_on format levels line =
+    if begins (codes "branch") line then branch_on format levels (drop 1 line)
     else if begins (codes "stuck") line then stuck_on (drop 1 line)
     else if begins (codes "seats") line then (do
       words ← counted 0 0 (drop 1 line)

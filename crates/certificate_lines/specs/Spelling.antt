@@ -2,7 +2,7 @@
 use Rattle.std.specs.Prelude.{ℕ, List, [], ◌∷◌, ◌++◌, map, codes, decimal, Some, None}
 use Rattle.std.specs.List.{flat_map, join_with_byte}
 use Rattle.county_codes.specs.Digits.{five_digits}
-use Rattle.certificate_data.specs.declared.language.Language.TheVariants.{Plain, Wide}
+use Rattle.certificate_data.specs.declared.format.Format.TheVariants.{Plain, Wide}
 use Rattle.certificate_data.specs.declared.weights.Weight.{Weight}
 use Rattle.certificate_lines.specs.declared.item.Version.TheVariants.{One, Two}
 use Rattle.certificate_data.specs.declared.allowance.Allowance.TheVariants.{Room, Weigh}

@@ -14,7 +14,7 @@ use crate::lines::{
     window_on,
 };
 use crate::words::{Words, bytes_of_line};
-use certificate_data::{Allowance, Language};
+use certificate_data::{Allowance, Format};
 use county_codes::{Codes, Group, Window};
 use field_lines::split_piece;
 use std::alloc::Global;
@@ -38,9 +38,9 @@ pub fn push_on<T: Drop>(items: &mut Vec<T>, item: T, line: u64) -> Result<(), Te
     }
 }
 
-/// Returns the language and the version that the first line names. `bytes` are the line's bytes without the LF, and
+/// Returns the format and the version that the first line names. `bytes` are the line's bytes without the LF, and
 /// `ended` says whether an LF ended them.
-pub(crate) fn head_of(bytes: &[u8], ended: bool) -> Result<(Language, Version), TextKind>
+pub(crate) fn head_of(bytes: &[u8], ended: bool) -> Result<(Format, Version), TextKind>
     ensures { result ≡ head_in bytes.now ended }
 {
     head_on(bytes_of_line(bytes, ended)?)
@@ -123,7 +123,7 @@ impl<'a> Cursor<'a> {
     }
 
     /// Reads the head.
-    pub fn head(&mut self) -> Result<(Language, Version), TextFault>
+    pub fn head(&mut self) -> Result<(Format, Version), TextFault>
         ensures { ReadsLine (λ r. r) (λ p. head_in p.bytes p.ended) self.old result self.new }
     {
         let line = self.number;
@@ -195,12 +195,12 @@ impl<'a> Cursor<'a> {
     }
 
     /// Reads a branch or a leaf, where branches may still open `levels` levels.
-    pub fn opening(&mut self, language: Language, levels: u16) -> Result<Opening, TextFault>
-        ensures read { ReadsLine (λ r. r) (by_words (line.opening_on language levels)) self.old result self.new }
+    pub fn opening(&mut self, format: Format, levels: u16) -> Result<Opening, TextFault>
+        ensures read { ReadsLine (λ r. r) (by_words (line.opening_on format levels)) self.old result self.new }
         ensures level { IfOk result (λ o. line.HasLevel levels o) }
     {
         let (mut words, line) = self.next_words()?;
-        match opening_on(language, levels, &mut words) {
+        match opening_on(format, levels, &mut words) {
             Ok(opening) => Ok(opening),
             Err(kind) => Err(TextFault { kind, line }),
         }

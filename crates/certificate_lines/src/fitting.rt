@@ -11,7 +11,7 @@ ghost use Rattle.certificate_lines.specs.declared.item.Opening.TheVariants as op
 ghost use Rattle.certificate_lines.specs.declared.item.Wanted.TheVariants as want;
 
 use crate::lines::{MOST, ascend};
-use certificate_data::{Allowance, Language, Weight};
+use certificate_data::{Allowance, Format, Weight};
 use county_codes::{CountyCode, Group};
 use field_lines::{MAX_LINE, decimal_length};
 
@@ -83,15 +83,15 @@ pub fn group_fits(group: &Group) -> bool
 }
 
 /// Returns whether a line spells the branch, where branches may still open `levels` levels.
-pub fn branch_fits(language: Language, levels: u16, county: CountyCode, limit: Option<u16>) -> bool
-    ensures { IsTrue result ↔ IsWanted (want.Tree language levels) (item.Opens (opening.Branch county limit)) }
+pub fn branch_fits(format: Format, levels: u16, county: CountyCode, limit: Option<u16>) -> bool
+    ensures { IsTrue result ↔ IsWanted (want.Tree format levels) (item.Opens (opening.Branch county limit)) }
 {
     if levels == 0 || !is_code(county) {
         return false;
     }
-    match (language, limit) {
-        (Language::Plain, None) => true,
-        (Language::Wide, Some(limit)) => limit > 0 && are_few(usize::from(limit)),
+    match (format, limit) {
+        (Format::Plain, None) => true,
+        (Format::Wide, Some(limit)) => limit > 0 && are_few(usize::from(limit)),
         _ => false,
     }
 }

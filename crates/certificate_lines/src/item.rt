@@ -1,6 +1,6 @@
 //! What a line of a certificate says, and what is wanted of the next line.
 
-use certificate_data::{Allowance, Language};
+use certificate_data::{Allowance, Format};
 use county_codes::{Codes, CountyCode, Group, Window};
 
 /// The line that opens a tree, or that is all of it.
@@ -37,7 +37,7 @@ pub enum Version {
 #[derive(Debug, Drop)]
 pub enum Item {
     /// The head of a certificate.
-    Head(Language, Version),
+    Head(Format, Version),
     /// The allowance that the certificate names.
     Within(Window),
     /// The counties in their order.
@@ -67,9 +67,9 @@ pub enum Wanted {
     #[default]
     Head,
     /// The line that names the allowance.
-    Window(Language),
+    Window(Format),
     /// The order.
-    Order(Language),
+    Order(Format),
     /// The limit.
     Limit,
     /// The target.
@@ -77,9 +77,9 @@ pub enum Wanted {
     /// Groups of the target, with how many are wanted.
     Groups(u16),
     /// A tree, with the number of its levels.
-    Tree(Language, u16),
+    Tree(Format, u16),
     /// A group that is taken, or the mark, inside a branch. The number is how many levels the branch was opened with.
-    Takes(Language, u16),
+    Takes(Format, u16),
     /// Lines of a bound leaf, with how many are wanted.
     Allowances(u16),
     /// The end.

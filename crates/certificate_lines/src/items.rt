@@ -14,7 +14,7 @@ use crate::cursor::{Cursor, ended};
 use crate::fault::{TextFault, TextKind};
 use crate::item::{Item, Wanted};
 use crate::line_items::{Stack, item_at};
-use certificate_data::Language;
+use certificate_data::Format;
 use std::alloc::Global;
 use std::marker::Model;
 
@@ -100,11 +100,11 @@ impl<'a> Items<'a> {
     }
 
     /// Creates the items of a tree's `text`, for an order of `counties` counties.
-    pub fn of_tree(alloc: Global, text: &'a [u8], language: Language, counties: u16) -> Self
+    pub fn of_tree(alloc: Global, text: &'a [u8], format: Format, counties: u16) -> Self
         requires { counties ≤ most }
-        ensures { result ≡ tree_course language counties text.now }
+        ensures { result ≡ tree_course format counties text.now }
     {
-        Items::wanting(alloc, text, Wanted::Tree(language, counties))
+        Items::wanting(alloc, text, Wanted::Tree(format, counties))
     }
 
     /// Creates the items of a `text`, where `wanted` says what is wanted first.

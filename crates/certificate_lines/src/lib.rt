@@ -2,7 +2,7 @@
 //!
 //! ```
 //! let mut items = Items::of_certificate(alloc, text);
-//! items.next_item(&mut ())        // Ok(Some(Item::Head(Language::Plain, Version::One)))
+//! items.next_item(&mut ())        // Ok(Some(Item::Head(Format::Plain, Version::One)))
 //! ```
 //!
 //! `Items` reads the items of a text in memory, and `ItemsFrom` those of a text that is pulled from a source.

@@ -18,7 +18,7 @@ use crate::lines::{
 };
 use crate::words::Words;
 use arrayvec::ArrayVec;
-use certificate_data::Language;
+use certificate_data::Format;
 use county_codes::MAX_COUNTIES;
 use std::alloc::Global;
 
@@ -30,12 +30,12 @@ const DEPTH: usize = MAX_COUNTIES + 2;
 pub(crate) type Stack = ArrayVec<Wanted, DEPTH>;
 
 /// Returns what is wanted after a head.
-fn after_head(language: Language, version: Version) -> Wanted
-    ensures { result ∷ [] ≡ wanted_after want.Head (item.Head language version) }
+fn after_head(format: Format, version: Version) -> Wanted
+    ensures { result ∷ [] ≡ wanted_after want.Head (item.Head format version) }
 {
     match version {
-        Version::One => Wanted::Order(language),
-        Version::Two => Wanted::Window(language),
+        Version::One => Wanted::Order(format),
+        Version::Two => Wanted::Window(format),
     }
 }
 
@@ -45,9 +45,9 @@ fn head_item(bytes: &[u8], ended: bool, stack: &mut Stack) -> Result<Item, TextK
     ensures read { HasItem want.Head bytes.now ended result }
     ensures stacked { IsStacked want.Head result stack.old.items stack.new.items }
 {
-    let (language, version) = head_of(bytes, ended)?;
-    stack.push(after_head(language, version));
-    Ok(Item::Head(language, version))
+    let (format, version) = head_of(bytes, ended)?;
+    stack.push(after_head(format, version));
+    Ok(Item::Head(format, version))
 }
 
 /// Reads the line that names the allowance, and pushes what is wanted after it onto the `stack`.
@@ -55,26 +55,26 @@ fn window_item(
     bytes: &[u8],
     ended: bool,
     stack: &mut Stack,
-    language: Language,
+    format: Format,
 ) -> Result<Item, TextKind>
-    requires room { HasRoom (array_vec_len stack.old) (want.Window language) }
-    ensures read { HasItem (want.Window language) bytes.now ended result }
-    ensures stacked { IsStacked (want.Window language) result stack.old.items stack.new.items }
+    requires room { HasRoom (array_vec_len stack.old) (want.Window format) }
+    ensures read { HasItem (want.Window format) bytes.now ended result }
+    ensures stacked { IsStacked (want.Window format) result stack.old.items stack.new.items }
 {
     let mut words = Words::new(bytes, ended)?;
     let window = window_on(&mut words)?;
-    stack.push(Wanted::Order(language));
+    stack.push(Wanted::Order(format));
     Ok(Item::Within(window))
 }
 
 /// Pushes what is wanted after an order of `counties` counties onto the `stack`.
-fn want_after_order(stack: &mut Stack, language: Language, counties: u16)
-    requires { HasRoom (array_vec_len stack.old) (want.Order language) }
+fn want_after_order(stack: &mut Stack, format: Format, counties: u16)
+    requires { HasRoom (array_vec_len stack.old) (want.Order format) }
     ensures { stack.new.items
-        ≡ stack.old.items ++ (want.End ∷ want.Tree language counties ∷ want.Target ∷ want.Limit ∷ []) }
+        ≡ stack.old.items ++ (want.End ∷ want.Tree format counties ∷ want.Target ∷ want.Limit ∷ []) }
 {
     stack.push(Wanted::End);
-    stack.push(Wanted::Tree(language, counties));
+    stack.push(Wanted::Tree(format, counties));
     stack.push(Wanted::Target);
     stack.push(Wanted::Limit);
 }
@@ -85,16 +85,16 @@ fn order_item(
     bytes: &[u8],
     ended: bool,
     stack: &mut Stack,
-    language: Language,
+    format: Format,
 ) -> Result<Item, TextKind>
-    requires room { HasRoom (array_vec_len stack.old) (want.Order language) }
-    ensures read { HasItem (want.Order language) bytes.now ended result }
-    ensures stacked { IsStacked (want.Order language) result stack.old.items stack.new.items }
+    requires room { HasRoom (array_vec_len stack.old) (want.Order format) }
+    ensures read { HasItem (want.Order format) bytes.now ended result }
+    ensures stacked { IsStacked (want.Order format) result stack.old.items stack.new.items }
 {
     let mut words = Words::new(bytes, ended)?;
     let order = order_on(alloc, &mut words)?;
     let levels = order.as_slice().len() as u16;
-    want_after_order(stack, language, levels);
+    want_after_order(stack, format, levels);
     Ok(Item::Order(order))
 }
 
@@ -140,17 +140,17 @@ fn opening_item(
     bytes: &[u8],
     ended: bool,
     stack: &mut Stack,
-    language: Language,
+    format: Format,
     levels: u16,
 ) -> Result<Item, TextKind>
-    requires room { HasRoom (array_vec_len stack.old) (want.Tree language levels) }
-    ensures read { HasItem (want.Tree language levels) bytes.now ended result }
-    ensures stacked { IsStacked (want.Tree language levels) result stack.old.items stack.new.items }
+    requires room { HasRoom (array_vec_len stack.old) (want.Tree format levels) }
+    ensures read { HasItem (want.Tree format levels) bytes.now ended result }
+    ensures stacked { IsStacked (want.Tree format levels) result stack.old.items stack.new.items }
 {
     let mut words = Words::new(bytes, ended)?;
-    let opening = opening_on(language, levels, &mut words)?;
+    let opening = opening_on(format, levels, &mut words)?;
     match opening {
-        Opening::Branch { .. } => stack.push(Wanted::Takes(language, levels)),
+        Opening::Branch { .. } => stack.push(Wanted::Takes(format, levels)),
         Opening::Bound(lines) => {
             if lines > 0 {
                 stack.push(Wanted::Allowances(lines));
@@ -162,12 +162,12 @@ fn opening_item(
 }
 
 /// Pushes what is wanted after a group that is taken onto the `stack`.
-fn want_after_take(stack: &mut Stack, language: Language, levels: u16)
-    requires { HasRoom (array_vec_len stack.old) (want.Takes language levels) }
-    ensures { stack.new.items ≡ stack.old.items ++ (want.Takes language levels ∷ want.Tree language (levels - 1) ∷ []) }
+fn want_after_take(stack: &mut Stack, format: Format, levels: u16)
+    requires { HasRoom (array_vec_len stack.old) (want.Takes format levels) }
+    ensures { stack.new.items ≡ stack.old.items ++ (want.Takes format levels ∷ want.Tree format (levels - 1) ∷ []) }
 {
-    stack.push(Wanted::Takes(language, levels));
-    stack.push(Wanted::Tree(language, levels.saturating_sub(1)));
+    stack.push(Wanted::Takes(format, levels));
+    stack.push(Wanted::Tree(format, levels.saturating_sub(1)));
 }
 
 /// Reads a take or a mark, and pushes what is wanted after it onto the `stack`.
@@ -176,21 +176,21 @@ fn take_item(
     bytes: &[u8],
     ended: bool,
     stack: &mut Stack,
-    language: Language,
+    format: Format,
     levels: u16,
 ) -> Result<Item, TextKind>
-    requires room { HasRoom (array_vec_len stack.old) (want.Takes language levels) }
-    ensures read { HasItem (want.Takes language levels) bytes.now ended result }
-    ensures stacked { IsStacked (want.Takes language levels) result stack.old.items stack.new.items }
+    requires room { HasRoom (array_vec_len stack.old) (want.Takes format levels) }
+    ensures read { HasItem (want.Takes format levels) bytes.now ended result }
+    ensures stacked { IsStacked (want.Takes format levels) result stack.old.items stack.new.items }
 {
     let mut words = Words::new(bytes, ended)?;
     match take_on(alloc, &mut words)? {
         Some(codes) => {
-            want_after_take(stack, language, levels);
+            want_after_take(stack, format, levels);
             Ok(Item::Takes(codes))
         }
         None => {
-            let after = Wanted::Tree(language, levels_after(language, levels));
+            let after = Wanted::Tree(format, levels_after(format, levels));
             stack.push(after);
             Ok(Item::Mark)
         }
@@ -251,13 +251,13 @@ pub(crate) fn item_at(
 {
     match wanted {
         Wanted::Head => head_item(bytes, ended, stack),
-        Wanted::Window(language) => window_item(bytes, ended, stack, language),
-        Wanted::Order(language) => order_item(alloc, bytes, ended, stack, language),
+        Wanted::Window(format) => window_item(bytes, ended, stack, format),
+        Wanted::Order(format) => order_item(alloc, bytes, ended, stack, format),
         Wanted::Limit => limit_item(bytes, ended),
         Wanted::Target => target_item(bytes, ended, stack),
         Wanted::Groups(left) => group_item(alloc, bytes, ended, stack, left),
-        Wanted::Tree(language, levels) => opening_item(bytes, ended, stack, language, levels),
-        Wanted::Takes(language, levels) => take_item(alloc, bytes, ended, stack, language, levels),
+        Wanted::Tree(format, levels) => opening_item(bytes, ended, stack, format, levels),
+        Wanted::Takes(format, levels) => take_item(alloc, bytes, ended, stack, format, levels),
         Wanted::Allowances(left) => allowance_item(alloc, bytes, ended, stack, left),
         Wanted::End => end_item(bytes, ended),
     }

@@ -8,12 +8,12 @@ ghost use Rattle.certificate_lines.specs.Lines.{stuck_on, bound_on, opening_on, 
 ghost use Rattle.certificate_lines.specs.Lines.{end_on, ascend, HasLevel};
 ghost use Rattle.certificate_lines.specs.declared.fault.TextKind.TheVariants.{Memory, TooDeep};
 ghost use Rattle.certificate_lines.specs.declared.item.Opening.TheVariants.{Branch};
-ghost use Rattle.certificate_data.specs.declared.language.Language.TheVariants.{Plain, Wide};
+ghost use Rattle.certificate_data.specs.declared.format.Format.TheVariants.{Plain, Wide};
 
 use crate::fault::TextKind;
 use crate::item::{Opening, Version};
 use crate::words::Words;
-use certificate_data::{Allowance, Language, Weight};
+use certificate_data::{Allowance, Format, Weight};
 use county_codes::{Codes, CountyCode, Group, MAX_COUNTIES, Window};
 use std::alloc::Global;
 
@@ -32,19 +32,19 @@ pub(crate) const PLAIN_HEAD_TWO: &[u8] = b"county-groups certificate 2";
 /// The first line of a wide certificate of version 2.
 pub(crate) const WIDE_HEAD_TWO: &[u8] = b"county-groups wide certificate 2";
 
-/// Returns the language and the version that the first line names.
+/// Returns the format and the version that the first line names.
 #[tactic(auto, unfolding(crate::specs::Lines::head_on))]
-pub(crate) fn head_on(bytes: &[u8]) -> Result<(Language, Version), TextKind>
+pub(crate) fn head_on(bytes: &[u8]) -> Result<(Format, Version), TextKind>
     ensures { result ≡ head_on bytes.now }
 {
     if bytes == PLAIN_HEAD_ONE {
-        Ok((Language::Plain, Version::One))
+        Ok((Format::Plain, Version::One))
     } else if bytes == WIDE_HEAD_ONE {
-        Ok((Language::Wide, Version::One))
+        Ok((Format::Wide, Version::One))
     } else if bytes == PLAIN_HEAD_TWO {
-        Ok((Language::Plain, Version::Two))
+        Ok((Format::Plain, Version::Two))
     } else if bytes == WIDE_HEAD_TWO {
-        Ok((Language::Wide, Version::Two))
+        Ok((Format::Wide, Version::Two))
     } else {
         Err(TextKind::BadHead)
     }
@@ -150,13 +150,13 @@ fn wide_branch_on(levels: u16, words: &mut Words) -> Result<Opening, TextKind>
 }
 
 /// Reads a branch from the `words` after the first.
-fn branch_on(language: Language, levels: u16, words: &mut Words) -> Result<Opening, TextKind>
-    ensures value { result ≡ branch_on language levels words.old }
+fn branch_on(format: Format, levels: u16, words: &mut Words) -> Result<Opening, TextKind>
+    ensures value { result ≡ branch_on format levels words.old }
     ensures level { IfOk result (λ o. HasLevel levels o) }
 {
-    match language {
-        Language::Plain => plain_branch_on(levels, words),
-        Language::Wide => wide_branch_on(levels, words),
+    match format {
+        Format::Plain => plain_branch_on(levels, words),
+        Format::Wide => wide_branch_on(levels, words),
     }
 }
 
@@ -183,15 +183,15 @@ fn bound_on(words: &mut Words) -> Result<Opening, TextKind>
 /// Reads a branch or a leaf, where branches may still open `levels` levels.
 #[tactic(auto, unfolding(crate::specs::Lines::opening_on))]
 pub(crate) fn opening_on(
-    language: Language,
+    format: Format,
     levels: u16,
     words: &mut Words,
 ) -> Result<Opening, TextKind>
-    ensures value { result ≡ opening_on language levels words.old }
+    ensures value { result ≡ opening_on format levels words.old }
     ensures level { IfOk result (λ o. HasLevel levels o) }
 {
     if words.skipped(b"branch") {
-        branch_on(language, levels, words)
+        branch_on(format, levels, words)
     } else if words.skipped(b"stuck") {
         stuck_on(words)
     } else if words.skipped(b"seats") {
@@ -275,11 +275,11 @@ pub(crate) fn end_on(words: &mut Words) -> Result<(), TextKind>
 }
 
 /// Returns how many levels are left for the tree behind the mark of a branch that was opened with `levels`.
-pub fn levels_after(language: Language, levels: u16) -> u16
-    ensures { result ≡ after_raise language levels }
+pub fn levels_after(format: Format, levels: u16) -> u16
+    ensures { result ≡ after_raise format levels }
 {
-    match language {
-        Language::Plain => levels.saturating_sub(1),
-        Language::Wide => levels,
+    match format {
+        Format::Plain => levels.saturating_sub(1),
+        Format::Wide => levels,
     }
 }

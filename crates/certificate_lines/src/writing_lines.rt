@@ -14,19 +14,19 @@ use crate::writing_words::{
     push_codes_line, push_count_line, push_number_and_codes_line, push_number_line,
     push_two_numbers_line,
 };
-use certificate_data::Language;
+use certificate_data::Format;
 use county_codes::{CountyCode, Group, Window};
 use std::alloc::AllocError;
 
-/// Appends the head that names the `language` and the `version`.
-pub fn push_head(out: &mut Vec<u8>, language: Language, version: Version) -> Result<(), AllocError>
-    ensures { OnOk result (out.new.items ≡ out.old.items ++ item_line (item.Head language version)) }
+/// Appends the head that names the `format` and the `version`.
+pub fn push_head(out: &mut Vec<u8>, format: Format, version: Version) -> Result<(), AllocError>
+    ensures { OnOk result (out.new.items ≡ out.old.items ++ item_line (item.Head format version)) }
 {
-    out.extend_from_slice(match (language, version) {
-        (Language::Plain, Version::One) => PLAIN_HEAD_ONE,
-        (Language::Wide, Version::One) => WIDE_HEAD_ONE,
-        (Language::Plain, Version::Two) => PLAIN_HEAD_TWO,
-        (Language::Wide, Version::Two) => WIDE_HEAD_TWO,
+    out.extend_from_slice(match (format, version) {
+        (Format::Plain, Version::One) => PLAIN_HEAD_ONE,
+        (Format::Wide, Version::One) => WIDE_HEAD_ONE,
+        (Format::Plain, Version::Two) => PLAIN_HEAD_TWO,
+        (Format::Wide, Version::Two) => WIDE_HEAD_TWO,
     })?;
     out.extend_from_slice(b"\n")
 }

@@ -9,7 +9,7 @@ use Rattle.certificate_lines.specs.Reading.{items_at, ReadsItems, Refuses}
 use Rattle.certificate_text.specs.Trees.{items_of_head, items_of_target}
 use Rattle.certificate_lines.proofs.ReadLaws.{reads_then, reads_with, reads_refuse, reads_line, refuses_line}
 use Rattle.certificate_lines.specs.declared.fault.TextFault.{TextFault}
-use Rattle.certificate_data.specs.declared.language.Language.{Language}
+use Rattle.certificate_data.specs.declared.format.Format.{Format}
 use Rattle.certificate_lines.specs.declared.item.Item.{Item}
 use Rattle.certificate_lines.specs.declared.item.Item.TheVariants as item
 use Rattle.certificate_lines.specs.declared.item.Wanted.{Wanted}
@@ -22,40 +22,40 @@ refuses_with a more x fault h mem later = ap (λ (w : List Wanted). items_at w x
 pub refused : (text : List ℕ) (start : Rest) → start ≡ record { number = 1; text = text } → (fault : TextFault) → Refuses (want.Head ∷ []) start fault → (IsTextMemory fault → ⊥) → certificate_items text ≡ Err fault
 refused text start is fault h mem = ap (items_at (want.Head ∷ [])) (sym is) ∙ h mem []
 
-module _ (text : List ℕ) (start a b c : Rest) (is : start ≡ record { number = 1; text = text }) (language : Language) (window : Option Window) (cs : List ℕ) (limit : ℕ)
-    (head : ReadsItems (want.Head ∷ []) start (items_of_head language window) (want.Order language ∷ []) a) (order : TakesTextLine (by_words line.order_on) cs a b) (limited : TakesTextLine (by_words line.limit_on) limit b c) where
+module _ (text : List ℕ) (start a b c : Rest) (is : start ≡ record { number = 1; text = text }) (format : Format) (window : Option Window) (cs : List ℕ) (limit : ℕ)
+    (head : ReadsItems (want.Head ∷ []) start (items_of_head format window) (want.Order format ∷ []) a) (order : TakesTextLine (by_words line.order_on) cs a b) (limited : TakesTextLine (by_words line.limit_on) limit b c) where
   abbrev after_limit : List Wanted
-  after_limit = want.Target ∷ want.Tree language (length cs) ∷ want.End ∷ []
+  after_limit = want.Target ∷ want.Tree format (length cs) ∷ want.End ∷ []
 
   abbrev head_items : List Item
-  head_items = (items_of_head language window ++ item.Order cs ∷ []) ++ item.Limit limit ∷ []
+  head_items = (items_of_head format window ++ item.Order cs ∷ []) ++ item.Limit limit ∷ []
 
   head_read : ReadsItems (want.Head ∷ []) start head_items after_limit c
   head_read =
-      reads_then (want.Head ∷ []) (want.Limit ∷ after_limit) after_limit start b c (items_of_head language window ++ item.Order cs ∷ []) (item.Limit limit ∷ [])
-      (reads_then (want.Head ∷ []) (want.Order language ∷ []) (want.Limit ∷ after_limit) start a b (items_of_head language window) (item.Order cs ∷ []) head
-      (reads_line (want.Order language) (by_words line.order_on) item.Order (λ piece. refl) cs a b order))
+      reads_then (want.Head ∷ []) (want.Limit ∷ after_limit) after_limit start b c (items_of_head format window ++ item.Order cs ∷ []) (item.Limit limit ∷ [])
+      (reads_then (want.Head ∷ []) (want.Order format ∷ []) (want.Limit ∷ after_limit) start a b (items_of_head format window) (item.Order cs ∷ []) head
+      (reads_line (want.Order format) (by_words line.order_on) item.Order (λ piece. refl) cs a b order))
       (reads_with (want.Limit ∷ []) [] after_limit b c (item.Limit limit ∷ []) (reads_line want.Limit (by_words line.limit_on) item.Limit (λ piece. refl) limit b c limited))
 
   pub target_fault : (fault : TextFault) → Refuses (want.Target ∷ []) c fault → (IsTextMemory fault → ⊥) → certificate_items text ≡ Err fault
-  target_fault fault h = refused text start is fault (reads_refuse (want.Head ∷ []) after_limit start c head_items fault head_read (λ mem more. h mem (want.Tree language (length cs) ∷ want.End ∷ more)))
+  target_fault fault h = refused text start is fault (reads_refuse (want.Head ∷ []) after_limit start c head_items fault head_read (λ mem more. h mem (want.Tree format (length cs) ∷ want.End ∷ more)))
 
   module _ (target : Option Grouping) (d : Rest) (targeted : ReadsItems (want.Target ∷ []) c (items_of_target target) [] d) where
-    target_read : ReadsItems (want.Head ∷ []) start (head_items ++ items_of_target target) (want.Tree language (length cs) ∷ want.End ∷ []) d
+    target_read : ReadsItems (want.Head ∷ []) start (head_items ++ items_of_target target) (want.Tree format (length cs) ∷ want.End ∷ []) d
     target_read =
-        reads_then (want.Head ∷ []) after_limit (want.Tree language (length cs) ∷ want.End ∷ []) start c d head_items (items_of_target target) head_read
-        (reads_with (want.Target ∷ []) [] (want.Tree language (length cs) ∷ want.End ∷ []) c d (items_of_target target) targeted)
+        reads_then (want.Head ∷ []) after_limit (want.Tree format (length cs) ∷ want.End ∷ []) start c d head_items (items_of_target target) head_read
+        (reads_with (want.Target ∷ []) [] (want.Tree format (length cs) ∷ want.End ∷ []) c d (items_of_target target) targeted)
 
-    pub tree_fault : (levels : ℕ) → levels ≡ length cs → (fault : TextFault) → Refuses (want.Tree language levels ∷ []) d fault → (IsTextMemory fault → ⊥) → certificate_items text ≡ Err fault
+    pub tree_fault : (levels : ℕ) → levels ≡ length cs → (fault : TextFault) → Refuses (want.Tree format levels ∷ []) d fault → (IsTextMemory fault → ⊥) → certificate_items text ≡ Err fault
     tree_fault levels same fault h =
-        refused text start is fault (reads_refuse (want.Head ∷ []) (want.Tree language (length cs) ∷ want.End ∷ []) start d (head_items ++ items_of_target target) fault target_read
-        (λ mem more. ap (λ (k : ℕ). items_at (want.Tree language k ∷ want.End ∷ more) d) (sym same) ∙ h mem (want.End ∷ more)))
+        refused text start is fault (reads_refuse (want.Head ∷ []) (want.Tree format (length cs) ∷ want.End ∷ []) start d (head_items ++ items_of_target target) fault target_read
+        (λ mem more. ap (λ (k : ℕ). items_at (want.Tree format k ∷ want.End ∷ more) d) (sym same) ∙ h mem (want.End ∷ more)))
 
-    module _ (levels : ℕ) (same : levels ≡ length cs) (items : List Item) (e : Rest) (tree : ReadsItems (want.Tree language levels ∷ []) d items [] e) where
+    module _ (levels : ℕ) (same : levels ≡ length cs) (items : List Item) (e : Rest) (tree : ReadsItems (want.Tree format levels ∷ []) d items [] e) where
       tree_read : ReadsItems (want.Head ∷ []) start ((head_items ++ items_of_target target) ++ items) (want.End ∷ []) e
       tree_read =
-          reads_then (want.Head ∷ []) (want.Tree language (length cs) ∷ want.End ∷ []) (want.End ∷ []) start d e (head_items ++ items_of_target target) items target_read
-          (subst (λ (k : ℕ). ReadsItems (want.Tree language k ∷ want.End ∷ []) d items (want.End ∷ []) e) same (reads_with (want.Tree language levels ∷ []) [] (want.End ∷ []) d e items tree))
+          reads_then (want.Head ∷ []) (want.Tree format (length cs) ∷ want.End ∷ []) (want.End ∷ []) start d e (head_items ++ items_of_target target) items target_read
+          (subst (λ (k : ℕ). ReadsItems (want.Tree format k ∷ want.End ∷ []) d items (want.End ∷ []) e) same (reads_with (want.Tree format levels ∷ []) [] (want.End ∷ []) d e items tree))
 
       pub end_fault : (fault : TextFault) → ((IsTextMemory fault → ⊥) → FaultOf (by_words line.end_on) e.number (lines_of e) fault) → (IsTextMemory fault → ⊥) → certificate_items text ≡ Err fault
       end_fault fault h =

@@ -6,25 +6,25 @@ use Rattle.certificate_lines.specs.Items.{by_words, head_in, headed, wanted_afte
 use Rattle.certificate_lines.specs.Rest.{Rest, TakesTextLine}
 use Rattle.certificate_lines.specs.Reading.{ReadsItems}
 use Rattle.certificate_lines.proofs.ReadLaws.{reads_then, reads_line}
-use Rattle.certificate_data.specs.declared.language.Language.{Language}
+use Rattle.certificate_data.specs.declared.format.Format.{Format}
 use Rattle.certificate_lines.specs.declared.item.Version.{Version}
 use Rattle.certificate_lines.specs.declared.item.Version.TheVariants.{One, Two}
 use Rattle.certificate_lines.specs.declared.item.Item.TheVariants as item
 use Rattle.certificate_lines.specs.declared.item.Wanted.TheVariants as want
 use Rattle.certificate_text.specs.Trees.{items_of_head}
 
-module _ (old mid : Rest) (language : Language) (version : Version) (head : TakesTextLine (λ p. head_in p.bytes p.ended) (language, version) old mid) where
-  head_read : (v : Version) → version ≡ v → ReadsItems (want.Head ∷ []) old (item.Head language v ∷ []) (wanted_after want.Head (item.Head language v)) mid
+module _ (old mid : Rest) (format : Format) (version : Version) (head : TakesTextLine (λ p. head_in p.bytes p.ended) (format, version) old mid) where
+  head_read : (v : Version) → version ≡ v → ReadsItems (want.Head ∷ []) old (item.Head format v ∷ []) (wanted_after want.Head (item.Head format v)) mid
   head_read v is =
-      subst (λ (u : Version). ReadsItems (want.Head ∷ []) old (item.Head language u ∷ []) (wanted_after want.Head (item.Head language u)) mid) is
-      (reads_line want.Head (λ p. head_in p.bytes p.ended) headed (λ piece. refl) (language, version) old mid head)
+      subst (λ (u : Version). ReadsItems (want.Head ∷ []) old (item.Head format u ∷ []) (wanted_after want.Head (item.Head format u)) mid) is
+      (reads_line want.Head (λ p. head_in p.bytes p.ended) headed (λ piece. refl) (format, version) old mid head)
 
   -- a head alone
-  pub bare_read : version ≡ One → ReadsItems (want.Head ∷ []) old (items_of_head language None) (want.Order language ∷ []) mid
+  pub bare_read : version ≡ One → ReadsItems (want.Head ∷ []) old (items_of_head format None) (want.Order format ∷ []) mid
   bare_read is = head_read One is
 
   -- a head, and the line of the allowance
-  pub window_read : version ≡ Two → (w : Window) (new : Rest) → TakesTextLine (by_words line.window_on) w mid new → ReadsItems (want.Head ∷ []) old (items_of_head language (Some w)) (want.Order language ∷ []) new
+  pub window_read : version ≡ Two → (w : Window) (new : Rest) → TakesTextLine (by_words line.window_on) w mid new → ReadsItems (want.Head ∷ []) old (items_of_head format (Some w)) (want.Order format ∷ []) new
   window_read is w new taken =
-      reads_then (want.Head ∷ []) (want.Window language ∷ []) (want.Order language ∷ []) old mid new (item.Head language Two ∷ []) (item.Within w ∷ []) (head_read Two is)
-      (reads_line (want.Window language) (by_words line.window_on) item.Within (λ piece. refl) w mid new taken)
+      reads_then (want.Head ∷ []) (want.Window format ∷ []) (want.Order format ∷ []) old mid new (item.Head format Two ∷ []) (item.Within w ∷ []) (head_read Two is)
+      (reads_line (want.Window format) (by_words line.window_on) item.Within (λ piece. refl) w mid new taken)

@@ -1,7 +1,7 @@
 -- Items that fit where a tree is wanted are in range.
 use Rattle.std.proofs.Common.{ℕ, ◌-◌, cond, Bool, true, false, List, [], ◌∷◌, ◌++◌, Some, None, arith}
 use Rattle.std.specs.List.{AllByRecursion}
-use Rattle.certificate_data.specs.declared.language.Language.TheVariants.{Plain, Wide}
+use Rattle.certificate_data.specs.declared.format.Format.TheVariants.{Plain, Wide}
 use Rattle.certificate_lines.specs.Items.{wanted_after, allowances_wanted}
 use Rattle.certificate_lines.specs.Fitting.{FitsWeight, IsWanted, AllFit}
 use Rattle.certificate_data.specs.declared.weights.Weight.{Weight}
@@ -15,8 +15,8 @@ use Rattle.certificate_text.specs.Ranges.{IsWeightInRange, IsInRange}
 
 -- what is wanted inside a tree
 abbrev pub IsOfTree : Wanted → Type 0
-IsOfTree (want.Tree language levels) = Unit {0}
-IsOfTree (want.Takes language levels) = Unit {0}
+IsOfTree (want.Tree format levels) = Unit {0}
+IsOfTree (want.Takes format levels) = Unit {0}
 IsOfTree (want.Allowances left) = Unit {0}
 IsOfTree wanted = ⊥
 
@@ -40,15 +40,15 @@ item_in_range (want.Tree Plain levels) (Opens (Branch c None)) u f = (f.0, (tt, 
 item_in_range (want.Tree Wide levels) (Opens (Branch c (Some limit))) u f = ((f.0, omega (arith, f.2)), (tt, tt))
 item_in_range (want.Tree Plain levels) (Opens (Branch c (Some limit))) u f = absurd f
 item_in_range (want.Tree Wide levels) (Opens (Branch c None)) u f = absurd f
-item_in_range (want.Tree language levels) (Opens (Stuck c)) u f = (f, tt)
-item_in_range (want.Tree language levels) (Opens Seats) u f = (tt, tt)
-item_in_range (want.Tree language levels) (Opens (Bound n)) u f = (omega (arith, f), allowances_of_tree n)
-item_in_range (want.Takes language levels) (Takes cs) u f = (f.small, (tt, (tt, tt)))
-item_in_range (want.Takes language levels) Mark u f = (tt, (tt, tt))
+item_in_range (want.Tree format levels) (Opens (Stuck c)) u f = (f, tt)
+item_in_range (want.Tree format levels) (Opens Seats) u f = (tt, tt)
+item_in_range (want.Tree format levels) (Opens (Bound n)) u f = (omega (arith, f), allowances_of_tree n)
+item_in_range (want.Takes format levels) (Takes cs) u f = (f.small, (tt, (tt, tt)))
+item_in_range (want.Takes format levels) Mark u f = (tt, (tt, tt))
 item_in_range (want.Allowances left) (Allows Room) u f = (tt, allowances_of_tree (left - 1))
 item_in_range (want.Allowances left) (Allows (Weigh quota ws)) u f = ((omega (arith, f.to), weights_in_range ws f.each), allowances_of_tree (left - 1))
-item_in_range (want.Tree language levels) _ u f = absurd f
-item_in_range (want.Takes language levels) _ u f = absurd f
+item_in_range (want.Tree format levels) _ u f = absurd f
+item_in_range (want.Takes format levels) _ u f = absurd f
 item_in_range (want.Allowances left) _ u f = absurd f
 item_in_range _ i u f = absurd u
 

@@ -11,8 +11,8 @@ use Rattle.certificate_lines.specs.Reading.{ReadsItems, Refuses}
 use Rattle.certificate_lines.proofs.ReadLaws.{reads_none, reads_then, reads_with, reads_refuse, reads_line, refuses_line}
 use Rattle.certificate_lines.specs.declared.fault.TextKind.{TextKind}
 use Rattle.certificate_lines.specs.declared.fault.TextFault.{TextFault}
-use Rattle.certificate_data.specs.declared.language.Language.{Language}
-use Rattle.certificate_data.specs.declared.language.Language.TheVariants.{Plain, Wide}
+use Rattle.certificate_data.specs.declared.format.Format.{Format}
+use Rattle.certificate_data.specs.declared.format.Format.TheVariants.{Plain, Wide}
 use Rattle.certificate_lines.specs.declared.item.Opening.{Opening}
 use Rattle.certificate_lines.specs.declared.item.Opening.TheVariants as opening
 use Rattle.certificate_lines.specs.declared.item.Item.{Item}
@@ -69,89 +69,89 @@ run_start wants count start =
     reads_to (runs wants count) (runs wants count) (runs wants (count - 0)) start start [] (ap (runs wants) same) (reads_none (runs wants count) start)
 
 -- a tree, branch by branch
-module _ (language : Language) (levels : ℕ) (start : Rest) where
-  opened : (k : ℕ) (o : Opening) (old new : Rest) (bs : List Branch) → ReadsItems (want.Tree language levels ∷ []) start (items_of_branches bs) (want.Tree language k ∷ []) old
-      → TakesTextLine (by_words (line.opening_on language k)) o old new → ReadsItems (want.Tree language levels ∷ []) start (items_of_branches bs ++ item.Opens o ∷ []) (wanted_after (want.Tree language k) (item.Opens o)) new
+module _ (format : Format) (levels : ℕ) (start : Rest) where
+  opened : (k : ℕ) (o : Opening) (old new : Rest) (bs : List Branch) → ReadsItems (want.Tree format levels ∷ []) start (items_of_branches bs) (want.Tree format k ∷ []) old
+      → TakesTextLine (by_words (line.opening_on format k)) o old new → ReadsItems (want.Tree format levels ∷ []) start (items_of_branches bs ++ item.Opens o ∷ []) (wanted_after (want.Tree format k) (item.Opens o)) new
   opened k o old new bs before takes =
-      reads_then (want.Tree language levels ∷ []) (want.Tree language k ∷ []) (wanted_after (want.Tree language k) (item.Opens o)) start old new (items_of_branches bs) (item.Opens o ∷ []) before
-      (reads_line (want.Tree language k) (by_words (line.opening_on language k)) item.Opens (λ piece. refl) o old new takes)
+      reads_then (want.Tree format levels ∷ []) (want.Tree format k ∷ []) (wanted_after (want.Tree format k) (item.Opens o)) start old new (items_of_branches bs) (item.Opens o ∷ []) before
+      (reads_line (want.Tree format k) (by_words (line.opening_on format k)) item.Opens (λ piece. refl) o old new takes)
 
-  pub tree_fault : (k : ℕ) (old : Rest) (bs : List Branch) (fault : TextFault) → ReadsItems (want.Tree language levels ∷ []) start (items_of_branches bs) (want.Tree language k ∷ []) old
-      → ((IsTextMemory fault → ⊥) → FaultOf (by_words (line.opening_on language k)) old.number (lines_of old) fault) → Refuses (want.Tree language levels ∷ []) start fault
+  pub tree_fault : (k : ℕ) (old : Rest) (bs : List Branch) (fault : TextFault) → ReadsItems (want.Tree format levels ∷ []) start (items_of_branches bs) (want.Tree format k ∷ []) old
+      → ((IsTextMemory fault → ⊥) → FaultOf (by_words (line.opening_on format k)) old.number (lines_of old) fault) → Refuses (want.Tree format levels ∷ []) start fault
   tree_fault k old bs fault before h =
-      reads_refuse (want.Tree language levels ∷ []) (want.Tree language k ∷ []) start old (items_of_branches bs) fault before
-      (refuses_line (want.Tree language k) (by_words (line.opening_on language k)) item.Opens (λ piece. refl) old fault h)
+      reads_refuse (want.Tree format levels ∷ []) (want.Tree format k ∷ []) start old (items_of_branches bs) fault before
+      (refuses_line (want.Tree format k) (by_words (line.opening_on format k)) item.Opens (λ piece. refl) old fault h)
 
   -- a fault inside a branch
-  pub branch_fault : (k county : ℕ) (limit : Option ℕ) (old new : Rest) (bs : List Branch) (fault : TextFault) → ReadsItems (want.Tree language levels ∷ []) start (items_of_branches bs) (want.Tree language k ∷ []) old
-      → TakesTextLine (by_words (line.opening_on language k)) (opening.Branch county limit) old new → Refuses (want.Takes language k ∷ []) new fault → Refuses (want.Tree language levels ∷ []) start fault
+  pub branch_fault : (k county : ℕ) (limit : Option ℕ) (old new : Rest) (bs : List Branch) (fault : TextFault) → ReadsItems (want.Tree format levels ∷ []) start (items_of_branches bs) (want.Tree format k ∷ []) old
+      → TakesTextLine (by_words (line.opening_on format k)) (opening.Branch county limit) old new → Refuses (want.Takes format k ∷ []) new fault → Refuses (want.Tree format levels ∷ []) start fault
   branch_fault k county limit old new bs fault before takes h =
-      reads_refuse (want.Tree language levels ∷ []) (want.Takes language k ∷ []) start new (items_of_branches bs ++ item.Opens (opening.Branch county limit) ∷ []) fault (opened k (opening.Branch county limit) old new bs before takes) h
+      reads_refuse (want.Tree format levels ∷ []) (want.Takes format k ∷ []) start new (items_of_branches bs ++ item.Opens (opening.Branch county limit) ∷ []) fault (opened k (opening.Branch county limit) old new bs before takes) h
 
   -- one more branch
-  pub branch_step : (k county : ℕ) (limit : Option ℕ) (old mid new : Rest) (bs : List Branch) (b : Branch) (taken_items : List Item) → ReadsItems (want.Tree language levels ∷ []) start (items_of_branches bs) (want.Tree language k ∷ []) old
-      → TakesTextLine (by_words (line.opening_on language k)) (opening.Branch county limit) old mid
-      → ReadsItems (want.Takes language k ∷ []) mid (taken_items ++ item.Mark ∷ []) (want.Tree language (after_raise language k) ∷ []) new
+  pub branch_step : (k county : ℕ) (limit : Option ℕ) (old mid new : Rest) (bs : List Branch) (b : Branch) (taken_items : List Item) → ReadsItems (want.Tree format levels ∷ []) start (items_of_branches bs) (want.Tree format k ∷ []) old
+      → TakesTextLine (by_words (line.opening_on format k)) (opening.Branch county limit) old mid
+      → ReadsItems (want.Takes format k ∷ []) mid (taken_items ++ item.Mark ∷ []) (want.Tree format (after_raise format k) ∷ []) new
       → items_of_branch b ≡ item.Opens (opening.Branch county limit) ∷ (taken_items ++ item.Mark ∷ [])
-      → ReadsItems (want.Tree language levels ∷ []) start (items_of_branches (bs ++ b ∷ [])) (want.Tree language (after_raise language k) ∷ []) new
+      → ReadsItems (want.Tree format levels ∷ []) start (items_of_branches (bs ++ b ∷ [])) (want.Tree format (after_raise format k) ∷ []) new
   branch_step k county limit old mid new bs b taken_items before takes inside is =
-      let all = reads_then (want.Tree language levels ∷ []) (want.Takes language k ∷ []) (want.Tree language (after_raise language k) ∷ []) start mid new (items_of_branches bs ++ item.Opens (opening.Branch county limit) ∷ []) (taken_items ++ item.Mark ∷ []) (opened k (opening.Branch county limit) old mid bs before takes) inside in
-      reads_as (want.Tree language levels ∷ []) (want.Tree language (after_raise language k) ∷ []) start new _ (items_of_branches (bs ++ b ∷ []))
+      let all = reads_then (want.Tree format levels ∷ []) (want.Takes format k ∷ []) (want.Tree format (after_raise format k) ∷ []) start mid new (items_of_branches bs ++ item.Opens (opening.Branch county limit) ∷ []) (taken_items ++ item.Mark ∷ []) (opened k (opening.Branch county limit) old mid bs before takes) inside in
+      reads_as (want.Tree format levels ∷ []) (want.Tree format (after_raise format k) ∷ []) start new _ (items_of_branches (bs ++ b ∷ []))
       (append_assoc (items_of_branches bs) (item.Opens (opening.Branch county limit) ∷ []) (taken_items ++ item.Mark ∷ []) ∙ ap (λ (l : List Item). items_of_branches bs ++ l) (sym is) ∙ sym (branches_more bs b)) all
 
   -- a leaf of one line
-  pub leaf_end : (k : ℕ) (o : Opening) (old new : Rest) (bs : List Branch) (items : List Item) → ReadsItems (want.Tree language levels ∷ []) start (items_of_branches bs) (want.Tree language k ∷ []) old
-      → TakesTextLine (by_words (line.opening_on language k)) o old new → wanted_after (want.Tree language k) (item.Opens o) ≡ [] → items ≡ items_of_branches bs ++ item.Opens o ∷ [] → ReadsItems (want.Tree language levels ∷ []) start items [] new
+  pub leaf_end : (k : ℕ) (o : Opening) (old new : Rest) (bs : List Branch) (items : List Item) → ReadsItems (want.Tree format levels ∷ []) start (items_of_branches bs) (want.Tree format k ∷ []) old
+      → TakesTextLine (by_words (line.opening_on format k)) o old new → wanted_after (want.Tree format k) (item.Opens o) ≡ [] → items ≡ items_of_branches bs ++ item.Opens o ∷ [] → ReadsItems (want.Tree format levels ∷ []) start items [] new
   leaf_end k o old new bs items before takes none is =
-      reads_as (want.Tree language levels ∷ []) [] start new (items_of_branches bs ++ item.Opens o ∷ []) items (sym is)
-      (reads_to (want.Tree language levels ∷ []) (wanted_after (want.Tree language k) (item.Opens o)) [] start new (items_of_branches bs ++ item.Opens o ∷ []) none (opened k o old new bs before takes))
+      reads_as (want.Tree format levels ∷ []) [] start new (items_of_branches bs ++ item.Opens o ∷ []) items (sym is)
+      (reads_to (want.Tree format levels ∷ []) (wanted_after (want.Tree format k) (item.Opens o)) [] start new (items_of_branches bs ++ item.Opens o ∷ []) none (opened k o old new bs before takes))
 
   -- a leaf and its lines
-  pub bound_end : (k count : ℕ) (old mid new : Rest) (bs : List Branch) (lines items : List Item) → ReadsItems (want.Tree language levels ∷ []) start (items_of_branches bs) (want.Tree language k ∷ []) old
-      → TakesTextLine (by_words (line.opening_on language k)) (opening.Bound count) old mid → ReadsItems (wanted_after (want.Tree language k) (item.Opens (opening.Bound count))) mid lines [] new
-      → items ≡ items_of_branches bs ++ item.Opens (opening.Bound count) ∷ lines → ReadsItems (want.Tree language levels ∷ []) start items [] new
+  pub bound_end : (k count : ℕ) (old mid new : Rest) (bs : List Branch) (lines items : List Item) → ReadsItems (want.Tree format levels ∷ []) start (items_of_branches bs) (want.Tree format k ∷ []) old
+      → TakesTextLine (by_words (line.opening_on format k)) (opening.Bound count) old mid → ReadsItems (wanted_after (want.Tree format k) (item.Opens (opening.Bound count))) mid lines [] new
+      → items ≡ items_of_branches bs ++ item.Opens (opening.Bound count) ∷ lines → ReadsItems (want.Tree format levels ∷ []) start items [] new
   bound_end k count old mid new bs lines items before takes inside is =
-      reads_as (want.Tree language levels ∷ []) [] start new ((items_of_branches bs ++ item.Opens (opening.Bound count) ∷ []) ++ lines) items (append_assoc (items_of_branches bs) (item.Opens (opening.Bound count) ∷ []) lines ∙ sym is)
-      (reads_then (want.Tree language levels ∷ []) (wanted_after (want.Tree language k) (item.Opens (opening.Bound count))) [] start mid new (items_of_branches bs ++ item.Opens (opening.Bound count) ∷ []) lines (opened k (opening.Bound count) old mid bs before takes) inside)
+      reads_as (want.Tree format levels ∷ []) [] start new ((items_of_branches bs ++ item.Opens (opening.Bound count) ∷ []) ++ lines) items (append_assoc (items_of_branches bs) (item.Opens (opening.Bound count) ∷ []) lines ∙ sym is)
+      (reads_then (want.Tree format levels ∷ []) (wanted_after (want.Tree format k) (item.Opens (opening.Bound count))) [] start mid new (items_of_branches bs ++ item.Opens (opening.Bound count) ∷ []) lines (opened k (opening.Bound count) old mid bs before takes) inside)
 
-  pub bound_fault : (k count : ℕ) (old mid : Rest) (bs : List Branch) (fault : TextFault) → ReadsItems (want.Tree language levels ∷ []) start (items_of_branches bs) (want.Tree language k ∷ []) old
-      → TakesTextLine (by_words (line.opening_on language k)) (opening.Bound count) old mid → Refuses (wanted_after (want.Tree language k) (item.Opens (opening.Bound count))) mid fault → Refuses (want.Tree language levels ∷ []) start fault
+  pub bound_fault : (k count : ℕ) (old mid : Rest) (bs : List Branch) (fault : TextFault) → ReadsItems (want.Tree format levels ∷ []) start (items_of_branches bs) (want.Tree format k ∷ []) old
+      → TakesTextLine (by_words (line.opening_on format k)) (opening.Bound count) old mid → Refuses (wanted_after (want.Tree format k) (item.Opens (opening.Bound count))) mid fault → Refuses (want.Tree format levels ∷ []) start fault
   bound_fault k count old mid bs fault before takes h =
-      reads_refuse (want.Tree language levels ∷ []) (wanted_after (want.Tree language k) (item.Opens (opening.Bound count))) start mid (items_of_branches bs ++ item.Opens (opening.Bound count) ∷ []) fault (opened k (opening.Bound count) old mid bs before takes) h
+      reads_refuse (want.Tree format levels ∷ []) (wanted_after (want.Tree format k) (item.Opens (opening.Bound count))) start mid (items_of_branches bs ++ item.Opens (opening.Bound count) ∷ []) fault (opened k (opening.Bound count) old mid bs before takes) h
 
 -- the takes of a branch, one after the other
-module _ (language : Language) (k : ℕ) (start : Rest) where
-  one_take : (r : Option (List ℕ)) (old new : Rest) (ts : List Take) → ReadsItems (want.Takes language k ∷ []) start (items_of_takes (list_of_takes ts)) (want.Takes language k ∷ []) old
-      → TakesTextLine (by_words line.take_on) r old new → ReadsItems (want.Takes language k ∷ []) start (items_of_takes (list_of_takes ts) ++ taken r ∷ []) (wanted_after (want.Takes language k) (taken r)) new
+module _ (format : Format) (k : ℕ) (start : Rest) where
+  one_take : (r : Option (List ℕ)) (old new : Rest) (ts : List Take) → ReadsItems (want.Takes format k ∷ []) start (items_of_takes (list_of_takes ts)) (want.Takes format k ∷ []) old
+      → TakesTextLine (by_words line.take_on) r old new → ReadsItems (want.Takes format k ∷ []) start (items_of_takes (list_of_takes ts) ++ taken r ∷ []) (wanted_after (want.Takes format k) (taken r)) new
   one_take r old new ts before takes =
-      reads_then (want.Takes language k ∷ []) (want.Takes language k ∷ []) (wanted_after (want.Takes language k) (taken r)) start old new (items_of_takes (list_of_takes ts)) (taken r ∷ []) before
-      (reads_line (want.Takes language k) (by_words line.take_on) taken (λ piece. refl) r old new takes)
+      reads_then (want.Takes format k ∷ []) (want.Takes format k ∷ []) (wanted_after (want.Takes format k) (taken r)) start old new (items_of_takes (list_of_takes ts)) (taken r ∷ []) before
+      (reads_line (want.Takes format k) (by_words line.take_on) taken (λ piece. refl) r old new takes)
 
-  pub takes_fault : (old : Rest) (ts : List Take) (fault : TextFault) → ReadsItems (want.Takes language k ∷ []) start (items_of_takes (list_of_takes ts)) (want.Takes language k ∷ []) old
-      → ((IsTextMemory fault → ⊥) → FaultOf (by_words line.take_on) old.number (lines_of old) fault) → Refuses (want.Takes language k ∷ []) start fault
+  pub takes_fault : (old : Rest) (ts : List Take) (fault : TextFault) → ReadsItems (want.Takes format k ∷ []) start (items_of_takes (list_of_takes ts)) (want.Takes format k ∷ []) old
+      → ((IsTextMemory fault → ⊥) → FaultOf (by_words line.take_on) old.number (lines_of old) fault) → Refuses (want.Takes format k ∷ []) start fault
   takes_fault old ts fault before h =
-      reads_refuse (want.Takes language k ∷ []) (want.Takes language k ∷ []) start old (items_of_takes (list_of_takes ts)) fault before
-      (refuses_line (want.Takes language k) (by_words line.take_on) taken (λ piece. refl) old fault h)
+      reads_refuse (want.Takes format k ∷ []) (want.Takes format k ∷ []) start old (items_of_takes (list_of_takes ts)) fault before
+      (refuses_line (want.Takes format k) (by_words line.take_on) taken (λ piece. refl) old fault h)
 
-  pub takes_end : (old new : Rest) (ts : List Take) → ReadsItems (want.Takes language k ∷ []) start (items_of_takes (list_of_takes ts)) (want.Takes language k ∷ []) old
-      → TakesTextLine (by_words line.take_on) None old new → ReadsItems (want.Takes language k ∷ []) start (items_of_takes (list_of_takes ts) ++ item.Mark ∷ []) (want.Tree language (after_raise language k) ∷ []) new
+  pub takes_end : (old new : Rest) (ts : List Take) → ReadsItems (want.Takes format k ∷ []) start (items_of_takes (list_of_takes ts)) (want.Takes format k ∷ []) old
+      → TakesTextLine (by_words line.take_on) None old new → ReadsItems (want.Takes format k ∷ []) start (items_of_takes (list_of_takes ts) ++ item.Mark ∷ []) (want.Tree format (after_raise format k) ∷ []) new
   takes_end old new ts before takes = one_take None old new ts before takes
 
   -- a fault inside a take's tree
-  pub take_fault : (cs : List ℕ) (old mid : Rest) (ts : List Take) (fault : TextFault) → ReadsItems (want.Takes language k ∷ []) start (items_of_takes (list_of_takes ts)) (want.Takes language k ∷ []) old
-      → TakesTextLine (by_words line.take_on) (Some cs) old mid → Refuses (want.Tree language (k - 1) ∷ []) mid fault → Refuses (want.Takes language k ∷ []) start fault
+  pub take_fault : (cs : List ℕ) (old mid : Rest) (ts : List Take) (fault : TextFault) → ReadsItems (want.Takes format k ∷ []) start (items_of_takes (list_of_takes ts)) (want.Takes format k ∷ []) old
+      → TakesTextLine (by_words line.take_on) (Some cs) old mid → Refuses (want.Tree format (k - 1) ∷ []) mid fault → Refuses (want.Takes format k ∷ []) start fault
   take_fault cs old mid ts fault before takes h =
-      reads_refuse (want.Takes language k ∷ []) (want.Tree language (k - 1) ∷ want.Takes language k ∷ []) start mid (items_of_takes (list_of_takes ts) ++ item.Takes cs ∷ []) fault (one_take (Some cs) old mid ts before takes)
-      (λ mem more. h mem (want.Takes language k ∷ more))
+      reads_refuse (want.Takes format k ∷ []) (want.Tree format (k - 1) ∷ want.Takes format k ∷ []) start mid (items_of_takes (list_of_takes ts) ++ item.Takes cs ∷ []) fault (one_take (Some cs) old mid ts before takes)
+      (λ mem more. h mem (want.Takes format k ∷ more))
 
-  pub take_step : (cs : List ℕ) (tree_items : List Item) (old mid new : Rest) (ts : List Take) (t : Take) → ReadsItems (want.Takes language k ∷ []) start (items_of_takes (list_of_takes ts)) (want.Takes language k ∷ []) old
-      → TakesTextLine (by_words line.take_on) (Some cs) old mid → ReadsItems (want.Tree language (k - 1) ∷ []) mid tree_items [] new → items_of_take t ≡ item.Takes cs ∷ tree_items
-      → ReadsItems (want.Takes language k ∷ []) start (items_of_takes (list_of_takes (ts ++ t ∷ []))) (want.Takes language k ∷ []) new
+  pub take_step : (cs : List ℕ) (tree_items : List Item) (old mid new : Rest) (ts : List Take) (t : Take) → ReadsItems (want.Takes format k ∷ []) start (items_of_takes (list_of_takes ts)) (want.Takes format k ∷ []) old
+      → TakesTextLine (by_words line.take_on) (Some cs) old mid → ReadsItems (want.Tree format (k - 1) ∷ []) mid tree_items [] new → items_of_take t ≡ item.Takes cs ∷ tree_items
+      → ReadsItems (want.Takes format k ∷ []) start (items_of_takes (list_of_takes (ts ++ t ∷ []))) (want.Takes format k ∷ []) new
   take_step cs tree_items old mid new ts t before takes inside is =
-      let all = reads_then (want.Takes language k ∷ []) (want.Tree language (k - 1) ∷ want.Takes language k ∷ []) (want.Takes language k ∷ []) start mid new (items_of_takes (list_of_takes ts) ++ item.Takes cs ∷ []) tree_items (one_take (Some cs) old mid ts before takes) (reads_with (want.Tree language (k - 1) ∷ []) [] (want.Takes language k ∷ []) mid new tree_items inside) in
-      reads_as (want.Takes language k ∷ []) (want.Takes language k ∷ []) start new _ (items_of_takes (list_of_takes (ts ++ t ∷ [])))
+      let all = reads_then (want.Takes format k ∷ []) (want.Tree format (k - 1) ∷ want.Takes format k ∷ []) (want.Takes format k ∷ []) start mid new (items_of_takes (list_of_takes ts) ++ item.Takes cs ∷ []) tree_items (one_take (Some cs) old mid ts before takes) (reads_with (want.Tree format (k - 1) ∷ []) [] (want.Takes format k ∷ []) mid new tree_items inside) in
+      reads_as (want.Takes format k ∷ []) (want.Takes format k ∷ []) start new _ (items_of_takes (list_of_takes (ts ++ t ∷ [])))
       (append_assoc (items_of_takes (list_of_takes ts)) (item.Takes cs ∷ []) tree_items ∙ ap (λ (l : List Item). items_of_takes (list_of_takes ts) ++ l) (sym is) ∙ sym (takes_more ts t)) all
 
-pub after_raise-le : (language : Language) (k : ℕ) → after_raise language k ≤ k
+pub after_raise-le : (format : Format) (k : ℕ) → after_raise format k ≤ k
 after_raise-le Plain k = omega arith
 after_raise-le Wide k = omega arith

@@ -5,7 +5,7 @@ use Rattle.std.proofs.lemmas.Bool.{le-leb, leb-true}
 use Rattle.county_codes.specs.Windows.{is_window}
 use Rattle.county_codes.specs.declared.group.Group.{Group}
 use Rattle.county_codes.specs.declared.window.Window.{Window}
-use Rattle.certificate_data.specs.declared.language.Language.{Language}
+use Rattle.certificate_data.specs.declared.format.Format.{Format}
 use Rattle.certificate_data.specs.Tree.{Tree, bound}
 use Rattle.certificate_lines.specs.Lines.{most}
 use Rattle.certificate_lines.specs.Items.{groups_wanted, allowances_wanted}
@@ -31,25 +31,25 @@ failed r n k is e le =
     cc (is, e, yes)
 
 -- what a test tells of a leaf
-pub stuck_tested : (language : Language) (levels county : ℕ) (r : Bool) → r ≡ nat_le county 99999 → Tests (want.Tree language levels ∷ []) (item.Opens (opening.Stuck county) ∷ []) [] r
-stuck_tested language levels county true is = stuck_fitting language levels county (leb-true county 99999 (sym is))
-stuck_tested language levels county false is = stuck_unfit language levels county (failed false county 99999 is refl)
+pub stuck_tested : (format : Format) (levels county : ℕ) (r : Bool) → r ≡ nat_le county 99999 → Tests (want.Tree format levels ∷ []) (item.Opens (opening.Stuck county) ∷ []) [] r
+stuck_tested format levels county true is = stuck_fitting format levels county (leb-true county 99999 (sym is))
+stuck_tested format levels county false is = stuck_unfit format levels county (failed false county 99999 is refl)
 
-pub bound_tested : (language : Language) (levels : ℕ) (ks : List DeclaredAllowance) (r : Bool) → length ks ≤ most → Tests (allowances_wanted (length ks)) (map item.Allows ks) [] r → Tests (want.Tree language levels ∷ []) (leaf_items (bound (map allowance_of ks))) [] r
-bound_tested language levels ks true few h = bound_fitting language levels ks few h
-bound_tested language levels ks false few h = bound_refused language levels ks few h
+pub bound_tested : (format : Format) (levels : ℕ) (ks : List DeclaredAllowance) (r : Bool) → length ks ≤ most → Tests (allowances_wanted (length ks)) (map item.Allows ks) [] r → Tests (want.Tree format levels ∷ []) (leaf_items (bound (map allowance_of ks))) [] r
+bound_tested format levels ks true few h = bound_fitting format levels ks few h
+bound_tested format levels ks false few h = bound_refused format levels ks few h
 
 -- what a test tells of the head
-pub plain_head : (language : Language) → Fitting (want.Head ∷ []) (items_of_head language None) (want.Order language ∷ [])
-plain_head language = fitting_line want.Head (item.Head language One) tt
+pub plain_head : (format : Format) → Fitting (want.Head ∷ []) (items_of_head format None) (want.Order format ∷ [])
+plain_head format = fitting_line want.Head (item.Head format One) tt
 
-pub head_tested : (language : Language) (window : Window) (r : Bool) → r ≡ is_window window → Tests (want.Head ∷ []) (items_of_head language (Some window)) (want.Order language ∷ []) r
-head_tested language window true is =
-    fitting_then (want.Head ∷ []) (want.Window language ∷ []) (want.Order language ∷ []) (item.Head language Two ∷ []) (item.Within window ∷ []) (fitting_line want.Head (item.Head language Two) tt)
-    (fitting_line (want.Window language) (item.Within window) (sym is))
-head_tested language window false is =
-    refused_after (want.Head ∷ []) (want.Window language ∷ []) (item.Head language Two ∷ []) (item.Within window ∷ []) (fitting_line want.Head (item.Head language Two) tt)
-    (line_refused (want.Window language) [] (item.Within window) [] (λ fit. cc (is, fit)))
+pub head_tested : (format : Format) (window : Window) (r : Bool) → r ≡ is_window window → Tests (want.Head ∷ []) (items_of_head format (Some window)) (want.Order format ∷ []) r
+head_tested format window true is =
+    fitting_then (want.Head ∷ []) (want.Window format ∷ []) (want.Order format ∷ []) (item.Head format Two ∷ []) (item.Within window ∷ []) (fitting_line want.Head (item.Head format Two) tt)
+    (fitting_line (want.Window format) (item.Within window) (sym is))
+head_tested format window false is =
+    refused_after (want.Head ∷ []) (want.Window format ∷ []) (item.Head format Two ∷ []) (item.Within window ∷ []) (fitting_line want.Head (item.Head format Two) tt)
+    (line_refused (want.Window format) [] (item.Within window) [] (λ fit. cc (is, fit)))
 
 -- what a test tells of a target
 pub no_target : Fitting (want.Target ∷ []) (items_of_target None) []

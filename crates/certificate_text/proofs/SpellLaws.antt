@@ -17,8 +17,8 @@ use Rattle.certificate_lines.specs.Spelling.{weight_word, item_words}
 use Rattle.certificate_lines.specs.Fitting.{AreCodes, IsSet, FitsWeight, AreWeights}
 use Rattle.field_lines.proofs.NumbersBack.{Digit, decimal_digits}
 use Rattle.certificate_lines.proofs.BackLaws.{number_back, code_back, pair_back, each_back}
-use Rattle.certificate_data.specs.declared.language.Language.{Language}
-use Rattle.certificate_data.specs.declared.language.Language.TheVariants.{Plain, Wide}
+use Rattle.certificate_data.specs.declared.format.Format.{Format}
+use Rattle.certificate_data.specs.declared.format.Format.TheVariants.{Plain, Wide}
 use Rattle.certificate_data.specs.declared.weights.Weight.{Weight}
 use Rattle.county_codes.specs.Windows.{is_window}
 use Rattle.county_codes.proofs.WindowLemmas.{in_range}
@@ -143,13 +143,13 @@ pub wide_back : (levels c limit : ℕ) → c ≤ 99999 → 1 ≤ limit → limit
 unfolding opening_on branch_on
 wide_back levels c limit small low high deep = rw (code_at_back c (decimal limit ∷ []) small, number_at_back 1 most limit [] low high (lit< tt), (let t : nat_lt 0 levels ≡ true = grind (arith, nat_tests, deep) in t)) refl
 
-pub stuck_back : (language : Language) (levels c : ℕ) → c ≤ 99999 → opening_on language levels (item_words (Opens (Stuck c))) ≡ Ok (Stuck c)
+pub stuck_back : (format : Format) (levels c : ℕ) → c ≤ 99999 → opening_on format levels (item_words (Opens (Stuck c))) ≡ Ok (Stuck c)
 unfolding opening_on stuck_on
-stuck_back language levels c small = rw (code_at_back c [] small) refl
+stuck_back format levels c small = rw (code_at_back c [] small) refl
 
-pub bound_back : (language : Language) (levels n : ℕ) → n ≤ most → opening_on language levels (item_words (Opens (Bound n))) ≡ Ok (Bound n)
+pub bound_back : (format : Format) (levels n : ℕ) → n ≤ most → opening_on format levels (item_words (Opens (Bound n))) ≡ Ok (Bound n)
 unfolding opening_on bound_on
-bound_back language levels n few = rw (number_at_back 0 most n [] (omega arith) few (lit< tt)) refl
+bound_back format levels n few = rw (number_at_back 0 most n [] (omega arith) few (lit< tt)) refl
 
 pub weigh_back : (quota : ℕ) (ws : List Weight) → AreWeights quota ws → allowance_on (item_words (Allows (Weigh quota ws))) ≡ Ok (Weigh quota ws)
 unfolding allowance_on weigh_on

@@ -23,8 +23,8 @@ use Rattle.county_codes.proofs.DigitsBack.{code_digits}
 use Rattle.certificate_text.proofs.SpellLaws.{Shown, IsWord, Printed, printed_line, line_words_back, window_back, order_back, limit_back, group_back, take_back, plain_back, wide_back, stuck_back, bound_back, weigh_back, target_back}
 use Rattle.certificate_lines.specs.declared.fault.TextKind.{TextKind}
 use Rattle.certificate_lines.specs.declared.fault.TextFault.{TextFault}
-use Rattle.certificate_data.specs.declared.language.Language.{Language}
-use Rattle.certificate_data.specs.declared.language.Language.TheVariants.{Plain, Wide}
+use Rattle.certificate_data.specs.declared.format.Format.{Format}
+use Rattle.certificate_data.specs.declared.format.Format.TheVariants.{Plain, Wide}
 use Rattle.certificate_data.specs.declared.weights.Weight.{Weight}
 use Rattle.county_codes.specs.Windows.{is_window}
 use Rattle.county_codes.proofs.WindowLemmas.{in_range}
@@ -118,8 +118,8 @@ module _ {X : Type 0} (read : List (List ℕ) → Result X TextKind) (view : X �
   few_said : read (first ∷ words) ≡ Ok x → seen view (by_words read (record { number = n; bytes = join_with_byte 32 (first ∷ words); ended = true })) ≡ Ok (view x)
   few_said h = said read view n first words x a.is_word (words_of_short words b) few_short h
 
-window_line : (n : ℕ) (language : Language) (w : Window) → is_window w ≡ true → IsLine n (want.Window language) (Within w)
-window_line n language w fits =
+window_line : (n : ℕ) (format : Format) (w : Window) → is_window w ≡ true → IsLine n (want.Window format) (Within w)
+window_line n format w fits =
     let is = in_range w fits in
     let name = named_word (codes "window") refl (omega arith) (omega arith) in
     let part = number_word w.part (omega (arith, is.half, is.few)) in
@@ -129,8 +129,8 @@ window_line n language w fits =
       read = few_said line.window_on Within n (codes "window") (decimal w.part ∷ decimal w.whole ∷ []) w name (part, (whole, tt)) (omega arith) (window_back w fits);
     }
 
-order_line : (n : ℕ) (language : Language) (cs : List ℕ) → length cs ≤ most → AreCodes cs → IsLine n (want.Order language) (Order cs)
-order_line n language cs few small =
+order_line : (n : ℕ) (format : Format) (cs : List ℕ) → length cs ≤ most → AreCodes cs → IsLine n (want.Order format) (Order cs)
+order_line n format cs few small =
     let name = named_word (codes "order") refl (omega arith) (omega arith) in
     let count : length (map five_digits cs) ≤ 1 + most = omega (arith, length_map five_digits cs, few) in
     record {
@@ -157,8 +157,8 @@ group_line n left g seats set =
       read = few_said line.group_on Grouped n (codes "group") (decimal g.seats ∷ map five_digits g.codes) g name (word, code_words g.codes set.small) count (group_back g seats set);
     }
 
-take_line : (n : ℕ) (language : Language) (levels : ℕ) (cs : List ℕ) → IsSet cs → IsLine n (want.Takes language levels) (Takes cs)
-take_line n language levels cs set =
+take_line : (n : ℕ) (format : Format) (levels : ℕ) (cs : List ℕ) → IsSet cs → IsLine n (want.Takes format levels) (Takes cs)
+take_line n format levels cs set =
     let name = named_word (codes "take") refl (omega arith) (omega arith) in
     let count : length (map five_digits cs) ≤ 1 + most = omega (arith, length_map five_digits cs, set.few) in
     record {
@@ -166,12 +166,12 @@ take_line n language levels cs set =
       read = few_said line.take_on taken n (codes "take") (map five_digits cs) (Some cs) name (code_words cs set.small) count (take_back cs set);
     }
 
-stuck_line : (n : ℕ) (language : Language) (levels c : ℕ) → c ≤ 99999 → IsLine n (want.Tree language levels) (Opens (Stuck c))
-stuck_line n language levels c small =
+stuck_line : (n : ℕ) (format : Format) (levels c : ℕ) → c ≤ 99999 → IsLine n (want.Tree format levels) (Opens (Stuck c))
+stuck_line n format levels c small =
     let name = named_word (codes "stuck") refl (omega arith) (omega arith) in
     record {
-      printed = few_printed (line.opening_on language levels) Opens n (codes "stuck") (five_digits c ∷ []) (Stuck c) name (code_word c small, tt) (omega arith);
-      read = few_said (line.opening_on language levels) Opens n (codes "stuck") (five_digits c ∷ []) (Stuck c) name (code_word c small, tt) (omega arith) (stuck_back language levels c small);
+      printed = few_printed (line.opening_on format levels) Opens n (codes "stuck") (five_digits c ∷ []) (Stuck c) name (code_word c small, tt) (omega arith);
+      read = few_said (line.opening_on format levels) Opens n (codes "stuck") (five_digits c ∷ []) (Stuck c) name (code_word c small, tt) (omega arith) (stuck_back format levels c small);
     }
 
 plain_line : (n levels c : ℕ) → c ≤ 99999 → 0 < levels → IsLine n (want.Tree Plain levels) (Opens (Branch c None))
@@ -191,13 +191,13 @@ wide_line n levels c limit small low high deep =
       read = few_said (line.opening_on Wide levels) Opens n (codes "branch") (five_digits c ∷ decimal limit ∷ []) (Branch c (Some limit)) name (code_word c small, (word, tt)) (omega arith) (wide_back levels c limit small low high deep);
     }
 
-bound_line : (n : ℕ) (language : Language) (levels k : ℕ) → k ≤ most → IsLine n (want.Tree language levels) (Opens (Bound k))
-bound_line n language levels k few =
+bound_line : (n : ℕ) (format : Format) (levels k : ℕ) → k ≤ most → IsLine n (want.Tree format levels) (Opens (Bound k))
+bound_line n format levels k few =
     let name = named_word (codes "bound") refl (omega arith) (omega arith) in
     let word = number_word k (omega (arith, few)) in
     record {
-      printed = few_printed (line.opening_on language levels) Opens n (codes "bound") (decimal k ∷ []) (Bound k) name (word, tt) (omega arith);
-      read = few_said (line.opening_on language levels) Opens n (codes "bound") (decimal k ∷ []) (Bound k) name (word, tt) (omega arith) (bound_back language levels k few);
+      printed = few_printed (line.opening_on format levels) Opens n (codes "bound") (decimal k ∷ []) (Bound k) name (word, tt) (omega arith);
+      read = few_said (line.opening_on format levels) Opens n (codes "bound") (decimal k ∷ []) (Bound k) name (word, tt) (omega arith) (bound_back format levels k few);
     }
 
 pub weigh_line : (n left quota : ℕ) (ws : List Weight) → AreWeights quota ws → IsLine n (want.Allowances left) (Allows (Weigh quota ws))
@@ -228,18 +228,18 @@ none_line n =
       read = few_said line.target_on Target n (codes "target") (codes "none" ∷ []) None name (none, tt) (omega arith) refl;
     }
 
-seats_line : (n : ℕ) (language : Language) (levels : ℕ) → IsLine n (want.Tree language levels) (Opens Seats)
+seats_line : (n : ℕ) (format : Format) (levels : ℕ) → IsLine n (want.Tree format levels) (Opens Seats)
 unfolding line.opening_on
-seats_line n language levels =
+seats_line n format levels =
     let name = named_word (codes "seats") refl (omega arith) (omega arith) in
     record {
-      printed = few_printed (line.opening_on language levels) Opens n (codes "seats") [] Seats name tt (omega arith);
-      read = few_said (line.opening_on language levels) Opens n (codes "seats") [] Seats name tt (omega arith) refl;
+      printed = few_printed (line.opening_on format levels) Opens n (codes "seats") [] Seats name tt (omega arith);
+      read = few_said (line.opening_on format levels) Opens n (codes "seats") [] Seats name tt (omega arith) refl;
     }
 
-mark_line : (n : ℕ) (language : Language) (levels : ℕ) → IsLine n (want.Takes language levels) Mark
+mark_line : (n : ℕ) (format : Format) (levels : ℕ) → IsLine n (want.Takes format levels) Mark
 unfolding line.take_on
-mark_line n language levels =
+mark_line n format levels =
     let name = named_word (codes "mark") refl (omega arith) (omega arith) in
     record {
       printed = few_printed line.take_on taken n (codes "mark") [] None name tt (omega arith);
@@ -275,7 +275,7 @@ printed_by (b ∷ bytes) e =
     let ends = and_parts (nat_le 32 b) (nat_le b 126) parts.0 in
     (record { from = leb-true 32 b ends.0; to = leb-true b 126 ends.1 }, printed_by bytes parts.1)
 
-head_line : (n : ℕ) (language : Language) (version : Version) → IsLine n want.Head (Head language version)
+head_line : (n : ℕ) (format : Format) (version : Version) → IsLine n want.Head (Head format version)
 unfolding line.head_on line_bytes is_printed
 head_line n Plain One = record { printed = printed_by (join_with_byte 32 (item_words (Head Plain One))) refl; read = refl }
 head_line n Wide One = record { printed = printed_by (join_with_byte 32 (item_words (Head Wide One))) refl; read = refl }
@@ -284,9 +284,9 @@ head_line n Wide Two = record { printed = printed_by (join_with_byte 32 (item_wo
 
 -- the line of what fits is read
 pub fits_line : (n : ℕ) (wanted : Wanted) (item : Item) → IsWanted wanted item → IsLine n wanted item
-fits_line n want.Head (Head language version) f = head_line n language version
-fits_line n (want.Window language) (Within w) f = window_line n language w f
-fits_line n (want.Order language) (Order cs) f = order_line n language cs f.0 f.1
+fits_line n want.Head (Head format version) f = head_line n format version
+fits_line n (want.Window format) (Within w) f = window_line n format w f
+fits_line n (want.Order format) (Order cs) f = order_line n format cs f.0 f.1
 fits_line n want.Limit (Limit limit) f = limit_line n limit f
 fits_line n want.Target (Target None) f = none_line n
 fits_line n want.Target (Target (Some k)) f = target_line n k f
@@ -295,11 +295,11 @@ fits_line n (want.Tree Plain levels) (Opens (Branch c None)) f = plain_line n le
 fits_line n (want.Tree Wide levels) (Opens (Branch c (Some limit))) f = wide_line n levels c limit f.0 f.1 f.2 f.3
 fits_line n (want.Tree Plain levels) (Opens (Branch c (Some limit))) f = absurd f
 fits_line n (want.Tree Wide levels) (Opens (Branch c None)) f = absurd f
-fits_line n (want.Tree language levels) (Opens (Stuck c)) f = stuck_line n language levels c f
-fits_line n (want.Tree language levels) (Opens Seats) f = seats_line n language levels
-fits_line n (want.Tree language levels) (Opens (Bound k)) f = bound_line n language levels k f
-fits_line n (want.Takes language levels) (Takes cs) f = take_line n language levels cs f
-fits_line n (want.Takes language levels) Mark f = mark_line n language levels
+fits_line n (want.Tree format levels) (Opens (Stuck c)) f = stuck_line n format levels c f
+fits_line n (want.Tree format levels) (Opens Seats) f = seats_line n format levels
+fits_line n (want.Tree format levels) (Opens (Bound k)) f = bound_line n format levels k f
+fits_line n (want.Takes format levels) (Takes cs) f = take_line n format levels cs f
+fits_line n (want.Takes format levels) Mark f = mark_line n format levels
 fits_line n (want.Allowances left) (Allows Room) f = room_line n left
 fits_line n (want.Allowances left) (Allows (Weigh quota ws)) f = weigh_line n left quota ws f
 fits_line n want.End End f = end_line n

@@ -68,13 +68,13 @@ by_words_text read view piece h = seen_text view (by_words read piece) (said_tex
 
 item_text : (wanted : Wanted) (piece : RawLine) → SaidText (item_on wanted piece)
 item_text want.Head piece = seen_text headed (head_in piece.bytes piece.ended) (bind_text (line_bytes piece.bytes piece.ended) line.head_on (said_text (line_bytes piece.bytes piece.ended) (bytes_said piece.bytes piece.ended)) head_text)
-item_text (want.Window language) piece = by_words_text line.window_on item.Within piece window_said
-item_text (want.Order language) piece = by_words_text line.order_on item.Order piece order_said
+item_text (want.Window format) piece = by_words_text line.window_on item.Within piece window_said
+item_text (want.Order format) piece = by_words_text line.order_on item.Order piece order_said
 item_text want.Limit piece = by_words_text line.limit_on item.Limit piece limit_said
 item_text want.Target piece = by_words_text line.target_on item.Target piece target_said
 item_text (want.Groups left) piece = by_words_text line.group_on item.Grouped piece group_said
-item_text (want.Tree language levels) piece = by_words_text (line.opening_on language levels) item.Opens piece (opening_said language levels)
-item_text (want.Takes language levels) piece = by_words_text line.take_on taken piece take_said
+item_text (want.Tree format levels) piece = by_words_text (line.opening_on format levels) item.Opens piece (opening_said format levels)
+item_text (want.Takes format levels) piece = by_words_text line.take_on taken piece take_said
 item_text (want.Allowances left) piece = by_words_text line.allowance_on item.Allows piece allowance_said
 item_text want.End piece = by_words_text line.end_on (λ _. item.End) piece end_said
 

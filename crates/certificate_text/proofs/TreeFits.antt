@@ -1,8 +1,8 @@
 -- Trees that fit, part by part.
 use Rattle.std.proofs.Common.{◌≡◌, ℕ, ◌-◌, ◌≤◌, List, [], ◌∷◌, ◌++◌, length, map, Option, refl, ap, sym, ◌∙◌}
 use Rattle.std.specs.List.{flat_map}
-use Rattle.certificate_data.specs.declared.language.Language.{Language}
-use Rattle.certificate_data.specs.declared.language.Language.TheVariants.{Plain, Wide}
+use Rattle.certificate_data.specs.declared.format.Format.{Format}
+use Rattle.certificate_data.specs.declared.format.Format.TheVariants.{Plain, Wide}
 use Rattle.certificate_data.specs.Tree.{bound}
 use Rattle.certificate_laws.specs.Depth.{after_raise}
 use Rattle.certificate_lines.specs.Lines.{most}
@@ -24,89 +24,89 @@ use Rattle.certificate_text.proofs.TreeViews.{items_of_branch, items_of_branches
 use Rattle.certificate_text.proofs.FitLaws.{fitting_then, fitting_with, fitting_as, refused_with, refused_as, refused_after, fitting_line, line_refused}
 
 -- the first line of a bound leaf, and its lines
-fits_bound : (language : Language) (levels n : ℕ) → n ≤ most → IsWanted (want.Tree language levels) (item.Opens (opening.Bound n))
+fits_bound : (format : Format) (levels n : ℕ) → n ≤ most → IsWanted (want.Tree format levels) (item.Opens (opening.Bound n))
 fits_bound Plain levels n few = few
 fits_bound Wide levels n few = few
 
-bound_fits : (language : Language) (levels n : ℕ) → IsWanted (want.Tree language levels) (item.Opens (opening.Bound n)) → n ≤ most
+bound_fits : (format : Format) (levels n : ℕ) → IsWanted (want.Tree format levels) (item.Opens (opening.Bound n)) → n ≤ most
 bound_fits Plain levels n fit = fit
 bound_fits Wide levels n fit = fit
 
-module _ (language : Language) (levels : ℕ) (ks : List DeclaredAllowance) where
-  bound_begun : length ks ≤ most → Fitting (want.Tree language levels ∷ []) (item.Opens (opening.Bound (length ks)) ∷ []) (allowances_wanted (length ks))
-  bound_begun few = fitting_line (want.Tree language levels) (item.Opens (opening.Bound (length ks))) (fits_bound language levels (length ks) few)
+module _ (format : Format) (levels : ℕ) (ks : List DeclaredAllowance) where
+  bound_begun : length ks ≤ most → Fitting (want.Tree format levels ∷ []) (item.Opens (opening.Bound (length ks)) ∷ []) (allowances_wanted (length ks))
+  bound_begun few = fitting_line (want.Tree format levels) (item.Opens (opening.Bound (length ks))) (fits_bound format levels (length ks) few)
 
-  pub bound_fitting : length ks ≤ most → Fitting (allowances_wanted (length ks)) (map item.Allows ks) [] → Fitting (want.Tree language levels ∷ []) (leaf_items (bound (map allowance_of ks))) []
+  pub bound_fitting : length ks ≤ most → Fitting (allowances_wanted (length ks)) (map item.Allows ks) [] → Fitting (want.Tree format levels ∷ []) (leaf_items (bound (map allowance_of ks))) []
   bound_fitting few h =
-      fitting_as (want.Tree language levels ∷ []) [] (item.Opens (opening.Bound (length ks)) ∷ map item.Allows ks) (leaf_items (bound (map allowance_of ks))) (sym (bound_items ks))
-      (fitting_then (want.Tree language levels ∷ []) (allowances_wanted (length ks)) [] (item.Opens (opening.Bound (length ks)) ∷ []) (map item.Allows ks) (bound_begun few) h)
+      fitting_as (want.Tree format levels ∷ []) [] (item.Opens (opening.Bound (length ks)) ∷ map item.Allows ks) (leaf_items (bound (map allowance_of ks))) (sym (bound_items ks))
+      (fitting_then (want.Tree format levels ∷ []) (allowances_wanted (length ks)) [] (item.Opens (opening.Bound (length ks)) ∷ []) (map item.Allows ks) (bound_begun few) h)
 
-  pub bound_refused : length ks ≤ most → DontFit (allowances_wanted (length ks)) (map item.Allows ks) → DontFit (want.Tree language levels ∷ []) (leaf_items (bound (map allowance_of ks)))
+  pub bound_refused : length ks ≤ most → DontFit (allowances_wanted (length ks)) (map item.Allows ks) → DontFit (want.Tree format levels ∷ []) (leaf_items (bound (map allowance_of ks)))
   bound_refused few h =
-      refused_as (want.Tree language levels ∷ []) (item.Opens (opening.Bound (length ks)) ∷ map item.Allows ks) (leaf_items (bound (map allowance_of ks))) (sym (bound_items ks))
-      (refused_after (want.Tree language levels ∷ []) (allowances_wanted (length ks)) (item.Opens (opening.Bound (length ks)) ∷ []) (map item.Allows ks) (bound_begun few) h)
+      refused_as (want.Tree format levels ∷ []) (item.Opens (opening.Bound (length ks)) ∷ map item.Allows ks) (leaf_items (bound (map allowance_of ks))) (sym (bound_items ks))
+      (refused_after (want.Tree format levels ∷ []) (allowances_wanted (length ks)) (item.Opens (opening.Bound (length ks)) ∷ []) (map item.Allows ks) (bound_begun few) h)
 
   -- too many lines
-  pub bound_unfit : (length ks ≤ most → ⊥) → DontFit (want.Tree language levels ∷ []) (leaf_items (bound (map allowance_of ks)))
+  pub bound_unfit : (length ks ≤ most → ⊥) → DontFit (want.Tree format levels ∷ []) (leaf_items (bound (map allowance_of ks)))
   bound_unfit many =
-      refused_as (want.Tree language levels ∷ []) (item.Opens (opening.Bound (length ks)) ∷ map item.Allows ks) (leaf_items (bound (map allowance_of ks))) (sym (bound_items ks))
-      (line_refused (want.Tree language levels) [] (item.Opens (opening.Bound (length ks))) (map item.Allows ks) (λ fit. many (bound_fits language levels (length ks) fit)))
+      refused_as (want.Tree format levels ∷ []) (item.Opens (opening.Bound (length ks)) ∷ map item.Allows ks) (leaf_items (bound (map allowance_of ks))) (sym (bound_items ks))
+      (line_refused (want.Tree format levels) [] (item.Opens (opening.Bound (length ks))) (map item.Allows ks) (λ fit. many (bound_fits format levels (length ks) fit)))
 
 -- a stuck leaf
-fits_stuck : (language : Language) (levels county : ℕ) → county ≤ 99999 → IsWanted (want.Tree language levels) (item.Opens (opening.Stuck county))
+fits_stuck : (format : Format) (levels county : ℕ) → county ≤ 99999 → IsWanted (want.Tree format levels) (item.Opens (opening.Stuck county))
 fits_stuck Plain levels county small = small
 fits_stuck Wide levels county small = small
 
-stuck_fits : (language : Language) (levels county : ℕ) → IsWanted (want.Tree language levels) (item.Opens (opening.Stuck county)) → county ≤ 99999
+stuck_fits : (format : Format) (levels county : ℕ) → IsWanted (want.Tree format levels) (item.Opens (opening.Stuck county)) → county ≤ 99999
 stuck_fits Plain levels county fit = fit
 stuck_fits Wide levels county fit = fit
 
-pub stuck_fitting : (language : Language) (levels county : ℕ) → county ≤ 99999 → Fitting (want.Tree language levels ∷ []) (item.Opens (opening.Stuck county) ∷ []) []
-stuck_fitting language levels county small = fitting_line (want.Tree language levels) (item.Opens (opening.Stuck county)) (fits_stuck language levels county small)
+pub stuck_fitting : (format : Format) (levels county : ℕ) → county ≤ 99999 → Fitting (want.Tree format levels ∷ []) (item.Opens (opening.Stuck county) ∷ []) []
+stuck_fitting format levels county small = fitting_line (want.Tree format levels) (item.Opens (opening.Stuck county)) (fits_stuck format levels county small)
 
-pub stuck_unfit : (language : Language) (levels county : ℕ) → (county ≤ 99999 → ⊥) → DontFit (want.Tree language levels ∷ []) (item.Opens (opening.Stuck county) ∷ [])
-stuck_unfit language levels county great = line_refused (want.Tree language levels) [] (item.Opens (opening.Stuck county)) [] (λ fit. great (stuck_fits language levels county fit))
+pub stuck_unfit : (format : Format) (levels county : ℕ) → (county ≤ 99999 → ⊥) → DontFit (want.Tree format levels ∷ []) (item.Opens (opening.Stuck county) ∷ [])
+stuck_unfit format levels county great = line_refused (want.Tree format levels) [] (item.Opens (opening.Stuck county)) [] (λ fit. great (stuck_fits format levels county fit))
 
-fits_seats : (language : Language) (levels : ℕ) → IsWanted (want.Tree language levels) (item.Opens opening.Seats)
+fits_seats : (format : Format) (levels : ℕ) → IsWanted (want.Tree format levels) (item.Opens opening.Seats)
 fits_seats Plain levels = tt
 fits_seats Wide levels = tt
 
-pub seats_fitting : (language : Language) (levels : ℕ) → Fitting (want.Tree language levels ∷ []) (item.Opens opening.Seats ∷ []) []
-seats_fitting language levels = fitting_line (want.Tree language levels) (item.Opens opening.Seats) (fits_seats language levels)
+pub seats_fitting : (format : Format) (levels : ℕ) → Fitting (want.Tree format levels ∷ []) (item.Opens opening.Seats ∷ []) []
+seats_fitting format levels = fitting_line (want.Tree format levels) (item.Opens opening.Seats) (fits_seats format levels)
 
 -- a take and its tree
-module _ (language : Language) (k : ℕ) (cs : List ℕ) (inside : List Item) where
-  take_begun : IsSet cs → Fitting (want.Takes language k ∷ []) (item.Takes cs ∷ []) (want.Tree language (k - 1) ∷ want.Takes language k ∷ [])
-  take_begun is = fitting_line (want.Takes language k) (item.Takes cs) is
+module _ (format : Format) (k : ℕ) (cs : List ℕ) (inside : List Item) where
+  take_begun : IsSet cs → Fitting (want.Takes format k ∷ []) (item.Takes cs ∷ []) (want.Tree format (k - 1) ∷ want.Takes format k ∷ [])
+  take_begun is = fitting_line (want.Takes format k) (item.Takes cs) is
 
-  pub take_fitting : IsSet cs → Fitting (want.Tree language (k - 1) ∷ []) inside [] → Fitting (want.Takes language k ∷ []) (item.Takes cs ∷ inside) (want.Takes language k ∷ [])
+  pub take_fitting : IsSet cs → Fitting (want.Tree format (k - 1) ∷ []) inside [] → Fitting (want.Takes format k ∷ []) (item.Takes cs ∷ inside) (want.Takes format k ∷ [])
   take_fitting is h =
-      fitting_then (want.Takes language k ∷ []) (want.Tree language (k - 1) ∷ want.Takes language k ∷ []) (want.Takes language k ∷ []) (item.Takes cs ∷ []) inside (take_begun is)
-      (fitting_with (want.Tree language (k - 1) ∷ []) [] (want.Takes language k ∷ []) inside h)
+      fitting_then (want.Takes format k ∷ []) (want.Tree format (k - 1) ∷ want.Takes format k ∷ []) (want.Takes format k ∷ []) (item.Takes cs ∷ []) inside (take_begun is)
+      (fitting_with (want.Tree format (k - 1) ∷ []) [] (want.Takes format k ∷ []) inside h)
 
-  pub take_unfit : (IsSet cs → ⊥) → DontFit (want.Takes language k ∷ []) (item.Takes cs ∷ inside)
-  take_unfit unfit = line_refused (want.Takes language k) [] (item.Takes cs) inside unfit
+  pub take_unfit : (IsSet cs → ⊥) → DontFit (want.Takes format k ∷ []) (item.Takes cs ∷ inside)
+  take_unfit unfit = line_refused (want.Takes format k) [] (item.Takes cs) inside unfit
 
-  pub take_refused : IsSet cs → DontFit (want.Tree language (k - 1) ∷ []) inside → DontFit (want.Takes language k ∷ []) (item.Takes cs ∷ inside)
+  pub take_refused : IsSet cs → DontFit (want.Tree format (k - 1) ∷ []) inside → DontFit (want.Takes format k ∷ []) (item.Takes cs ∷ inside)
   take_refused is unfit =
-      refused_after (want.Takes language k ∷ []) (want.Tree language (k - 1) ∷ want.Takes language k ∷ []) (item.Takes cs ∷ []) inside (take_begun is)
-      (refused_with (want.Tree language (k - 1) ∷ []) (want.Takes language k ∷ []) inside unfit)
+      refused_after (want.Takes format k ∷ []) (want.Tree format (k - 1) ∷ want.Takes format k ∷ []) (item.Takes cs ∷ []) inside (take_begun is)
+      (refused_with (want.Tree format (k - 1) ∷ []) (want.Takes format k ∷ []) inside unfit)
 
 -- a branch and its takes
-module _ (language : Language) (k county : ℕ) (limit : Option ℕ) (inside : List Item) where
-  pub branch_fitting : IsWanted (want.Tree language k) (item.Opens (opening.Branch county limit)) → Fitting (want.Takes language k ∷ []) inside (want.Tree language (after_raise language k) ∷ [])
-      → Fitting (want.Tree language k ∷ []) (item.Opens (opening.Branch county limit) ∷ inside) (want.Tree language (after_raise language k) ∷ [])
+module _ (format : Format) (k county : ℕ) (limit : Option ℕ) (inside : List Item) where
+  pub branch_fitting : IsWanted (want.Tree format k) (item.Opens (opening.Branch county limit)) → Fitting (want.Takes format k ∷ []) inside (want.Tree format (after_raise format k) ∷ [])
+      → Fitting (want.Tree format k ∷ []) (item.Opens (opening.Branch county limit) ∷ inside) (want.Tree format (after_raise format k) ∷ [])
   branch_fitting fit h =
-      fitting_then (want.Tree language k ∷ []) (want.Takes language k ∷ []) (want.Tree language (after_raise language k) ∷ []) (item.Opens (opening.Branch county limit) ∷ []) inside
-      (fitting_line (want.Tree language k) (item.Opens (opening.Branch county limit)) fit) h
+      fitting_then (want.Tree format k ∷ []) (want.Takes format k ∷ []) (want.Tree format (after_raise format k) ∷ []) (item.Opens (opening.Branch county limit) ∷ []) inside
+      (fitting_line (want.Tree format k) (item.Opens (opening.Branch county limit)) fit) h
 
-  pub branch_unfit : (IsWanted (want.Tree language k) (item.Opens (opening.Branch county limit)) → ⊥) → DontFit (want.Tree language k ∷ []) (item.Opens (opening.Branch county limit) ∷ inside)
-  branch_unfit unfit = line_refused (want.Tree language k) [] (item.Opens (opening.Branch county limit)) inside unfit
+  pub branch_unfit : (IsWanted (want.Tree format k) (item.Opens (opening.Branch county limit)) → ⊥) → DontFit (want.Tree format k ∷ []) (item.Opens (opening.Branch county limit) ∷ inside)
+  branch_unfit unfit = line_refused (want.Tree format k) [] (item.Opens (opening.Branch county limit)) inside unfit
 
-  pub branch_refused : IsWanted (want.Tree language k) (item.Opens (opening.Branch county limit)) → DontFit (want.Takes language k ∷ []) inside → DontFit (want.Tree language k ∷ []) (item.Opens (opening.Branch county limit) ∷ inside)
+  pub branch_refused : IsWanted (want.Tree format k) (item.Opens (opening.Branch county limit)) → DontFit (want.Takes format k ∷ []) inside → DontFit (want.Tree format k ∷ []) (item.Opens (opening.Branch county limit) ∷ inside)
   branch_refused fit unfit =
-      refused_after (want.Tree language k ∷ []) (want.Takes language k ∷ []) (item.Opens (opening.Branch county limit) ∷ []) inside
-      (fitting_line (want.Tree language k) (item.Opens (opening.Branch county limit)) fit) unfit
+      refused_after (want.Tree format k ∷ []) (want.Takes format k ∷ []) (item.Opens (opening.Branch county limit) ∷ []) inside
+      (fitting_line (want.Tree format k) (item.Opens (opening.Branch county limit)) fit) unfit
 
 -- values of the code's types, taken apart
 pub take_parts : (t : Take) → items_of_take t ≡ item.Takes (out-Take t).codes ∷ items_of_tree (tree_of (out-Take t).tree)

@@ -1,6 +1,6 @@
 -- What is spelled by a text.
 use Rattle.std.specs.Prelude.{◌≡◌, ℕ, List, [], ◌∷◌}
-use Rattle.certificate_data.specs.declared.language.Language.{Language}
+use Rattle.certificate_data.specs.declared.format.Format.{Format}
 use Rattle.certificate_lines.specs.declared.item.Wanted.TheVariants as want
 use Rattle.certificate_lines.specs.Fitting.{AllFit}
 use Rattle.certificate_lines.specs.Spelling.{text_of_items}
@@ -14,6 +14,6 @@ pub record IsSpelling (text : List ℕ) (c : Certificate) : Type 0 where
   pub text_is : text ≡ text_of_items (items_of_certificate c)
 
 -- the text is the items of a tree alone line by line, where branches may open so many levels, and each item fits
-pub record IsTreeSpelling (language : Language) (levels : ℕ) (text : List ℕ) (t : Tree) : Type 0 where
-  pub fits : AllFit (want.Tree language levels ∷ []) (items_of_tree t)
+pub record IsTreeSpelling (format : Format) (levels : ℕ) (text : List ℕ) (t : Tree) : Type 0 where
+  pub fits : AllFit (want.Tree format levels ∷ []) (items_of_tree t)
   pub text_is : text ≡ text_of_items (items_of_tree t)

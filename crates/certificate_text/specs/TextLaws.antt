@@ -25,9 +25,9 @@ pub record ProofTreesHaveTexts : Type 0 where
       → AllByRecursion FitsWeight weights → ascend weights ≡ true → AreWeights quota weights
   -- the items of a proof tree fit where a tree is wanted
   pub tree : (p : Problem) (round : Round) (s : State) (tree : Tree) → IsOrder p round.order → IsState p round s
-      → Proves tree p round s → HasLines round.language tree
-      → AllFit (want.Tree round.language (length round.order) ∷ []) (items_of_tree tree)
+      → Proves tree p round s → HasLines round.format tree
+      → AllFit (want.Tree round.format (length round.order) ∷ []) (items_of_tree tree)
   -- a text spells a certificate
   pub certificate : (p : Problem) (c : Certificate) → IsCertificate p c.round c.tree → FitsRange c.round.window
       → length c.round.order ≤ most → AreCodes c.round.order → c.round.limit ≤ most → TargetHasLines c.round.target
-      → HasLines c.round.language c.tree → (text : List ℕ) × IsSpelling text c
+      → HasLines c.round.format c.tree → (text : List ℕ) × IsSpelling text c

@@ -1,7 +1,7 @@
 -- The first fault of the lines of a tree.
 use Rattle.std.specs.Prelude.{◌≡◌, ℕ, List, Some}
 use Rattle.certificate_data.specs.Tree.{Tree}
-use Rattle.certificate_data.specs.declared.language.Language.{Language}
+use Rattle.certificate_data.specs.declared.format.Format.{Format}
 use Rattle.certificate_lines.specs.Courses.{tree_course}
 use Rattle.certificate_lines.specs.Spelling.{text_of_items}
 use Rattle.certificate_lines.specs.declared.fault.TextFault.{TextFault}
@@ -12,5 +12,5 @@ abbrev pub lines_of_tree : Tree → List ℕ
 lines_of_tree tree = text_of_items (items_of_tree tree)
 
 -- the first fault that the lines of the tree would meet, where they are read for an order of so many counties
-abbrev pub HasTreeFault : Language → ℕ → Tree → TextFault → Type 0
-HasTreeFault language counties tree fault = (tree_course language counties (lines_of_tree tree)).fault ≡ Some fault
+abbrev pub HasTreeFault : Format → ℕ → Tree → TextFault → Type 0
+HasTreeFault format counties tree fault = (tree_course format counties (lines_of_tree tree)).fault ≡ Some fault

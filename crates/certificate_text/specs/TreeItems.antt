@@ -9,21 +9,21 @@ use Rattle.certificate_lines.specs.Fitting.{IsWanted}
 use Rattle.certificate_lines.specs.declared.item.Item.{Item}
 use Rattle.certificate_lines.specs.declared.item.Item.TheVariants.{Grouped, Opens, Takes, Mark, Allows}
 use Rattle.certificate_lines.specs.declared.item.Wanted.TheVariants as want
-use Rattle.certificate_data.specs.declared.language.Language.{Language}
+use Rattle.certificate_data.specs.declared.format.Format.{Format}
 use Rattle.certificate_data.specs.Tree.{Tree}
 use Rattle.certificate_text.specs.Trees.{items_of_tree}
 
 -- the item fits where an item of a tree is wanted, if one branch more may be opened there
-abbrev pub FitsInTree : Language → Item → Type 0
-FitsInTree language (Opens opening) = IsWanted (want.Tree language 1) (Opens opening)
-FitsInTree language (Takes county_codes) = IsWanted (want.Takes language 1) (Takes county_codes)
-FitsInTree language Mark = Unit {0}
-FitsInTree language (Allows allowance) = IsWanted (want.Allowances 1) (Allows allowance)
-FitsInTree language item = ⊥
+abbrev pub FitsInTree : Format → Item → Type 0
+FitsInTree format (Opens opening) = IsWanted (want.Tree format 1) (Opens opening)
+FitsInTree format (Takes county_codes) = IsWanted (want.Takes format 1) (Takes county_codes)
+FitsInTree format Mark = Unit {0}
+FitsInTree format (Allows allowance) = IsWanted (want.Allowances 1) (Allows allowance)
+FitsInTree format item = ⊥
 
 -- each item of the tree does
-abbrev pub HasLines : Language → Tree → Type 0
-HasLines language tree = AllByRecursion (FitsInTree language) (items_of_tree tree)
+abbrev pub HasLines : Format → Tree → Type 0
+HasLines format tree = AllByRecursion (FitsInTree format) (items_of_tree tree)
 
 -- no more groups than a target may have, each with numbers in their ranges
 pub record HasTargetLines (groups : List Group) : Type 0 where

@@ -4,7 +4,7 @@ ghost use Rattle.std.specs.Prelude.{◌↔◌, ◌<◌, ℕ, List, [], ◌∷◌
 ghost use Rattle.certificate_laws.specs.Depth.{after_raise};
 ghost use Rattle.certificate_data.specs.RoundValue.{target_of};
 ghost use Rattle.certificate_data.specs.Tree.{bound};
-ghost use Rattle.certificate_data.specs.declared.language.Language.{Language};
+ghost use Rattle.certificate_data.specs.declared.format.Format.{Format};
 ghost use Rattle.certificate_lines.specs.Fitting.{AllFit};
 ghost use Rattle.certificate_lines.specs.Items.{groups_wanted, allowances_wanted};
 ghost use Rattle.certificate_lines.specs.declared.item.Item.TheVariants as item;
@@ -15,7 +15,7 @@ ghost use Rattle.certificate_data.specs.TreeValue.{allowance_of, tree_of, leaf_o
 ghost use Rattle.certificate_text.specs.Trees.{leaf_items, items_of_tree, items_of_takes, items_of_head};
 ghost use Rattle.certificate_text.specs.Trees.{items_of_target, items_of_certificate};
 
-use certificate_data::{Allowance, Certificate, Language, Leaf, Take, Tree};
+use certificate_data::{Allowance, Certificate, Format, Leaf, Take, Tree};
 use certificate_lines::{
     allowance_fits, are_few, branch_fits, group_fits, is_code, levels_after, order_fits, take_fits,
 };
@@ -35,8 +35,8 @@ fn allowances_fit(allowances: &[Allowance]) -> bool
 
 /// Returns whether the lines of a bound leaf fit.
 fn bound_fits(allowances: &[Allowance]) -> bool
-    ensures { (language : Language) (levels : ℕ)
-        → Tests (want.Tree language levels ∷ []) (leaf_items (bound (map allowance_of allowances.now))) [] result }
+    ensures { (format : Format) (levels : ℕ)
+        → Tests (want.Tree format levels ∷ []) (leaf_items (bound (map allowance_of allowances.now))) [] result }
 {
     if !are_few(allowances.len()) {
         return false;
@@ -46,8 +46,8 @@ fn bound_fits(allowances: &[Allowance]) -> bool
 
 /// Returns whether the lines of a `leaf` fit.
 fn leaf_fits(leaf: &Leaf) -> bool
-    ensures { (language : Language) (levels : ℕ)
-        → Tests (want.Tree language levels ∷ []) (leaf_items (leaf_of leaf.now)) [] result }
+    ensures { (format : Format) (levels : ℕ)
+        → Tests (want.Tree format levels ∷ []) (leaf_items (leaf_of leaf.now)) [] result }
 {
     match leaf {
         Leaf::Stuck(county) => is_code(*county),
@@ -58,16 +58,16 @@ fn leaf_fits(leaf: &Leaf) -> bool
 
 /// Returns whether the lines of a branch's `takes` fit, each with its tree, and the line of its mark.
 #[cycle(fitting)]
-fn takes_fit(takes: &[Take], language: Language, levels: u16) -> bool
+fn takes_fit(takes: &[Take], format: Format, levels: u16) -> bool
     requires { 0 < levels }
-    ensures { Tests (want.Takes language levels ∷ []) (items_of_takes (list_of_takes takes.now)
-        ++ item.Mark ∷ []) (want.Tree language (after_raise language levels) ∷ []) result }
+    ensures { Tests (want.Takes format levels ∷ []) (items_of_takes (list_of_takes takes.now)
+        ++ item.Mark ∷ []) (want.Tree format (after_raise format levels) ∷ []) result }
 {
     'taking: for take in takes {
         if !take_fits(take.codes.as_slice()) {
             return false;
         }
-        if !tree_fits(&take.tree, language, levels - 1) {
+        if !tree_fits(&take.tree, format, levels - 1) {
             return false;
         }
     }
@@ -76,26 +76,26 @@ fn takes_fit(takes: &[Take], language: Language, levels: u16) -> bool
 
 /// Returns whether the lines of a `tree` fit, where its branches may open `levels` levels.
 #[cycle(fitting)]
-fn tree_fits(tree: &Tree, language: Language, levels: u16) -> bool
-    ensures { Tests (want.Tree language levels ∷ []) (items_of_tree (tree_of tree.now)) [] result }
+fn tree_fits(tree: &Tree, format: Format, levels: u16) -> bool
+    ensures { Tests (want.Tree format levels ∷ []) (items_of_tree (tree_of tree.now)) [] result }
 {
     let mut levels = levels;
     'branching: for branch in &tree.branches {
-        if !branch_fits(language, levels, branch.county, branch.limit) {
+        if !branch_fits(format, levels, branch.county, branch.limit) {
             return false;
         }
-        if !takes_fit(&branch.takes, language, levels) {
+        if !takes_fit(&branch.takes, format, levels) {
             return false;
         }
-        levels = levels_after(language, levels);
+        levels = levels_after(format, levels);
     }
     leaf_fits(&tree.leaf)
 }
 
 /// Returns whether the head fits, and the line of the allowance if one is named.
 fn head_fits(window: Option<Window>) -> bool
-    ensures { (language : Language)
-        → Tests (want.Head ∷ []) (items_of_head language window) (want.Order language ∷ []) result }
+    ensures { (format : Format)
+        → Tests (want.Head ∷ []) (items_of_head format window) (want.Order format ∷ []) result }
 {
     match window {
         None => true,
@@ -153,14 +153,14 @@ fn certificate_fits(certificate: &Certificate) -> bool
     if !target_fits(&round.target) {
         return false;
     }
-    tree_fits(&certificate.tree, round.language, order.len() as u16)
+    tree_fits(&certificate.tree, round.format, order.len() as u16)
 }
 
 /// Returns whether a text spells the `tree`, for an order of `counties` counties.
-pub(crate) fn has_tree_text(tree: &Tree, language: Language, counties: u16) -> bool
-    ensures { IsTrue result ↔ ((text : List ℕ) × IsTreeSpelling language counties text (tree_of tree.now)) }
+pub(crate) fn has_tree_text(tree: &Tree, format: Format, counties: u16) -> bool
+    ensures { IsTrue result ↔ ((text : List ℕ) × IsTreeSpelling format counties text (tree_of tree.now)) }
 {
-    tree_fits(tree, language, counties)
+    tree_fits(tree, format, counties)
 }
 
 /// Returns whether a text spells the `certificate`.

@@ -3,7 +3,7 @@
 ghost use Rattle.std.specs.Prelude.{◌≡◌, ℕ, List, [], ◌++◌, Ok};
 ghost use Rattle.field_lines.specs.RawPieces.{RawLine, raw_lines_from};
 ghost use Rattle.certificate_data.specs.Tree.{Tree};
-ghost use Rattle.certificate_data.specs.declared.language.Language.{Language};
+ghost use Rattle.certificate_data.specs.declared.format.Format.{Format};
 ghost use Rattle.certificate_lines.specs.declared.item.Item.{Item};
 ghost use Rattle.certificate_lines.specs.declared.item.Wanted.{Wanted};
 ghost use Rattle.certificate_lines.specs.Items.{items_from};
@@ -40,15 +40,15 @@ pub fn certificates_have_one_text()
     ensures no_prefix { (t rest : List ℕ) (c d : Certificate) → IsSpelling t c → IsSpelling (t ++ rest) d → rest ≡ [] }
 {}
 
-/// States that a tree has at most one text, and a text spells at most one tree, for a language and a number of
+/// States that a tree has at most one text, and a text spells at most one tree, for a format and a number of
 /// counties. No tree's text begins another's.
 pub fn trees_have_one_text()
-    ensures one_text { (language : Language) (counties : ℕ) (t u : List ℕ) (tree : Tree)
-        → IsTreeSpelling language counties t tree → IsTreeSpelling language counties u tree → t ≡ u }
-    ensures one_value { (language : Language) (counties : ℕ) (t : List ℕ) (a b : Tree)
-        → IsTreeSpelling language counties t a → IsTreeSpelling language counties t b → a ≡ b }
-    ensures no_prefix { (language : Language) (counties : ℕ) (t rest : List ℕ) (a b : Tree)
-        → IsTreeSpelling language counties t a → IsTreeSpelling language counties (t ++ rest) b → rest ≡ [] }
+    ensures one_text { (format : Format) (counties : ℕ) (t u : List ℕ) (tree : Tree)
+        → IsTreeSpelling format counties t tree → IsTreeSpelling format counties u tree → t ≡ u }
+    ensures one_value { (format : Format) (counties : ℕ) (t : List ℕ) (a b : Tree)
+        → IsTreeSpelling format counties t a → IsTreeSpelling format counties t b → a ≡ b }
+    ensures no_prefix { (format : Format) (counties : ℕ) (t rest : List ℕ) (a b : Tree)
+        → IsTreeSpelling format counties t a → IsTreeSpelling format counties (t ++ rest) b → rest ≡ [] }
 {}
 
 /// States that the lines of a tree spell it if they meet no fault, and that nothing spells it if they meet one.

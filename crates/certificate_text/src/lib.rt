@@ -7,7 +7,7 @@
 //!
 //! ```
 //! let text = tree_lines(alloc, &tree)?;
-//! let mut items = Items::of_tree(alloc, text.as_slice(), language, counties);
+//! let mut items = Items::of_tree(alloc, text.as_slice(), format, counties);
 //! ```
 //!
 //! A proof tree whose numbers are in the ranges of their lines always has a text. The definitions stand in `specs/`:

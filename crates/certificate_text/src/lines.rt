@@ -12,7 +12,7 @@ ghost use Rattle.certificate_text.specs.Trees.{items_of_certificate};
 ghost use Rattle.certificate_text.specs.Writing.{Added, branch_items, take_items};
 ghost use Rattle.certificate_text.specs.Ranges.{AreTreeNumbers};
 
-use certificate_data::{Allowance, Branch, Certificate, Language, Leaf, Take, Tree, Weight};
+use certificate_data::{Allowance, Branch, Certificate, Format, Leaf, Take, Tree, Weight};
 use certificate_lines::{
     Version, push_code_and_number_line, push_code_line, push_codes_line, push_count_line,
     push_group_line, push_head, push_limit, push_number_and_weights, push_order, push_target_line,
@@ -149,15 +149,15 @@ pub fn tree_lines(alloc: Global, tree: &Tree) -> Result<Vec<u8>, AllocError>
 /// Appends the head, and the line of the allowance if one is named.
 fn push_head_lines(
     out: &mut Vec<u8>,
-    language: Language,
+    format: Format,
     window: Option<Window>,
 ) -> Result<(), AllocError>
-    ensures { OnOk result (out.new.items ≡ out.old.items ++ text_of_items (items_of_head language window)) }
+    ensures { OnOk result (out.new.items ≡ out.old.items ++ text_of_items (items_of_head format window)) }
 {
     match window {
-        None => push_head(out, language, Version::One),
+        None => push_head(out, format, Version::One),
         Some(window) => {
-            push_head(out, language, Version::Two)?;
+            push_head(out, format, Version::Two)?;
             push_window(out, window)
         }
     }
@@ -192,7 +192,7 @@ pub(crate) fn lines_of(alloc: Global, certificate: &Certificate) -> Result<Vec<u
 {
     let round = &certificate.round;
     let mut out = Vec::new(alloc);
-    push_head_lines(&mut out, round.language, round.window)?;
+    push_head_lines(&mut out, round.format, round.window)?;
     push_order(&mut out, round.order.as_slice())?;
     push_limit(&mut out, round.limit)?;
     push_target(&mut out, &round.target)?;

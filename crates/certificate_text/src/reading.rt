@@ -21,7 +21,7 @@ ghost use Rattle.certificate_data.specs.RoundValue.{target_of};
 ghost use Rattle.certificate_lines.specs.declared.item.Item.TheVariants as item;
 ghost use Rattle.certificate_lines.specs.declared.item.Wanted.TheVariants as want;
 
-use certificate_data::{Allowance, Branch, Certificate, Language, Leaf, Round, Take, Tree};
+use certificate_data::{Allowance, Branch, Certificate, Format, Leaf, Round, Take, Tree};
 use certificate_lines::{Cursor, Opening, TextFault, Version, ended, levels_after, push_on};
 use county_codes::{Group, Grouping, Window};
 use std::alloc::Global;
@@ -62,17 +62,17 @@ fn groups_at(alloc: Global, cursor: &mut Cursor, count: u16) -> Result<Vec<Group
 fn takes_at(
     alloc: Global,
     cursor: &mut Cursor,
-    language: Language,
+    format: Format,
     levels: u16,
 ) -> Result<Vec<Take>, TextFault>
     requires { 0 < levels }
-    ensures read { ReadsAll (want.Takes language levels ∷ []) (λ v. items_of_takes (list_of_takes v.items)
-        ++ item.Mark ∷ []) (want.Tree language (after_raise language levels) ∷ []) cursor.old result cursor.new }
+    ensures read { ReadsAll (want.Takes format levels ∷ []) (λ v. items_of_takes (list_of_takes v.items)
+        ++ item.Mark ∷ []) (want.Tree format (after_raise format levels) ∷ []) cursor.old result cursor.new }
     ensures rest { OnOk result (length cursor.new.text ≤ length cursor.old.text) }
 {
     let mut takes = Vec::new(alloc);
     'taking: while let Some(codes) = cursor.take(alloc)? {
-        let tree = tree_at(alloc, cursor, language, levels - 1)?;
+        let tree = tree_at(alloc, cursor, format, levels - 1)?;
         push_on(&mut takes, Take { codes, tree }, cursor.number())?;
     }
     Ok(takes)
@@ -83,26 +83,26 @@ fn takes_at(
 fn tree_at(
     alloc: Global,
     cursor: &mut Cursor,
-    language: Language,
+    format: Format,
     levels: u16,
 ) -> Result<Tree, TextFault>
-    ensures read { ReadsAll (want.Tree language levels
+    ensures read { ReadsAll (want.Tree format levels
         ∷ []) (λ t. items_of_tree (tree_of t)) [] cursor.old result cursor.new }
     ensures rest { OnOk result (length cursor.new.text ≤ length cursor.old.text) }
 {
     let mut branches = Vec::new(alloc);
     let mut levels = levels;
     'branching: loop {
-        match cursor.opening(language, levels)? {
+        match cursor.opening(format, levels)? {
             Opening::Branch { county, limit } => {
-                let takes = takes_at(alloc, cursor, language, levels)?;
+                let takes = takes_at(alloc, cursor, format, levels)?;
                 let branch = Branch {
                     county,
                     limit,
                     takes,
                 };
                 push_on(&mut branches, branch, cursor.number())?;
-                levels = levels_after(language, levels);
+                levels = levels_after(format, levels);
             }
             Opening::Stuck(county) => {
                 return Ok(Tree {
@@ -127,18 +127,18 @@ fn tree_at(
     }
 }
 
-/// Reads the language, and the allowance if one is named.
-fn head_at(cursor: &mut Cursor) -> Result<(Language, Option<Window>), TextFault>
+/// Reads the format, and the allowance if one is named.
+fn head_at(cursor: &mut Cursor) -> Result<(Format, Option<Window>), TextFault>
     ensures read { IfOk result (λ h. ReadsItems (want.Head ∷ []) cursor.old (items_of_head h.0 h.1) (want.Order h.0
         ∷ []) cursor.new) }
     ensures fault { IfErr result (λ f. Refuses (want.Head ∷ []) cursor.old f) }
 {
-    let (language, version) = cursor.head()?;
+    let (format, version) = cursor.head()?;
     match version {
-        Version::One => Ok((language, None)),
+        Version::One => Ok((format, None)),
         Version::Two => {
             let window = cursor.window()?;
-            Ok((language, Some(window)))
+            Ok((format, Some(window)))
         }
     }
 }
@@ -161,11 +161,11 @@ fn certificate_at(alloc: Global, text: &[u8]) -> Result<Certificate, TextFault>
     ensures { GivesItems (λ c. items_of_certificate (certificate_of c)) result (certificate_items text.now) }
 {
     let mut cursor = Cursor::new(text);
-    let (language, window) = head_at(&mut cursor)?;
+    let (format, window) = head_at(&mut cursor)?;
     let order = cursor.order(alloc)?;
     let limit = cursor.limit()?;
     let target = target_at(alloc, &mut cursor)?;
-    let tree = tree_at(alloc, &mut cursor, language, order.as_slice().len() as u16)?;
+    let tree = tree_at(alloc, &mut cursor, format, order.as_slice().len() as u16)?;
     cursor.end()?;
     ended(&cursor)?;
     Ok(Certificate {
@@ -173,7 +173,7 @@ fn certificate_at(alloc: Global, text: &[u8]) -> Result<Certificate, TextFault>
             order,
             limit,
             target,
-            language,
+            format,
             window,
         },
         tree,
@@ -197,16 +197,11 @@ pub fn read(alloc: Global, text: &[u8]) -> Result<Certificate, TextFault>
 }
 
 /// Reads the tree of a whole `text` by its items.
-fn whole_tree(
-    alloc: Global,
-    text: &[u8],
-    language: Language,
-    counties: u16,
-) -> Result<Tree, TextFault>
-    ensures { GivesItems (λ t. items_of_tree (tree_of t)) result (tree_items language counties text.now) }
+fn whole_tree(alloc: Global, text: &[u8], format: Format, counties: u16) -> Result<Tree, TextFault>
+    ensures { GivesItems (λ t. items_of_tree (tree_of t)) result (tree_items format counties text.now) }
 {
     let mut cursor = Cursor::new(text);
-    let tree = tree_at(alloc, &mut cursor, language, counties)?;
+    let tree = tree_at(alloc, &mut cursor, format, counties)?;
     ended(&cursor)?;
     Ok(tree)
 }
@@ -219,16 +214,16 @@ fn whole_tree(
 pub fn read_tree(
     alloc: Global,
     text: &[u8],
-    language: Language,
+    format: Format,
     counties: u16,
 ) -> Result<Tree, TextFault>
     requires { counties ≤ most }
-    ensures found { IfOk result (λ t. IsTreeSpelling language counties text.now (tree_of t)) }
-    ensures only { (t : TreeValue) → IsTreeSpelling language counties text.now t
+    ensures found { IfOk result (λ t. IsTreeSpelling format counties text.now (tree_of t)) }
+    ensures only { (t : TreeValue) → IsTreeSpelling format counties text.now t
         → IsUnlessMemory (λ d. tree_of d) result t }
-    ensures fault { IfErr result (λ f. (IsTextMemory f → ⊥) → tree_items language counties text.now ≡ Err f) }
+    ensures fault { IfErr result (λ f. (IsTextMemory f → ⊥) → tree_items format counties text.now ≡ Err f) }
 {
-    whole_tree(alloc, text, language, counties)
+    whole_tree(alloc, text, format, counties)
 }
 
 /// Reads the tree with which a `text` begins, for an order of `counties` counties. Returns the tree and the place of
@@ -241,21 +236,21 @@ pub fn read_tree(
 pub fn front_tree(
     alloc: Global,
     text: &[u8],
-    language: Language,
+    format: Format,
     counties: u16,
 ) -> Result<(Tree, usize), TextFault>
     requires { counties ≤ most }
     ensures place { IfOk result (λ r. r.1 ≤ length text.now) }
-    ensures found { IfOk result (λ r. IsTreeSpelling language counties (take r.1 text.now) (tree_of r.0)) }
+    ensures found { IfOk result (λ r. IsTreeSpelling format counties (take r.1 text.now) (tree_of r.0)) }
     // A front that spells a tree is read, and its length is the place, unless memory is refused.
     ensures only { (front rest : List ℕ) (t : TreeValue) → text.now ≡ front ++ rest
-        → IsTreeSpelling language counties front t
+        → IsTreeSpelling format counties front t
         → IsUnlessMemory {V = TreeValue × ℕ} (λ r. (tree_of r.0, r.1)) result (t, length front) }
     // The fault is met whatever is wanted behind the tree.
     ensures fault { IfErr result (λ f. (IsTextMemory f → ⊥) → (more : List Wanted)
-        → items_from (want.Tree language counties ∷ more) 1 (raw_lines text.now) ≡ Err f) }
+        → items_from (want.Tree format counties ∷ more) 1 (raw_lines text.now) ≡ Err f) }
 {
     let mut cursor = Cursor::new(text);
-    let tree = tree_at(alloc, &mut cursor, language, counties)?;
+    let tree = tree_at(alloc, &mut cursor, format, counties)?;
     Ok((tree, text.len() - cursor.rest().len()))
 }

@@ -8,7 +8,7 @@ ghost use Rattle.certificate_lines.specs.declared.fault.WriteFault.TheVariants a
 
 use crate::fitting::{has_text, has_tree_text};
 use crate::lines::{lines_of, tree_lines};
-use certificate_data::{Certificate, Language, Tree};
+use certificate_data::{Certificate, Format, Tree};
 use certificate_lines::WriteFault;
 use std::alloc::Global;
 
@@ -20,15 +20,15 @@ use std::alloc::Global;
 pub fn write_tree(
     alloc: Global,
     tree: &Tree,
-    language: Language,
+    format: Format,
     counties: u16,
 ) -> Result<Vec<u8>, WriteFault>
     requires { counties ≤ most }
-    ensures spelled { IfOk result (λ text. IsTreeSpelling language counties text.items (tree_of tree.now)) }
+    ensures spelled { IfOk result (λ text. IsTreeSpelling format counties text.items (tree_of tree.now)) }
     ensures none { IfErr result (λ fault. fault ≡ write_fault.NoSpelling → (text : List ℕ)
-        → IsTreeSpelling language counties text (tree_of tree.now) → ⊥) }
+        → IsTreeSpelling format counties text (tree_of tree.now) → ⊥) }
 {
-    if !has_tree_text(tree, language, counties) {
+    if !has_tree_text(tree, format, counties) {
         return Err(WriteFault::NoSpelling);
     }
     let text = tree_lines(alloc, tree)?;

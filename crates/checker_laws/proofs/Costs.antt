@@ -94,7 +94,7 @@ line_one (weigh quota ws) p round s i m n h k = so_many_one round.order (IsSetWi
 allowances_one : (lines : List Allowance) (p : Problem) (round : Round) (s : State) (wanted : ℕ → ℕ) (i used : ℕ) → One (AllowancesLook lines p round s wanted i used)
 allowances_one [] p round s wanted i used m n h k = h ∙ sym k
 allowances_one (line ∷ lines) p round s wanted i used m n h k =
-    let goes = IsFair round.language p s i line × IsEven p s wanted i used line in
+    let goes = IsFair round.format p s i line × IsEven p s wanted i used line in
     let more = AllowancesLook lines p round s wanted (i + 1) (used + i * allowance p s i used line) in
     both_one (LineLooks line p round s i) (Where goes more)
     (line_one line p round s i)
@@ -115,7 +115,7 @@ mutual
   tree_one (leaf l) p round s m n h k = leaf_one l p round s m n h k
   tree_one (branch c limit takes raised) p round s m n h k =
       let j = limit_of round limit in
-      let fine = NamesLimit round.language limit × CanBranch round s c j in
+      let fine = NamesLimit round.format limit × CanBranch round s c j in
       let later : List (List ℕ) → ℕ → Type 0 = λ groups. Both (TakesLook takes p round s groups) (Where ((groups_of takes ≡ groups) × EachProves takes p round s) (TreeLooks raised p round (raise c j s))) in
       let inner : ℕ → Type 0 = λ z. (groups : List (List ℕ)) × AreGroupsAt p round s c j groups × later groups z in
       where_one fine (Both (AreSoMany round.order (IsSetAt p round.order s c j)) inner)

@@ -1,10 +1,10 @@
--- The trees of texts name limits as their language asks, no quota of theirs is 0, and the codes of their weights ascend.
+-- The trees of texts name limits as their format asks, no quota of theirs is 0, and the codes of their weights ascend.
 use Rattle.std.proofs.Common.{true, ℕ, zero, suc, ◌-◌, ◌≡◌, ◌≤◌, List, [], ◌∷◌, ◌++◌, length, map, Option, Some, None, refl, subst, append_assoc, arith}
 use Rattle.county_codes.specs.declared.group.Group.{Group}
 use Rattle.county_codes.specs.declared.window.Window.{Window}
 use Rattle.grouping_laws.specs.Grouping.{Grouping}
-use Rattle.certificate_data.specs.declared.language.Language.{Language}
-use Rattle.certificate_data.specs.declared.language.Language.TheVariants.{Plain, Wide}
+use Rattle.certificate_data.specs.declared.format.Format.{Format}
+use Rattle.certificate_data.specs.declared.format.Format.TheVariants.{Plain, Wide}
 use Rattle.certificate_laws.specs.Depth.{after_raise}
 use Rattle.certificate_data.specs.Tree.{Allowance, room, weigh, Leaf, stuck, seats, bound, Tree, leaf, branch, Takes, no_take, take}
 use Rattle.certificate_laws.specs.Proving.{NamesLimit}
@@ -34,15 +34,15 @@ IsFormedLeaf (stuck county) = Unit {0}
 IsFormedLeaf seats = Unit {0}
 IsFormedLeaf (bound lines) = AreFormedLines lines
 
--- branches name limits as the language asks
+-- branches name limits as the format asks
 abbrev mutual
-  pub IsFormed : Language → Tree → Type 0
-  IsFormed language (leaf last) = IsFormedLeaf last
-  IsFormed language (branch county limit takes raised) = NamesLimit language limit × AreFormed language takes × IsFormed language raised
+  pub IsFormed : Format → Tree → Type 0
+  IsFormed format (leaf last) = IsFormedLeaf last
+  IsFormed format (branch county limit takes raised) = NamesLimit format limit × AreFormed format takes × IsFormed format raised
 
-  pub AreFormed : Language → Takes → Type 0
-  AreFormed language no_take = Unit {0}
-  AreFormed language (take codes tree others) = IsFormed language tree × AreFormed language others
+  pub AreFormed : Format → Takes → Type 0
+  AreFormed format no_take = Unit {0}
+  AreFormed format (take codes tree others) = IsFormed format tree × AreFormed format others
 
 line_formed : (left : ℕ) (line : Allowance) → IsWanted (want.Allowances left) (item.Allows (declared_allowance line)) → IsFormedLine line
 line_formed left room f = tt
@@ -60,31 +60,31 @@ lines_formed (suc n) (line ∷ lines) more rest many f =
     let behind = lines_formed n lines more rest (omega (arith, many)) later in
     ((line_formed (suc n) line fit.0, behind.0), behind.1)
 
-limit_named : (language : Language) (levels county : ℕ) (limit : Option ℕ) → IsWanted (want.Tree language levels) (item.Opens (opening.Branch county limit)) → NamesLimit language limit
+limit_named : (format : Format) (levels county : ℕ) (limit : Option ℕ) → IsWanted (want.Tree format levels) (item.Opens (opening.Branch county limit)) → NamesLimit format limit
 limit_named Plain levels county None f = tt
 limit_named Plain levels county (Some limit) f = absurd f
 limit_named Wide levels county None f = absurd f
 limit_named Wide levels county (Some limit) f = tt
 
 mutual
-  pub tree_formed : (language : Language) (levels : ℕ) (tree : Tree) (more : List Wanted) (rest : List Item) → AllFit (want.Tree language levels ∷ more) (items_of_tree tree ++ rest) → IsFormed language tree × AllFit more rest
-  tree_formed language levels (leaf (stuck county)) more rest f = (tt, f.1)
-  tree_formed language levels (leaf seats) more rest f = (tt, f.1)
-  tree_formed language levels (leaf (bound lines)) more rest f = lines_formed (length lines) lines more rest refl f.1
-  tree_formed language levels (branch county limit takes raised) more rest f =
-      let split = subst (λ (l : List Item). AllFit (want.Takes language levels ∷ more) l) (append_assoc (items_of_takes takes) (item.Mark ∷ items_of_tree raised) rest) f.1 in
-      let first = takes_formed language levels takes more (items_of_tree raised ++ rest) split in
-      let second = tree_formed language (after_raise language levels) raised more rest first.1 in
-      ((limit_named language levels county limit f.0, first.0, second.0), second.1)
+  pub tree_formed : (format : Format) (levels : ℕ) (tree : Tree) (more : List Wanted) (rest : List Item) → AllFit (want.Tree format levels ∷ more) (items_of_tree tree ++ rest) → IsFormed format tree × AllFit more rest
+  tree_formed format levels (leaf (stuck county)) more rest f = (tt, f.1)
+  tree_formed format levels (leaf seats) more rest f = (tt, f.1)
+  tree_formed format levels (leaf (bound lines)) more rest f = lines_formed (length lines) lines more rest refl f.1
+  tree_formed format levels (branch county limit takes raised) more rest f =
+      let split = subst (λ (l : List Item). AllFit (want.Takes format levels ∷ more) l) (append_assoc (items_of_takes takes) (item.Mark ∷ items_of_tree raised) rest) f.1 in
+      let first = takes_formed format levels takes more (items_of_tree raised ++ rest) split in
+      let second = tree_formed format (after_raise format levels) raised more rest first.1 in
+      ((limit_named format levels county limit f.0, first.0, second.0), second.1)
 
-  takes_formed : (language : Language) (levels : ℕ) (takes : Takes) (more : List Wanted) (rest : List Item) → AllFit (want.Takes language levels ∷ more) (items_of_takes takes ++ item.Mark ∷ rest)
-      → AreFormed language takes × AllFit (want.Tree language (after_raise language levels) ∷ more) rest
-  takes_formed language levels no_take more rest f = (tt, f.1)
-  takes_formed language levels (take codes tree others) more rest f =
+  takes_formed : (format : Format) (levels : ℕ) (takes : Takes) (more : List Wanted) (rest : List Item) → AllFit (want.Takes format levels ∷ more) (items_of_takes takes ++ item.Mark ∷ rest)
+      → AreFormed format takes × AllFit (want.Tree format (after_raise format levels) ∷ more) rest
+  takes_formed format levels no_take more rest f = (tt, f.1)
+  takes_formed format levels (take codes tree others) more rest f =
       let split =
-      subst (λ (l : List Item). AllFit (want.Tree language (levels - 1) ∷ want.Takes language levels ∷ more) l) (append_assoc (items_of_tree tree) (items_of_takes others) (item.Mark ∷ rest)) f.1 in
-      let first = tree_formed language (levels - 1) tree (want.Takes language levels ∷ more) (items_of_takes others ++ item.Mark ∷ rest) split in
-      let second = takes_formed language levels others more rest first.1 in
+      subst (λ (l : List Item). AllFit (want.Tree format (levels - 1) ∷ want.Takes format levels ∷ more) l) (append_assoc (items_of_tree tree) (items_of_takes others) (item.Mark ∷ rest)) f.1 in
+      let first = tree_formed format (levels - 1) tree (want.Takes format levels ∷ more) (items_of_takes others ++ item.Mark ∷ rest) split in
+      let second = takes_formed format levels others more rest first.1 in
       ((first.0, second.0), second.1)
 
 groups_over : (n : ℕ) (groups : List Group) (more : List Wanted) (rest : List Item) → length groups ≡ n → AllFit (groups_wanted n ++ more) (map item.Grouped groups ++ rest) → AllFit more rest
@@ -103,12 +103,12 @@ target_over None more rest f = f.1
 target_over (Some groups) more rest f = groups_over (length groups) groups more rest refl f.1
 
 -- what stands behind the head and the allowance fits
-pub head_over : (language : Language) (window : Option Window) (rest : List Item) → AllFit (want.Head ∷ []) (items_of_head language window ++ rest) → AllFit (want.Order language ∷ []) rest
-head_over language None rest f = f.1
-head_over language (Some window) rest f = f.1.1
+pub head_over : (format : Format) (window : Option Window) (rest : List Item) → AllFit (want.Head ∷ []) (items_of_head format window ++ rest) → AllFit (want.Order format ∷ []) rest
+head_over format None rest f = f.1
+head_over format (Some window) rest f = f.1.1
 
-pub formed_of_fits : (c : Certificate) → AllFit (want.Head ∷ []) (items_of_certificate c) → IsFormed c.round.language c.tree
+pub formed_of_fits : (c : Certificate) → AllFit (want.Head ∷ []) (items_of_certificate c) → IsFormed c.round.format c.tree
 formed_of_fits c f =
-    let order = head_over c.round.language c.round.window (item.Order c.round.order ∷ item.Limit c.round.limit ∷ (items_of_target c.round.target ++ (items_of_tree c.tree ++ item.End ∷ []))) f in
-    let behind = target_over c.round.target (want.Tree c.round.language (length c.round.order) ∷ want.End ∷ []) (items_of_tree c.tree ++ item.End ∷ []) order.1.1 in
-    (tree_formed c.round.language (length c.round.order) c.tree (want.End ∷ []) (item.End ∷ []) behind).0
+    let order = head_over c.round.format c.round.window (item.Order c.round.order ∷ item.Limit c.round.limit ∷ (items_of_target c.round.target ++ (items_of_tree c.tree ++ item.End ∷ []))) f in
+    let behind = target_over c.round.target (want.Tree c.round.format (length c.round.order) ∷ want.End ∷ []) (items_of_tree c.tree ++ item.End ∷ []) order.1.1 in
+    (tree_formed c.round.format (length c.round.order) c.tree (want.End ∷ []) (item.End ∷ []) behind).0

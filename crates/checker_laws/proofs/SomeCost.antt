@@ -47,8 +47,8 @@ line_looks (weigh quota ws) p round s i = so_many round.order (IsSetWithin p rou
 lines_look : (lines : List Allowance) (p : Problem) (round : Round) (s : State) (wanted : ℕ → ℕ) (i used : ℕ) → NotNone (Number (AllowancesLook lines p round s wanted i used))
 lines_look [] p round s wanted i used = here (0, refl)
 lines_look (line ∷ lines) p round s wanted i used =
-    both_numbers (LineLooks line p round s i) (Where (IsFair round.language p s i line × IsEven p s wanted i used line) (AllowancesLook lines p round s wanted (i + 1) (used + i * allowance p s i used line))) (line_looks line p round s i)
-    (where_number (IsFair round.language p s i line × IsEven p s wanted i used line) (AllowancesLook lines p round s wanted (i + 1) (used + i * allowance p s i used line))
+    both_numbers (LineLooks line p round s i) (Where (IsFair round.format p s i line × IsEven p s wanted i used line) (AllowancesLook lines p round s wanted (i + 1) (used + i * allowance p s i used line))) (line_looks line p round s i)
+    (where_number (IsFair round.format p s i line × IsEven p s wanted i used line) (AllowancesLook lines p round s wanted (i + 1) (used + i * allowance p s i used line))
     (λ f. lines_look lines p round s wanted (i + 1) (used + i * allowance p s i used line)))
 
 bound_looks : (lines : List Allowance) (p : Problem) (round : Round) (s : State) (target : Option Grouping) → NotNone (Number (BoundLooks lines p round s target))
@@ -67,7 +67,7 @@ mutual
       let j = limit_of round limit in
       let later : List (List ℕ) → ℕ → Type 0 = λ groups. Both (TakesLook takes p round s groups) (Where ((groups_of takes ≡ groups) × EachProves takes p round s) (TreeLooks raised p round (raise c j s))) in
       let inner : ℕ → Type 0 = λ m. (groups : List (List ℕ)) × AreGroupsAt p round s c j groups × later groups m in
-      where_number (NamesLimit round.language limit × CanBranch round s c j) (Both (AreSoMany round.order (IsSetAt p round.order s c j)) inner)
+      where_number (NamesLimit round.format limit × CanBranch round s c j) (Both (AreSoMany round.order (IsSetAt p round.order s c j)) inner)
       (λ f. both_numbers (AreSoMany round.order (IsSetAt p round.order s c j)) inner (so_many round.order (IsSetAt p round.order s c j) (λ g h. h.in_order))
       (then_some (groups_there p round s c j)
       (λ gs. then_some

@@ -7,7 +7,7 @@ use Rattle.grouping_laws.specs.Grouping.{Grouping, counts, sets_of}
 use Rattle.grouping_laws.specs.GroupsFrom.{IsOrder}
 use Rattle.grouping_laws.specs.Allowance.{HasWindow}
 use Rattle.grouping_laws.proofs.Elements.{all_from_has, contains_from_has}
-use Rattle.certificate_data.specs.declared.language.Language.{Language}
+use Rattle.certificate_data.specs.declared.format.Format.{Format}
 use Rattle.certificate_data.specs.Round.{Round}
 use Rattle.certificate_laws.specs.State.{State, open_to, close, raise, empty_state}
 use Rattle.certificate_laws.specs.Groups.{AreGroupsAt}
@@ -57,7 +57,7 @@ module _ (First : End → Type 0) (Second : ℕ → End → Type 0) where
   then_ends a h = then_some a (λ e. ends_after h e.0 e.1)
 
 -- a line of a bound leaf
-module _ (language : Language) (p : Problem) (s : State) (wanted : ℕ → ℕ) (i used : ℕ) where
+module _ (format : Format) (p : Problem) (s : State) (wanted : ℕ → ℕ) (i used : ℕ) where
   known : (weights : List Weight) → ((w : Weight) × Contains weights w × (contains p.counties w.county ≡ false) → ⊥) → (w : Weight) → Contains weights w → contains p.counties w.county ≡ true
   known weights never w h = go (contains p.counties w.county) refl
     where
@@ -65,12 +65,12 @@ module _ (language : Language) (p : Problem) (s : State) (wanted : ℕ → ℕ) 
       go true e = e
       go false e = absurd (never (w, h, e))
 
-  unfair : (line : Allowance) → IsFormedLine line → (IsFair language p s i line → ⊥) → NotNone ((fault : Fault) × IsAllowanceFault language p s wanted i used line fault)
+  unfair : (line : Allowance) → IsFormedLine line → (IsFair format p s i line → ⊥) → NotNone ((fault : Fault) × IsAllowanceFault format p s wanted i used line fault)
   unfair room quota never = absurd (never tt)
   unfair (weigh quota weights) formed never =
       then_some (either_way (NamesForeign p (weigh quota weights)))
       (λ o. ⊎_elim (λ f. here (WrongCounty, inl (refl, f)))
-      (λ none. then_some (either_way (HasLightGroup language p s i (weigh quota weights)))
+      (λ none. then_some (either_way (HasLightGroup format p s i (weigh quota weights)))
       (λ q. ⊎_elim (λ l. here (LightGroup, inr (inl (refl, l))))
       (λ heavy. absurd (never (
         formed.0,
@@ -80,29 +80,29 @@ module _ (language : Language) (p : Problem) (s : State) (wanted : ℕ → ℕ) 
       q))
       o)
 
-  fair_or_over : (line : Allowance) → IsFair language p s i line → HoldsOr (IsWithinTarget language p s wanted i used line) (IsAllowanceFault language p s wanted i used line)
+  fair_or_over : (line : Allowance) → IsFair format p s i line → HoldsOr (IsWithinTarget format p s wanted i used line) (IsAllowanceFault format p s wanted i used line)
   fair_or_over line fair =
       ⊎_elim (λ e. inl (fair, omega (arith, e))) (λ o. ⊎_elim (λ l. inl (fair, omega (arith, l))) (λ l. inr (BoundOver, inr (inr (refl, fair, l)))) o) (cases_order (allowed p s i used line) (wanted i))
 
-  line_or : (line : Allowance) → IsFormedLine line → NotNone (HoldsOr (IsWithinTarget language p s wanted i used line) (IsAllowanceFault language p s wanted i used line))
-  line_or line quota = then_some (either_way (IsFair language p s i line)) (λ o. ⊎_elim (λ f. here (fair_or_over line f)) (λ never. then_some (unfair line quota never) (λ f. here (inr f))) o)
+  line_or : (line : Allowance) → IsFormedLine line → NotNone (HoldsOr (IsWithinTarget format p s wanted i used line) (IsAllowanceFault format p s wanted i used line))
+  line_or line quota = then_some (either_way (IsFair format p s i line)) (λ o. ⊎_elim (λ f. here (fair_or_over line f)) (λ never. then_some (unfair line quota never) (λ f. here (inr f))) o)
 
   loss_or_even : (line : Allowance) → allowed p s i used line ≤ wanted i → IsLoss p s wanted i used line ⊎ IsEven p s wanted i used line
   loss_or_even line h = ⊎_elim inr (λ o. ⊎_elim inl (λ l. absurd (omega (arith, l, h))) o) (cases_order (allowed p s i used line) (wanted i))
 
-lines_judged : (lines : List Allowance) (language : Language) (p : Problem) (s : State) (wanted : ℕ → ℕ) (i used n : ℕ) → AreFormedLines lines → NotNone (Ends (AllowancesEnd lines language p s wanted i used n))
-lines_judged [] language p s wanted i used n quotas = lines_end 0 (Unit {0}) (λ fault. ⊥) n (here (inl tt))
-lines_judged (line ∷ lines) language p s wanted i used n quotas =
+lines_judged : (lines : List Allowance) (format : Format) (p : Problem) (s : State) (wanted : ℕ → ℕ) (i used n : ℕ) → AreFormedLines lines → NotNone (Ends (AllowancesEnd lines format p s wanted i used n))
+lines_judged [] format p s wanted i used n quotas = lines_end 0 (Unit {0}) (λ fault. ⊥) n (here (inl tt))
+lines_judged (line ∷ lines) format p s wanted i used n quotas =
     let now = used + i * allowance p s i used line in
-    let second : ℕ → End → Type 0 = λ next later. (IsLoss p s wanted i used line × (later ≡ fine next)) ⊎ (IsEven p s wanted i used line × AllowancesEnd lines language p s wanted (i + 1) now next later) in
-    then_ends (LineEnds (IsWithinTarget language p s wanted i used line) (IsAllowanceFault language p s wanted i used line) n) second
-    (lines_end 1 (IsWithinTarget language p s wanted i used line) (IsAllowanceFault language p s wanted i used line) n (line_or language p s wanted i used line quotas.0))
-    (λ m f. ⊎_elim (λ loss. here (fine m, inl (loss, refl))) (λ even. then_some (lines_judged lines language p s wanted (i + 1) now m quotas.1) (λ e. here (e.0, inr (even, e.1)))) (loss_or_even language p s wanted i used line f.0.1))
+    let second : ℕ → End → Type 0 = λ next later. (IsLoss p s wanted i used line × (later ≡ fine next)) ⊎ (IsEven p s wanted i used line × AllowancesEnd lines format p s wanted (i + 1) now next later) in
+    then_ends (LineEnds (IsWithinTarget format p s wanted i used line) (IsAllowanceFault format p s wanted i used line) n) second
+    (lines_end 1 (IsWithinTarget format p s wanted i used line) (IsAllowanceFault format p s wanted i used line) n (line_or format p s wanted i used line quotas.0))
+    (λ m f. ⊎_elim (λ loss. here (fine m, inl (loss, refl))) (λ even. then_some (lines_judged lines format p s wanted (i + 1) now m quotas.1) (λ e. here (e.0, inr (even, e.1)))) (loss_or_even format p s wanted i used line f.0.1))
 
 module _ (lines : List Allowance) (p : Problem) (round : Round) (s : State) (wanted : ℕ → ℕ) (i used opened n : ℕ) where
-  bounded_by : (end : End) → AllowancesEnd lines round.language p s wanted i used n end → NotNone (Ends (BoundedEnds lines p round s wanted i used opened n))
+  bounded_by : (end : End) → AllowancesEnd lines round.format p s wanted i used n end → NotNone (Ends (BoundedEnds lines p round s wanted i used opened n))
   bounded_by (fine next) a =
-      then_some (either_way (Bounds round.language p round.limit s wanted i used lines))
+      then_some (either_way (Bounds round.format p round.limit s wanted i used lines))
       (λ o. here (⊎_elim (λ b. (fine (n + length lines), (b, refl))) (λ never. (faulty BoundLength opened, inr (refl, refl, (next, a), never))) o))
   bounded_by (faulty kind line) a = here (faulty kind line, inl a)
 
@@ -111,7 +111,7 @@ bound_ends lines p round s None opened quotas = here (faulty BoundWithoutTarget 
 bound_ends lines p round s (Some target) opened quotas =
     then_some (either_way (round.limit < length lines))
     (λ o. ⊎_elim (λ l. here (faulty BoundLength opened, inl (l, refl)))
-    (λ never. then_some (lines_judged lines round.language p s (counts (sets_of target)) 1 0 (opened + 1) quotas)
+    (λ never. then_some (lines_judged lines round.format p s (counts (sets_of target)) 1 0 (opened + 1) quotas)
     (λ a. then_some (bounded_by lines p round s (counts (sets_of target)) 1 0 opened (opened + 1) a.0 a.1) (λ e. here (e.0, inr (at_most (length lines) round.limit never, e.1)))))
     o)
 
@@ -138,14 +138,14 @@ branch_fault round s county limit never =
 take_fault : (groups : List (List ℕ)) (codes : List ℕ) → (IsNextTake groups codes → ⊥) → NotNone ((fault : Fault) × IsTakeFault groups codes fault)
 take_fault groups codes never = then_some (either_way (Contains groups codes)) (λ o. here (⊎_elim (λ c. (MissingGroup, inl (refl, c, never))) (λ none. (StrayGroup, inr (refl, none))) o))
 
-branch_ends : (round : Round) (s : State) (county : ℕ) (limit : Option ℕ) (line : ℕ) → NamesLimit round.language limit → NotNone (Ends (BranchEnds round s county limit line))
+branch_ends : (round : Round) (s : State) (county : ℕ) (limit : Option ℕ) (line : ℕ) → NamesLimit round.format limit → NotNone (Ends (BranchEnds round s county limit line))
 branch_ends round s county limit line names =
     let j = limit_of round limit in
-    lines_end 1 (NamesLimit round.language limit × CanBranch round s county j) (IsBranchFault round s county j) line
-    (decided (NamesLimit round.language limit × CanBranch round s county j) (IsBranchFault round s county j) (λ never. branch_fault round s county j (λ can. never (names, can))))
+    lines_end 1 (NamesLimit round.format limit × CanBranch round s county j) (IsBranchFault round s county j) line
+    (decided (NamesLimit round.format limit × CanBranch round s county j) (IsBranchFault round s county j) (λ never. branch_fault round s county j (λ can. never (names, can))))
 
 mutual
-  tree_ends : (tree : Tree) (p : Problem) (round : Round) (s : State) (line : ℕ) → IsFormed round.language tree → NotNone (Ends (TreeEnds tree p round s line))
+  tree_ends : (tree : Tree) (p : Problem) (round : Round) (s : State) (line : ℕ) → IsFormed round.format tree → NotNone (Ends (TreeEnds tree p round s line))
   tree_ends (leaf l) p round s line formed = leaf_ends l p round s line formed
   tree_ends (branch c limit takes raised) p round s line formed =
       let j = limit_of round limit in
@@ -155,7 +155,7 @@ mutual
       (λ gs. then_some (then_ends (TakesEnd takes p round s gs.0 m) (TreeEnds raised p round (raise c j s)) (takes_end takes p round s gs.0 m formed.1) (λ k h. tree_ends raised p round (raise c j s) k formed.2))
       (λ e. here (e.0, (gs.0, gs.1, e.1)))))
 
-  takes_end : (takes : Takes) (p : Problem) (round : Round) (s : State) (groups : List (List ℕ)) (line : ℕ) → AreFormed round.language takes → NotNone (Ends (TakesEnd takes p round s groups line))
+  takes_end : (takes : Takes) (p : Problem) (round : Round) (s : State) (groups : List (List ℕ)) (line : ℕ) → AreFormed round.format takes → NotNone (Ends (TakesEnd takes p round s groups line))
   takes_end no_take p round s groups line formed = lines_end 1 (groups ≡ []) (IsMarkFault groups) line (decided (groups ≡ []) (IsMarkFault groups) (λ never. here (MissingGroup, (refl, never))))
   takes_end (take codes tree others) p round s groups line formed =
       then_ends (TakeEnds groups codes line) (λ next later. Then (TreeEnds tree p round (close codes s) next) (TakesEnd others p round s (behind groups)) later)
@@ -170,7 +170,7 @@ target_or : (p : Problem) (target : Option Grouping) → NotNone (HoldsOr (IsLaw
 target_or p None = here (inl tt)
 target_or p (Some target) = then_some (lawful_or p target) (λ o. here (⊎_elim inl (λ f. inr (TargetFault f.0, (f.0, refl, f.1, f.2))) o))
 
-rest_ends : (p : Problem) (round : Round) (tree : Tree) (second : ℕ) → IsFormed round.language tree → NotNone (Ends (RestEnds p round tree second))
+rest_ends : (p : Problem) (round : Round) (tree : Tree) (second : ℕ) → IsFormed round.format tree → NotNone (Ends (RestEnds p round tree second))
 rest_ends p round tree second formed =
     let fourth : ℕ → End → Type 0 = λ line. Then (LinesEnd (1 + target_lines round.target) (IsLawfulTarget p round.target) (IsTargetFault p round.target) line) (TreeEnds tree p round (empty_state p)) in
     let third : ℕ → End → Type 0 = λ line. Then (LineEnds (IsLargeEnough round.limit round.target) (IsLimitFault round.limit round.target) line) fourth in
@@ -182,7 +182,7 @@ rest_ends p round tree second formed =
     (lines_end (1 + target_lines round.target) (IsLawfulTarget p round.target) (IsTargetFault p round.target) m (target_or p round.target))
     (λ n h. tree_ends tree p round (empty_state p) n formed)))
 
-certificate_ends : (p : Problem) (round : Round) (tree : Tree) → IsFormed round.language tree → NotNone (Ends (CertificateEnds p round tree))
+certificate_ends : (p : Problem) (round : Round) (tree : Tree) → IsFormed round.format tree → NotNone (Ends (CertificateEnds p round tree))
 certificate_ends p round tree formed =
     then_ends (LineEnds (HasWindow p round.window) (IsWindowFault p round) (window_line round.window)) (RestEnds p round tree)
     (lines_end 1 (HasWindow p round.window) (IsWindowFault p round) (window_line round.window) (decided (HasWindow p round.window) (IsWindowFault p round) (λ never. here (WrongWindow, (refl, never)))))

@@ -30,7 +30,7 @@ branch_same round s c j f g (inr h) (inr k) = h.0 ∙ sym k.0
 
 branch_one : (round : Round) (s : State) (c : ℕ) (limit : Option ℕ) (line : ℕ) → OneEnd (BranchEnds round s c limit line)
 branch_one round s c limit line =
-    lines_one 1 (NamesLimit round.language limit × CanBranch round s c (limit_of round limit)) (IsBranchFault round s c (limit_of round limit)) line
+    lines_one 1 (NamesLimit round.format limit × CanBranch round s c (limit_of round limit)) (IsBranchFault round s c (limit_of round limit)) line
     (λ f h k. branch_apart round s c (limit_of round limit) f h.1 k) (branch_same round s c (limit_of round limit))
 
 next_contained : (groups : List (List ℕ)) (codes : List ℕ) → IsNextTake groups codes → Contains groups codes

@@ -1,7 +1,7 @@
 -- Items that come one after the other where a tree is wanted begin with the items of a tree.
 use Rattle.std.proofs.Common.{◌≡◌, ℕ, zero, suc, ◌-◌, ◌<◌, ◌≤◌, List, [], ◌∷◌, ◌++◌, length, map, Option, Some, None, refl, ap, sym, subst, ◌∙◌, arith, append_assoc}
 use Rattle.county_codes.specs.declared.group.Group.{Group}
-use Rattle.certificate_data.specs.declared.language.Language.{Language}
+use Rattle.certificate_data.specs.declared.format.Format.{Format}
 use Rattle.certificate_laws.specs.Depth.{after_raise}
 use Rattle.certificate_data.specs.Tree.{Allowance, stuck, seats, bound, Tree, leaf, branch, Takes, no_take, take}
 use Rattle.certificate_lines.specs.Items.{wanted_after, taken, allowances_wanted, groups_wanted}
@@ -94,11 +94,11 @@ pub record TakesFound (more : List Wanted) (items : List Item) : Type 0 where
 
 -- trees and takes are found in so many items
 pub record Finds (most : ℕ) : Type 0 where
-  pub tree : (language : Language) (levels : ℕ) (more : List Wanted) (items : List Item) → length items ≤ most → AllFit (want.Tree language levels ∷ more) items → TreeFound more items
-  pub takes : (language : Language) (levels : ℕ) (more : List Wanted) (items : List Item) → length items ≤ most → AllFit (want.Takes language levels ∷ more) items → TakesFound (want.Tree language (after_raise language levels) ∷ more) items
+  pub tree : (format : Format) (levels : ℕ) (more : List Wanted) (items : List Item) → length items ≤ most → AllFit (want.Tree format levels ∷ more) items → TreeFound more items
+  pub takes : (format : Format) (levels : ℕ) (more : List Wanted) (items : List Item) → length items ≤ most → AllFit (want.Takes format levels ∷ more) items → TakesFound (want.Tree format (after_raise format levels) ∷ more) items
 
-module _ (most : ℕ) (finds : Finds most) (language : Language) (levels : ℕ) (more : List Wanted) where
-  tree_opened : (o : Opening) (items : List Item) → length items ≤ most → AllFit (wanted_after (want.Tree language levels) (item.Opens o) ++ more) items → TreeFound more (item.Opens o ∷ items)
+module _ (most : ℕ) (finds : Finds most) (format : Format) (levels : ℕ) (more : List Wanted) where
+  tree_opened : (o : Opening) (items : List Item) → length items ≤ most → AllFit (wanted_after (want.Tree format levels) (item.Opens o) ++ more) items → TreeFound more (item.Opens o ∷ items)
   tree_opened (opening.Stuck county) items short f = record { tree = leaf (stuck county); later = items; are = refl; fits = f; fewer = omega arith }
   tree_opened opening.Seats items short f = record { tree = leaf seats; later = items; are = refl; fits = f; fewer = omega arith }
   tree_opened (opening.Bound n) items short f =
@@ -111,8 +111,8 @@ module _ (most : ℕ) (finds : Finds most) (language : Language) (levels : ℕ) 
         fewer = omega (arith, l.few);
       }
   tree_opened (opening.Branch county limit) items short f =
-      let ts = finds.takes language levels more items short f in
-      let t = finds.tree language (after_raise language levels) more ts.later (omega (arith, ts.fewer, short)) ts.fits in
+      let ts = finds.takes format levels more items short f in
+      let t = finds.tree format (after_raise format levels) more ts.later (omega (arith, ts.fewer, short)) ts.fits in
       let are : items ≡ (items_of_takes ts.takes ++ item.Mark ∷ items_of_tree t.tree) ++ t.later =
       ts.are ∙ ap (λ (l : List Item). items_of_takes ts.takes ++ item.Mark ∷ l) t.are ∙ sym (append_assoc (items_of_takes ts.takes) (item.Mark ∷ items_of_tree t.tree) t.later) in
       record {
@@ -123,11 +123,11 @@ module _ (most : ℕ) (finds : Finds most) (language : Language) (levels : ℕ) 
         fewer = omega (arith, ts.fewer, t.fewer);
       }
 
-  takes_opened : (o : Option (List ℕ)) (items : List Item) → length items ≤ most → AllFit (wanted_after (want.Takes language levels) (taken o) ++ more) items → TakesFound (want.Tree language (after_raise language levels) ∷ more) (taken o ∷ items)
+  takes_opened : (o : Option (List ℕ)) (items : List Item) → length items ≤ most → AllFit (wanted_after (want.Takes format levels) (taken o) ++ more) items → TakesFound (want.Tree format (after_raise format levels) ∷ more) (taken o ∷ items)
   takes_opened None items short f = record { takes = no_take; later = items; are = refl; fits = f; fewer = omega arith }
   takes_opened (Some codes) items short f =
-      let t = finds.tree language (levels - 1) (want.Takes language levels ∷ more) items short f in
-      let ts = finds.takes language levels more t.later (omega (arith, t.fewer, short)) t.fits in
+      let t = finds.tree format (levels - 1) (want.Takes format levels ∷ more) items short f in
+      let ts = finds.takes format levels more t.later (omega (arith, t.fewer, short)) t.fits in
       let are : items ≡ (items_of_tree t.tree ++ items_of_takes ts.takes) ++ item.Mark ∷ ts.later =
       t.are ∙ ap (λ (l : List Item). items_of_tree t.tree ++ l) ts.are ∙ sym (append_assoc (items_of_tree t.tree) (items_of_takes ts.takes) (item.Mark ∷ ts.later)) in
       record {
@@ -138,36 +138,36 @@ module _ (most : ℕ) (finds : Finds most) (language : Language) (levels : ℕ) 
         fewer = omega (arith, t.fewer, ts.fewer);
       }
 
-  tree_next : (i : Item) (items : List Item) → length items ≤ most → AllFit (want.Tree language levels ∷ more) (i ∷ items) → TreeFound more (i ∷ items)
+  tree_next : (i : Item) (items : List Item) → length items ≤ most → AllFit (want.Tree format levels ∷ more) (i ∷ items) → TreeFound more (i ∷ items)
   tree_next i items short f =
-      let o = opens_only language levels i f.0 in
-      subst (λ (x : Item). TreeFound more (x ∷ items)) (sym o.1) (tree_opened o.0 items short (subst (λ (x : Item). AllFit (wanted_after (want.Tree language levels) x ++ more) items) o.1 f.1))
+      let o = opens_only format levels i f.0 in
+      subst (λ (x : Item). TreeFound more (x ∷ items)) (sym o.1) (tree_opened o.0 items short (subst (λ (x : Item). AllFit (wanted_after (want.Tree format levels) x ++ more) items) o.1 f.1))
 
-  takes_next : (i : Item) (items : List Item) → length items ≤ most → AllFit (want.Takes language levels ∷ more) (i ∷ items) → TakesFound (want.Tree language (after_raise language levels) ∷ more) (i ∷ items)
+  takes_next : (i : Item) (items : List Item) → length items ≤ most → AllFit (want.Takes format levels ∷ more) (i ∷ items) → TakesFound (want.Tree format (after_raise format levels) ∷ more) (i ∷ items)
   takes_next i items short f =
-      let o = takes_only language levels i f.0 in
-      subst (λ (x : Item). TakesFound (want.Tree language (after_raise language levels) ∷ more) (x ∷ items)) (sym o.1)
-      (takes_opened o.0 items short (subst (λ (x : Item). AllFit (wanted_after (want.Takes language levels) x ++ more) items) o.1 f.1))
+      let o = takes_only format levels i f.0 in
+      subst (λ (x : Item). TakesFound (want.Tree format (after_raise format levels) ∷ more) (x ∷ items)) (sym o.1)
+      (takes_opened o.0 items short (subst (λ (x : Item). AllFit (wanted_after (want.Takes format levels) x ++ more) items) o.1 f.1))
 
-no_tree : (language : Language) (levels : ℕ) (more : List Wanted) (items : List Item) → length items ≤ 0 → AllFit (want.Tree language levels ∷ more) items → TreeFound more items
-no_tree language levels more [] short f = absurd f
-no_tree language levels more (i ∷ items) short f = absurd (omega arith)
+no_tree : (format : Format) (levels : ℕ) (more : List Wanted) (items : List Item) → length items ≤ 0 → AllFit (want.Tree format levels ∷ more) items → TreeFound more items
+no_tree format levels more [] short f = absurd f
+no_tree format levels more (i ∷ items) short f = absurd (omega arith)
 
-no_takes : (language : Language) (levels : ℕ) (more : List Wanted) (items : List Item) → length items ≤ 0 → AllFit (want.Takes language levels ∷ more) items → TakesFound (want.Tree language (after_raise language levels) ∷ more) items
-no_takes language levels more [] short f = absurd f
-no_takes language levels more (i ∷ items) short f = absurd (omega arith)
+no_takes : (format : Format) (levels : ℕ) (more : List Wanted) (items : List Item) → length items ≤ 0 → AllFit (want.Takes format levels ∷ more) items → TakesFound (want.Tree format (after_raise format levels) ∷ more) items
+no_takes format levels more [] short f = absurd f
+no_takes format levels more (i ∷ items) short f = absurd (omega arith)
 
-tree_step : (most : ℕ) → Finds most → (language : Language) (levels : ℕ) (more : List Wanted) (items : List Item) → length items ≤ suc most → AllFit (want.Tree language levels ∷ more) items → TreeFound more items
-tree_step most finds language levels more [] short f = absurd f
-tree_step most finds language levels more (i ∷ items) short f = tree_next most finds language levels more i items (omega arith) f
+tree_step : (most : ℕ) → Finds most → (format : Format) (levels : ℕ) (more : List Wanted) (items : List Item) → length items ≤ suc most → AllFit (want.Tree format levels ∷ more) items → TreeFound more items
+tree_step most finds format levels more [] short f = absurd f
+tree_step most finds format levels more (i ∷ items) short f = tree_next most finds format levels more i items (omega arith) f
 
-takes_step : (most : ℕ) → Finds most → (language : Language) (levels : ℕ) (more : List Wanted) (items : List Item) → length items ≤ suc most → AllFit (want.Takes language levels ∷ more) items → TakesFound (want.Tree language (after_raise language levels) ∷ more) items
-takes_step most finds language levels more [] short f = absurd f
-takes_step most finds language levels more (i ∷ items) short f = takes_next most finds language levels more i items (omega arith) f
+takes_step : (most : ℕ) → Finds most → (format : Format) (levels : ℕ) (more : List Wanted) (items : List Item) → length items ≤ suc most → AllFit (want.Takes format levels ∷ more) items → TakesFound (want.Tree format (after_raise format levels) ∷ more) items
+takes_step most finds format levels more [] short f = absurd f
+takes_step most finds format levels more (i ∷ items) short f = takes_next most finds format levels more i items (omega arith) f
 
 finds_all : (most : ℕ) → Finds most
 finds_all zero = record { tree = no_tree; takes = no_takes }
 finds_all (suc most) = record { tree = tree_step most (finds_all most); takes = takes_step most (finds_all most) }
 
-pub tree_found : (language : Language) (levels : ℕ) (more : List Wanted) (items : List Item) → AllFit (want.Tree language levels ∷ more) items → TreeFound more items
-tree_found language levels more items f = (finds_all (length items)).tree language levels more items (omega arith) f
+pub tree_found : (format : Format) (levels : ℕ) (more : List Wanted) (items : List Item) → AllFit (want.Tree format levels ∷ more) items → TreeFound more items
+tree_found format levels more items f = (finds_all (length items)).tree format levels more items (omega arith) f

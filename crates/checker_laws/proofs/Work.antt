@@ -36,7 +36,7 @@ then_with First Held Third (faulty g l) f (inl h) = inl (f (faulty g l) h)
 then_with First Held Third (faulty g l) f (inr h) = inr (h.0, f (fine h.0) h.1, h.2)
 
 branch_carries : (c : ℕ) (limit : Option ℕ) (takes : Takes) (raised : Tree) (p : Problem) (round : Round) (s : State) (groups : List (List ℕ)) (more : List Open) (line : ℕ) (end : End)
-    → NamesLimit round.language limit → CanBranch round s c (limit_of round limit) → AreGroupsAt p round s c (limit_of round limit) groups
+    → NamesLimit round.format limit → CanBranch round s c (limit_of round limit) → AreGroupsAt p round s c (limit_of round limit) groups
     → WorkEnds (some_takes takes s groups ∷ a_tree raised (raise c (limit_of round limit) s) ∷ more) p round (line + 1) end
     → WorkEnds (a_tree (branch c limit takes raised) s ∷ more) p round line end
 branch_carries c limit takes raised p round s groups more line end names can are h =

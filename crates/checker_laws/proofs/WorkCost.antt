@@ -27,12 +27,12 @@ where_fine Fine Number n f (inl h) = h.1
 where_fine Fine Number n f (inr h) = absurd (h.0 f)
 
 branch_looks : (c : ℕ) (limit : Option ℕ) (takes : Takes) (raised : Tree) (p : Problem) (round : Round) (s : State) (groups : List (List ℕ)) (more : List Open) (n : ℕ)
-    → NamesLimit round.language limit → CanBranch round s c (limit_of round limit) → AreGroupsAt p round s c (limit_of round limit) groups
+    → NamesLimit round.format limit → CanBranch round s c (limit_of round limit) → AreGroupsAt p round s c (limit_of round limit) groups
     → WorkLooks (a_tree (branch c limit takes raised) s ∷ more) p round n
     → Both (AreSoMany round.order (IsSetAt p round.order s c (limit_of round limit))) (WorkLooks (some_takes takes s groups ∷ a_tree raised (raise c (limit_of round limit) s) ∷ more) p round) n
 branch_looks c limit takes raised p round s groups more n names can are h =
     let j = limit_of round limit in
-    let fine = NamesLimit round.language limit × CanBranch round s c j in
+    let fine = NamesLimit round.format limit × CanBranch round s c j in
     let looked = AreSoMany round.order (IsSetAt p round.order s c j) in
     let later : List (List ℕ) → ℕ → Type 0 = λ gs. Both (TakesLook takes p round s gs) (Where ((groups_of takes ≡ gs) × EachProves takes p round s) (TreeLooks raised p round (raise c j s))) in
     let inner : ℕ → Type 0 = λ z. (gs : List (List ℕ)) × AreGroupsAt p round s c j gs × later gs z in

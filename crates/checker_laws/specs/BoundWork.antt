@@ -21,19 +21,19 @@ pub record BoundLinesCarry : Type 0 where
       → LeafEnds (bound lines) p round s line end
   -- a line that allows as many groups as the target has
   pub even : (line : Allowance) (lines : List Allowance) (p : Problem) (round : Round) (s : State) (wanted : ℕ
-      → ℕ) (i used opened n : ℕ) (end : End) → IsFair round.language p s i line → IsEven p s wanted i used line
+      → ℕ) (i used opened n : ℕ) (end : End) → IsFair round.format p s i line → IsEven p s wanted i used line
       → BoundedEnds lines p round s wanted (i + 1) (used + i * allowance p s i used line) opened (n + 1) end
       → BoundedEnds (line ∷ lines) p round s wanted i used opened n end
   -- a loss, with no line behind it and with some
   pub loss : (line : Allowance) (p : Problem) (round : Round) (s : State) (wanted : ℕ → ℕ) (i used opened n : ℕ)
-      → i ≤ round.limit → IsFair round.language p s i line → IsLoss p s wanted i used line
+      → i ≤ round.limit → IsFair round.format p s i line → IsLoss p s wanted i used line
       → BoundedEnds (line ∷ []) p round s wanted i used opened n (fine (n + 1))
   pub behind_loss : (line : Allowance) (lines : List Allowance) (p : Problem) (round : Round) (s : State) (wanted : ℕ
-      → ℕ) (i used opened n : ℕ) → IsFair round.language p s i line → IsLoss p s wanted i used line → lines ≢ []
+      → ℕ) (i used opened n : ℕ) → IsFair round.format p s i line → IsLoss p s wanted i used line → lines ≢ []
       → BoundedEnds (line ∷ lines) p round s wanted i used opened n (faulty BoundLength opened)
   -- a line at fault
   pub fault : (line : Allowance) (lines : List Allowance) (p : Problem) (round : Round) (s : State) (wanted : ℕ
-      → ℕ) (i used opened n : ℕ) (fault : Fault) → IsAllowanceFault round.language p s wanted i used line fault
+      → ℕ) (i used opened n : ℕ) (fault : Fault) → IsAllowanceFault round.format p s wanted i used line fault
       → BoundedEnds (line ∷ lines) p round s wanted i used opened n (faulty fault n)
   -- no line is left: at the limit, and before it
   pub at_limit : (p : Problem) (round : Round) (s : State) (wanted : ℕ → ℕ) (i used opened n : ℕ) → i ≡ round.limit + 1
@@ -47,7 +47,7 @@ pub record BoundLinesCost : Type 0 where
       → round.target ≡ Some target → length lines ≤ round.limit → LeafLooks (bound lines) p round s n
       → AllowancesLook lines p round s (counts (sets_of target)) 1 0 n
   pub even : (line : Allowance) (lines : List Allowance) (p : Problem) (round : Round) (s : State) (wanted : ℕ
-      → ℕ) (i used n : ℕ) → IsFair round.language p s i line → IsEven p s wanted i used line
+      → ℕ) (i used n : ℕ) → IsFair round.format p s i line → IsEven p s wanted i used line
       → AllowancesLook (line ∷ lines) p round s wanted i used n
       → Both (LineLooks line p round s i) (AllowancesLook lines p round s wanted (i + 1) (used
       + i * allowance p s i used line)) n

@@ -19,7 +19,7 @@ IsBranchFault round s county limit fault =
 -- the line of a branch
 abbrev pub BranchEnds : Round → State → ℕ → Option ℕ → ℕ → End → Type 0
 BranchEnds round s county limit line end =
-    LineEnds (NamesLimit round.language limit
+    LineEnds (NamesLimit round.format limit
     × CanBranch round s county (limit_of round limit)) (IsBranchFault round s county (limit_of round limit)) line end
 
 -- the next group is this one

@@ -42,7 +42,7 @@ abbrev pub AllowancesLook : List Allowance → Problem → Round → State → (
 AllowancesLook [] p round s wanted i used n = n ≡ 0
 AllowancesLook (line ∷ lines) p round s wanted i used n =
     Both (LineLooks line p round s i)
-    (Where (IsFair round.language p s i line
+    (Where (IsFair round.format p s i line
     × IsEven p s wanted i used line) (AllowancesLook lines p round s wanted (i + 1) (used
     + i * allowance p s i used line)))
     n
@@ -64,7 +64,7 @@ abbrev mutual
   pub TreeLooks : Tree → Problem → Round → State → ℕ → Type 0
   TreeLooks (leaf l) p round s n = LeafLooks l p round s n
   TreeLooks (branch county limit takes raised) p round s n =
-      Where (NamesLimit round.language limit × CanBranch round s county (limit_of round limit))
+      Where (NamesLimit round.format limit × CanBranch round s county (limit_of round limit))
       (Both (AreSoMany round.order (IsSetAt p round.order s county (limit_of round limit)))
       (λ m. (groups : List (List ℕ)) × AreGroupsAt p round s county (limit_of round limit) groups
       × Both (TakesLook takes p round s groups)

@@ -4,7 +4,7 @@ use Rattle.std.specs.Prelude.{None, ⊤, ◌⊎◌}
 use Rattle.grouping_laws.specs.Sets.{sum_by, contains}
 use Rattle.grouping_laws.specs.Problem.{Problem}
 use Rattle.grouping_laws.specs.Grouping.{Grouping, counts, sets_of}
-use Rattle.certificate_data.specs.declared.language.Language.{Language}
+use Rattle.certificate_data.specs.declared.format.Format.{Format}
 use Rattle.certificate_data.specs.Round.{Round}
 use Rattle.certificate_laws.specs.State.{State}
 use Rattle.certificate_laws.specs.Fitting.{Fits}
@@ -31,11 +31,11 @@ NamesForeign p room = ⊥
 NamesForeign p (weigh quota weights) = (w : Weight) × Contains weights w × (contains p.counties w.county ≡ false)
 
 -- the weights are those of counties, and a group of i counties that fits weighs less than the quota
-abbrev pub HasLightGroup : Language → Problem → State → ℕ → Allowance → Type 0
-HasLightGroup language p s i room = ⊥
-HasLightGroup language p s i (weigh quota weights) =
+abbrev pub HasLightGroup : Format → Problem → State → ℕ → Allowance → Type 0
+HasLightGroup format p s i room = ⊥
+HasLightGroup format p s i (weigh quota weights) =
     ((w : Weight) → Contains weights w → contains p.counties w.county ≡ true)
-    × ((g : List ℕ) × Fits language p s g × (length g ≡ i) × (sum_by (weight_of weights) g < quota))
+    × ((g : List ℕ) × Fits format p s g × (length g ≡ i) × (sum_by (weight_of weights) g < quota))
 
 -- how many groups of i counties there may be in all
 abbrev pub allowed : Problem → State → ℕ → ℕ → Allowance → ℕ
@@ -43,8 +43,8 @@ allowed p s i used line = counts s.closed i + allowance p s i used line
 
 -- The line for size i, where smaller groups use up so many counties: it is fair, and allows no more groups than the
 -- target has.
-abbrev pub IsWithinTarget : Language → Problem → State → (ℕ → ℕ) → ℕ → ℕ → Allowance → Type 0
-IsWithinTarget language p s wanted i used line = IsFair language p s i line × (allowed p s i used line ≤ wanted i)
+abbrev pub IsWithinTarget : Format → Problem → State → (ℕ → ℕ) → ℕ → ℕ → Allowance → Type 0
+IsWithinTarget format p s wanted i used line = IsFair format p s i line × (allowed p s i used line ≤ wanted i)
 
 -- The line for size i allows fewer groups than the target has.
 abbrev pub IsLoss : Problem → State → (ℕ → ℕ) → ℕ → ℕ → Allowance → Type 0
@@ -54,23 +54,23 @@ IsLoss p s wanted i used line = allowed p s i used line < wanted i
 abbrev pub IsEven : Problem → State → (ℕ → ℕ) → ℕ → ℕ → Allowance → Type 0
 IsEven p s wanted i used line = allowed p s i used line ≡ wanted i
 
-abbrev pub IsAllowanceFault : Language → Problem → State → (ℕ → ℕ) → ℕ → ℕ → Allowance → Fault → Type 0
-IsAllowanceFault language p s wanted i used line fault =
+abbrev pub IsAllowanceFault : Format → Problem → State → (ℕ → ℕ) → ℕ → ℕ → Allowance → Fault → Type 0
+IsAllowanceFault format p s wanted i used line fault =
     ((fault ≡ WrongCounty) × NamesForeign p line)
-    ⊎ ((fault ≡ LightGroup) × HasLightGroup language p s i line)
-    ⊎ ((fault ≡ BoundOver) × IsFair language p s i line × (wanted i < allowed p s i used line))
+    ⊎ ((fault ≡ LightGroup) × HasLightGroup format p s i line)
+    ⊎ ((fault ≡ BoundOver) × IsFair format p s i line × (wanted i < allowed p s i used line))
 
 -- The lines of a bound leaf from the one for size i on, one after the other, up to the first loss: those behind it are
 -- not judged.
-abbrev pub AllowancesEnd : List Allowance → Language → Problem → State → (ℕ → ℕ) → ℕ → ℕ → ℕ → End → Type 0
-AllowancesEnd [] language p s wanted i used n end = LinesEnd 0 ⊤ (λ fault. ⊥) n end
-AllowancesEnd (line ∷ lines) language p s wanted i used n end =
+abbrev pub AllowancesEnd : List Allowance → Format → Problem → State → (ℕ → ℕ) → ℕ → ℕ → ℕ → End → Type 0
+AllowancesEnd [] format p s wanted i used n end = LinesEnd 0 ⊤ (λ fault. ⊥) n end
+AllowancesEnd (line ∷ lines) format p s wanted i used n end =
     Then
-    (LineEnds (IsWithinTarget language p s wanted i used line) (IsAllowanceFault language p s wanted i used line) n)
+    (LineEnds (IsWithinTarget format p s wanted i used line) (IsAllowanceFault format p s wanted i used line) n)
     (λ next later.
     (IsLoss p s wanted i used line × (later ≡ fine next))
     ⊎ (IsEven p s wanted i used line
-    × AllowancesEnd lines language p s wanted (i + 1) (used + i * allowance p s i used line) next later))
+    × AllowancesEnd lines format p s wanted (i + 1) (used + i * allowance p s i used line) next later))
     end
 
 -- The lines of a bound leaf from the one for size i on, which has number n, where the line that opens the leaf has
@@ -78,12 +78,12 @@ AllowancesEnd (line ∷ lines) language p s wanted i used n end =
 -- line that opens the leaf.
 abbrev pub BoundedEnds : List Allowance → Problem → Round → State → (ℕ → ℕ) → ℕ → ℕ → ℕ → ℕ → End → Type 0
 BoundedEnds lines p round s wanted i used opened n (fine next) =
-    Bounds round.language p round.limit s wanted i used lines × (next ≡ n + length lines)
+    Bounds round.format p round.limit s wanted i used lines × (next ≡ n + length lines)
 BoundedEnds lines p round s wanted i used opened n (faulty fault line) =
-    AllowancesEnd lines round.language p s wanted i used n (faulty fault line)
+    AllowancesEnd lines round.format p s wanted i used n (faulty fault line)
     ⊎ ((fault ≡ BoundLength) × (line ≡ opened)
-    × ((next : ℕ) × AllowancesEnd lines round.language p s wanted i used n (fine next))
-    × (¬ Bounds round.language p round.limit s wanted i used lines))
+    × ((next : ℕ) × AllowancesEnd lines round.format p s wanted i used n (fine next))
+    × (¬ Bounds round.format p round.limit s wanted i used lines))
 
 -- A bound leaf: without a target there is none, and no line is for a size above the limit.
 abbrev pub BoundEnds : List Allowance → Problem → Round → State → Option Grouping → ℕ → End → Type 0

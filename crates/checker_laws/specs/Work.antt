@@ -33,7 +33,7 @@ pub record LinesCarry : Type 0 where
       → WorkEnds (a_tree (leaf l) s ∷ more) p round line end
   pub branch_fine : (county : ℕ) (limit : Option ℕ) (takes : Takes) (raised : Tree) (p : Problem) (round : Round)
       (s : State) (groups : List (List ℕ)) (more : List Open) (line : ℕ) (end : End)
-      → NamesLimit round.language limit → CanBranch round s county (limit_of round limit)
+      → NamesLimit round.format limit → CanBranch round s county (limit_of round limit)
       → AreGroupsAt p round s county (limit_of round limit) groups
       → WorkEnds (some_takes takes s groups ∷ a_tree raised (raise county (limit_of round limit) s)
       ∷ more) p round (line + 1) end

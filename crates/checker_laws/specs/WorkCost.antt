@@ -34,7 +34,7 @@ pub record LinesCost : Type 0 where
       → Both (LeafLooks l p round s) (WorkLooks more p round) n
   pub branch_looks : (county : ℕ) (limit : Option ℕ) (takes : Takes) (raised : Tree) (p : Problem) (round : Round)
       (s : State) (groups : List (List ℕ)) (more : List Open) (n : ℕ)
-      → NamesLimit round.language limit → CanBranch round s county (limit_of round limit)
+      → NamesLimit round.format limit → CanBranch round s county (limit_of round limit)
       → AreGroupsAt p round s county (limit_of round limit) groups
       → WorkLooks (a_tree (branch county limit takes raised) s ∷ more) p round n
       → Both (AreSoMany round.order (IsSetAt p round.order s county (limit_of round limit)))

@@ -5,22 +5,22 @@ use Rattle.std.specs.Option.{option_or, option_map}
 use Rattle.std.proofs.lemmas.List.{reverse-append, map_push}
 use mathlib.Core.Path.{fun_ext}
 use Rattle.cli_answers.specs.Answer.{Answered}
-use Rattle.cli_shelves.specs.Files.{NamedFile, Files, held, with_files}
-use Rattle.cli_shelves.specs.History.{ShelfEvent, no_history}
+use Rattle.cli_file_stores.specs.Files.{NamedFile, Files, held, with_files}
+use Rattle.cli_file_stores.specs.History.{FileStoreEvent, no_history}
 use Rattle.std.specs.List.{slice_split}
 use Rattle.field_lines.specs.RawPieces.{raw_lines}
 use Rattle.cli.specs.Case.{case_files, first_case_line, is_case}
 use Rattle.cli_runs.specs.Run.{IsRunAnswer}
 use Rattle.cli.specs.CaseRun.{WordsOver, stored_text, IsCaseAnswer}
-use Rattle.cli_shelves.specs.Memory.{files_of}
-use Rattle.cli_shelves.specs.declared.memory.MemoryFile.{MemoryFile}
+use Rattle.cli_file_stores.specs.Memory.{files_of}
+use Rattle.cli_file_stores.specs.declared.memory.MemoryFile.{MemoryFile}
 
--- a shelf in memory on which nothing was stored
+-- a file store in memory on which nothing was stored
 nothing_stored : (stored files : List NamedFile) → stored ≡ [] → (λ name. option_or (held stored name) (held files name)) ≡ held files
 nothing_stored stored files none = fun_ext (λ name. rw none refl)
 
--- an answer over such a shelf, with the files that were stored since
-pub words_over : (began files now : List NamedFile) (words : List (List ℕ)) (text after : List ℕ) (status : ℕ) (stored : List NamedFile) (first events : List ShelfEvent)
+-- an answer over such a file store, with the files that were stored since
+pub words_over : (began files now : List NamedFile) (words : List (List ℕ)) (text after : List ℕ) (status : ℕ) (stored : List NamedFile) (first events : List FileStoreEvent)
     → began ≡ [] → first ≡ [] → Some now ≡ option_map (λ held. with_files held stored) (Some began) → after ≡ text ++ stored_text now
     → IsRunAnswer (Some (λ name. option_or (held began name) (held files name))) words (record { failures = 0; events = first }) (record { failures = 0; events = events }) stored (record { text = text; status = status })
     → WordsOver files words (record { text = after; status = status })
@@ -31,7 +31,7 @@ words_over began files now words text after status stored first events none fres
       stored = stored;
       events = events;
       answer = subst (λ (f : Files). IsRunAnswer (Some f) words no_history (record { failures = 0; events = events }) stored (record { text = text; status = status })) (nothing_stored began files none)
-          (subst (λ (l : List ShelfEvent). IsRunAnswer (Some (λ name. option_or (held began name) (held files name))) words (record { failures = 0; events = l }) (record { failures = 0; events = events }) stored (record { text = text; status = status })) fresh answer);
+          (subst (λ (l : List FileStoreEvent). IsRunAnswer (Some (λ name. option_or (held began name) (held files name))) words (record { failures = 0; events = l }) (record { failures = 0; events = events }) stored (record { text = text; status = status })) fresh answer);
       followed = ap (λ (t : List ℕ). record { text = t; status = status }) (is ∙ ap (λ (l : List NamedFile). text ++ stored_text l) same);
     }
   where

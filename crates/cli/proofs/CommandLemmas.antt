@@ -2,8 +2,8 @@
 use Rattle.std.proofs.Common.{◌≡◌, ℕ, true, List, [], Option, inl, inr, refl}
 use Rattle.std.specs.Prelude.{Result, Ok, Err, IfOk}
 use Rattle.std.specs.declared.alloc.AllocError.{AllocError}
-use Rattle.cli_shelves.specs.Files.{NamedFile, Files}
-use Rattle.cli_shelves.specs.History.{History}
+use Rattle.cli_file_stores.specs.Files.{NamedFile, Files}
+use Rattle.cli_file_stores.specs.History.{History}
 use Rattle.cli_words.specs.Words.{EndsFor, EndsTaken, Means, faults_of, takes_words}
 use Rattle.cli_words.specs.declared.words.CommandWords.{CommandWords}
 use Rattle.cli_words.specs.declared.end.WordsEnd.{WordsEnd}

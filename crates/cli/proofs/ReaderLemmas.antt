@@ -14,16 +14,16 @@ use Rattle.pl94_counties.specs.PeopleByCode.{IsPl94Memory}
 use Rattle.pl94_counties.specs.CountyNames.{IsNoMemory}
 use Rattle.pl94_counties.specs.Readers.{IsPl94Refused, is_pl94_read_fault, same_file, read_failed, ReadsTexts}
 use Rattle.pl94_counties.specs.NamedReaders.{IsNamedRefused, named_read_failed}
-use Rattle.cli_shelves.specs.declared.shelf.ReadEnd.{ReadEnd}
-use Rattle.cli_shelves.specs.declared.shelf.ShelfFault.{ShelfFault}
-use Rattle.cli_shelves.specs.Files.{Files}
-use Rattle.cli_shelves.specs.Shelf.{IsLoad, Opens, IsRead, read_end}
-use Rattle.cli_shelves.specs.History.{History, HasLoaded, HasRead}
+use Rattle.cli_file_stores.specs.declared.file_store.ReadEnd.{ReadEnd}
+use Rattle.cli_file_stores.specs.declared.file_store.FileStoreFault.{FileStoreFault}
+use Rattle.cli_file_stores.specs.Files.{Files}
+use Rattle.cli_file_stores.specs.FileStore.{IsLoad, Opens, IsRead, read_end}
+use Rattle.cli_file_stores.specs.History.{History, HasLoaded, HasRead}
 use Rattle.cli_answers.specs.declared.answer.Refusal.{Refusal}
 use Rattle.cli_answers.specs.declared.answer.Refusal.TheVariants.{Shown, Memory}
 use Rattle.cli_answers.specs.Answer.{Answered}
 use Rattle.cli_answers.specs.Answers.{Comes, AnswerMeets, RefusalShows}
-use Rattle.cli_answers.specs.Refusals.{shelf_answer}
+use Rattle.cli_answers.specs.Refusals.{file_store_answer}
 use Rattle.cli_runs.specs.Course.{Course, ◌>>=◌}
 use Rattle.cli_runs.specs.Reading.{GivenBack, open_step, read_step, given_step, back_step, read_both, given_pair, given_of_both, OfTexts}
 use Rattle.cli_runs.proofs.RunLemmas.{came, went_on}
@@ -46,16 +46,16 @@ met (Shown a) P Q f p = f _ p
 met Memory P Q f p = tt
 
 -- a file that could not be opened
-opening_fault : (X : Type 0) (files : Option Files) (failures : ℕ) (name : List ℕ) (fault : ShelfFault) → Opens {X = X} files failures name (Err fault)
+opening_fault : (X : Type 0) (files : Option Files) (failures : ℕ) (name : List ℕ) (fault : FileStoreFault) → Opens {X = X} files failures name (Err fault)
     → IsLoad {X = List ℕ} (λ bytes. bytes) files failures name (Err fault)
 opening_fault X None failures name fault h = tt
 opening_fault X (Some files) failures name fault h = h
 
-pub unopened : (X : Type 0) (files : Option Files) (name : List ℕ) (fault : ShelfFault) (before after : History) (refusal : Refusal)
-    → Opens {X = X} files before.failures name (Err fault) → HasLoaded {X = List ℕ} (λ bytes. bytes) before after name (Err fault) → RefusalShows (shelf_answer name fault) refusal
+pub unopened : (X : Type 0) (files : Option Files) (name : List ℕ) (fault : FileStoreFault) (before after : History) (refusal : Refusal)
+    → Opens {X = X} files before.failures name (Err fault) → HasLoaded {X = List ℕ} (λ bytes. bytes) before after name (Err fault) → RefusalShows (file_store_answer name fault) refusal
     → AnswerMeets refusal (λ a. open_step files name before after (Err a))
 unopened X files name fault before after refusal opened logged is =
-    shown refusal (shelf_answer name fault) (λ a. open_step files name before after (Err a)) is (fault, opening_fault X files before.failures name fault opened, logged, refl)
+    shown refusal (file_store_answer name fault) (λ a. open_step files name before after (Err a)) is (fault, opening_fault X files before.failures name fault opened, logged, refl)
 
 -- what a call came to where the steps end in what was refused
 pub came_to_end : {S X : Type 0} (view : S → X) (steps : Result X Answered → Type 0) (end : Result S Refusal) (refusal : Refusal) → IsErrAnd end (λ e. e ≡ refusal)
@@ -64,7 +64,7 @@ came_to_end view steps (Ok found) refusal is h = absurd is
 came_to_end view steps (Err e) refusal is h = subst (λ (r : Refusal). AnswerMeets r (λ a. steps (Err a))) (sym is) h
 
 -- one reader was given back
-module _ (files : Option Files) (name : List ℕ) (given : Given) (answer : Result ReadEnd ShelfFault) (before after : History)
+module _ (files : Option Files) (name : List ℕ) (given : Given) (answer : Result ReadEnd FileStoreFault) (before after : History)
     (read : IsRead files name given.bytes answer) (logged : HasRead before after name given.bytes answer) where
   abbrev back : GivenBack
   back = record { bytes = given.bytes; answer = answer }
@@ -73,37 +73,37 @@ module _ (files : Option Files) (name : List ℕ) (given : Given) (answer : Resu
   one_sound end is at =
       came (read_step files name) (given_step name) back before after after (Ok given) (read, logged) (refl, refl, is ∙ ap (λ (e : ReadEnd). Ok e) at)
 
-  pub one_failed : (fault : ShelfFault) (refusal : Refusal) → answer ≡ Err fault → RefusalShows (shelf_answer name fault) refusal
+  pub one_failed : (fault : FileStoreFault) (refusal : Refusal) → answer ≡ Err fault → RefusalShows (file_store_answer name fault) refusal
       → AnswerMeets refusal (λ a. given_back files name before after (Err a))
   one_failed fault refusal is shows =
-      shown refusal (shelf_answer name fault) (λ a. given_back files name before after (Err a)) shows
-      (came (read_step files name) (given_step name) back before after after (Err (shelf_answer name fault)) (read, logged) (refl, (fault, is, refl)))
+      shown refusal (file_store_answer name fault) (λ a. given_back files name before after (Err a)) shows
+      (came (read_step files name) (given_step name) back before after after (Err (file_store_answer name fault)) (read, logged) (refl, (fault, is, refl)))
 
 -- two readers were given back, that of the second file first
 module _ (files : Option Files) (first second : List ℕ) (x y : Given) (before between after : History) where
-  both_sound : (a b : Result ReadEnd ShelfFault) → back_step files first second before after (Ok (record { bytes = x.bytes; answer = a }, record { bytes = y.bytes; answer = b }))
+  both_sound : (a b : Result ReadEnd FileStoreFault) → back_step files first second before after (Ok (record { bytes = x.bytes; answer = a }, record { bytes = y.bytes; answer = b }))
       → a ≡ Ok (read_end x.ended) → b ≡ Ok (read_end y.ended) → both_given_back files first second before after (Ok (x, y))
   both_sound a b back one other =
       came (back_step files first second) (given_pair first second) (record { bytes = x.bytes; answer = a }, record { bytes = y.bytes; answer = b }) before after after (Ok (x, y)) back
       (inr (record { value = y; between = after; given = (refl, refl, other); goes_on = inr (record { value = x; between = after; given = (refl, refl, one); goes_on = (refl, refl) }) }))
 
-  second_failed : (a b : Result ReadEnd ShelfFault) (fault : ShelfFault) (refusal : Refusal)
+  second_failed : (a b : Result ReadEnd FileStoreFault) (fault : FileStoreFault) (refusal : Refusal)
       → back_step files first second before after (Ok (record { bytes = x.bytes; answer = a }, record { bytes = y.bytes; answer = b }))
-      → b ≡ Err fault → RefusalShows (shelf_answer second fault) refusal → AnswerMeets refusal (λ r. both_given_back files first second before after (Err r))
+      → b ≡ Err fault → RefusalShows (file_store_answer second fault) refusal → AnswerMeets refusal (λ r. both_given_back files first second before after (Err r))
   second_failed a b fault refusal back is shows =
-      shown refusal (shelf_answer second fault) (λ r. both_given_back files first second before after (Err r)) shows
-      (came (back_step files first second) (given_pair first second) (record { bytes = x.bytes; answer = a }, record { bytes = y.bytes; answer = b }) before after after (Err (shelf_answer second fault)) back
+      shown refusal (file_store_answer second fault) (λ r. both_given_back files first second before after (Err r)) shows
+      (came (back_step files first second) (given_pair first second) (record { bytes = x.bytes; answer = a }, record { bytes = y.bytes; answer = b }) before after after (Err (file_store_answer second fault)) back
       (inl (refl, (fault, is, refl))))
 
-  first_failed : (a b : Result ReadEnd ShelfFault) (fault : ShelfFault) (refusal : Refusal)
+  first_failed : (a b : Result ReadEnd FileStoreFault) (fault : FileStoreFault) (refusal : Refusal)
       → back_step files first second before after (Ok (record { bytes = x.bytes; answer = a }, record { bytes = y.bytes; answer = b }))
-      → a ≡ Err fault → b ≡ Ok (read_end y.ended) → RefusalShows (shelf_answer first fault) refusal → AnswerMeets refusal (λ r. both_given_back files first second before after (Err r))
+      → a ≡ Err fault → b ≡ Ok (read_end y.ended) → RefusalShows (file_store_answer first fault) refusal → AnswerMeets refusal (λ r. both_given_back files first second before after (Err r))
   first_failed a b fault refusal back is other shows =
-      shown refusal (shelf_answer first fault) (λ r. both_given_back files first second before after (Err r)) shows
-      (came (back_step files first second) (given_pair first second) (record { bytes = x.bytes; answer = a }, record { bytes = y.bytes; answer = b }) before after after (Err (shelf_answer first fault)) back
+      shown refusal (file_store_answer first fault) (λ r. both_given_back files first second before after (Err r)) shows
+      (came (back_step files first second) (given_pair first second) (record { bytes = x.bytes; answer = a }, record { bytes = y.bytes; answer = b }) before after after (Err (file_store_answer first fault)) back
       (inr (record { value = y; between = after; given = (refl, refl, other); goes_on = inl (refl, (fault, is, refl)) })))
 
-  came_back : (a b : Result ReadEnd ShelfFault) (end : Result (Unit {0}) Refusal)
+  came_back : (a b : Result ReadEnd FileStoreFault) (end : Result (Unit {0}) Refusal)
       → back_step files first second before after (Ok (record { bytes = x.bytes; answer = a }, record { bytes = y.bytes; answer = b }))
       → AreBack first second a b end → IfOk a (λ e. e ≡ read_end x.ended) → IfOk b (λ e. e ≡ read_end y.ended)
       → Comes (λ _. (x, y)) end (both_given_back files first second before after)
@@ -116,7 +116,7 @@ module _ (files : Option Files) (first second : List ℕ) (x y : Given) (before 
   came_back (Err kind) (Err fault) (Ok done) back are one other = absurd are
   came_back (Err kind) (Err fault) (Err refusal) back are one other = second_failed (Err kind) (Err fault) fault refusal back refl are
 
-  pub both_back : (a b : Result ReadEnd ShelfFault) (end : Result (Unit {0}) Refusal)
+  pub both_back : (a b : Result ReadEnd FileStoreFault) (end : Result (Unit {0}) Refusal)
       → IsRead files second y.bytes b → HasRead before between second y.bytes b → IsRead files first x.bytes a → HasRead between after first x.bytes a
       → AreBack first second a b end → IfOk a (λ e. e ≡ read_end x.ended) → IfOk b (λ e. e ≡ read_end y.ended)
       → Comes (λ _. (x, y)) end (both_given_back files first second before after)

@@ -1,6 +1,6 @@
 -- The record of a run, by its parts.
 use Rattle.std.proofs.Common.{ℕ, List, [], inl, refl}
-use Rattle.cli_shelves.specs.History.{History}
+use Rattle.cli_file_stores.specs.History.{History}
 use Rattle.cli_words.specs.declared.words.CommandWords.{CommandWords}
 use Rattle.cli_answers.specs.Answer.{memory_answer}
 use Rattle.cli_runs.specs.Recording.{RecordEnds}

@@ -4,8 +4,8 @@ use Rattle.std.specs.Prelude.{Result, Ok, Err, option_map}
 use Rattle.std.specs.Borrow.{Bor}
 use Rattle.std.specs.Option.{option_copied}
 use Rattle.std.specs.Result.{IsErrAnd}
-use Rattle.cli_shelves.specs.Files.{NamedFile, Files}
-use Rattle.cli_shelves.specs.History.{History}
+use Rattle.cli_file_stores.specs.Files.{NamedFile, Files}
+use Rattle.cli_file_stores.specs.History.{History}
 use Rattle.cli_answers.specs.declared.answer.RunAnswer.{RunAnswer}
 use Rattle.cli_answers.specs.declared.answer.Refusal.{Refusal}
 use Rattle.cli_answers.specs.declared.answer.Refusal.TheVariants.{Shown, Memory}
@@ -22,7 +22,7 @@ pub seen_lent : {X Y : Type 0} (f : X → Y) (lent : Option (Bor X)) → option_
 seen_lent f None = refl
 seen_lent f (Some t) = refl
 
--- the shelf was as it was until the files were stored
+-- the file store was as it was until the files were stored
 pub from_start : (files files_then after : Option Files) (listed listed_then last : Option (List NamedFile)) (stored : List NamedFile)
     → files_then ≡ files → listed_then ≡ listed → HasStored files_then after listed_then last stored → HasStored files after listed last stored
 from_start files files_then after listed listed_then last stored same kept h =

@@ -4,7 +4,7 @@ use Rattle.std.specs.List.{starts_with, slice_split, list_all}
 use Rattle.std.specs.Prelude.{nat_eq}
 use Rattle.std.specs.Str.{is_utf8}
 use Rattle.field_lines.specs.RawPieces.{RawLine, raw_lines}
-use Rattle.cli_shelves.specs.Files.{NamedFile}
+use Rattle.cli_file_stores.specs.Files.{NamedFile}
 
 -- a piece with its LF, if it has one
 abbrev pub whole_line : RawLine → List ℕ

@@ -2,11 +2,11 @@
 use Rattle.std.specs.Prelude.{◌≡◌, ◌⊎◌, ◌<◌, ◌≤◌, ◌++◌, ℕ, Bool, true, false, List, [], Option, Some, None, Result, Ok}
 use Rattle.std.specs.Prelude.{Err, IfSome, length, reverse, codes}
 use Rattle.std.specs.List.{flat_map}
-use Rattle.cli_shelves.specs.declared.whole_source.WholeFault.{WholeFault}
-use Rattle.cli_shelves.specs.declared.whole_source.WholeFault.TheVariants.{TooLarge, Failed, Memory}
+use Rattle.cli_file_stores.specs.declared.whole_source.WholeFault.{WholeFault}
+use Rattle.cli_file_stores.specs.declared.whole_source.WholeFault.TheVariants.{TooLarge, Failed, Memory}
 use Rattle.cli_answers.specs.Answer.{Answered, memory_answer}
-use Rattle.cli_shelves.specs.Files.{NamedFile, held, with_files}
-use Rattle.cli_shelves.specs.History.{ShelfEvent, no_history}
+use Rattle.cli_file_stores.specs.Files.{NamedFile, held, with_files}
+use Rattle.cli_file_stores.specs.History.{FileStoreEvent, no_history}
 use Rattle.cli.specs.Case.{case_files, case_words, is_case}
 use Rattle.cli_runs.specs.Run.{IsRunAnswer}
 use Rattle.cli.specs.Delivery.{Delivers}
@@ -24,7 +24,7 @@ followed_by a stored = record { text = a.text ++ stored_text stored; status = a.
 pub record WordsOver (files : List NamedFile) (words : List (List ℕ)) (a : Answered) : Type 0 where
   pub run : Answered
   pub stored : List NamedFile
-  pub events : List ShelfEvent
+  pub events : List FileStoreEvent
   pub answer : IsRunAnswer (Some (held files)) words no_history (record { failures = 0; events = events }) stored run
   pub followed : a ≡ followed_by run (with_files [] stored)
 

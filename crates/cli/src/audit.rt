@@ -2,8 +2,8 @@
 
 ghost use Rattle.std.specs.Prelude.{◌≡◌, ◌≤◌, ◌<◌, All, List, length, map};
 ghost use Rattle.std.specs.List.Sorted.{IsStrictlyIncreasing};
-ghost use Rattle.cli_shelves.specs.Files.{NamedFile};
-ghost use Rattle.cli_shelves.specs.History.{History};
+ghost use Rattle.cli_file_stores.specs.Files.{NamedFile};
+ghost use Rattle.cli_file_stores.specs.History.{History};
 ghost use Rattle.cli_answers.specs.Answers.{Comes, said_by};
 ghost use Rattle.cli_runs.specs.JudgeCourse.{audit_step, audit_course};
 ghost use Rattle.cli_runs.specs.Run.{CommandRun};
@@ -18,8 +18,8 @@ use crate::problem::load_problem;
 use crate::storing::store_named;
 use baf_auditor::{Assignment, Findings};
 use cli_answers::{Refusal, RunAnswer};
-use cli_runs::{Audited, audit_and_say};
-use cli_shelves::Shelf;
+use cli_file_stores::FileStore;
+use cli_runs::{Audited, audit_and_report};
 use cli_words::{AuditWords, CommandWords};
 use county_codes::Grouping;
 use county_problem::Problem;
@@ -58,7 +58,7 @@ fn audit_plan(
     ensures { (history : History)
         → Comes (λ p. audited_of p.audited) result (audit_step asked problem grouping.groups.items blocks.now lines.now history history) }
 {
-    let audited = audit_and_say(alloc, &problem, &grouping, blocks, lines, asked)?;
+    let audited = audit_and_report(alloc, &problem, &grouping, blocks, lines, asked)?;
     Ok(AuditedPlan {
         audited,
         problem,
@@ -67,21 +67,21 @@ fn audit_plan(
 }
 
 /// Returns what `audit` says of the assignments of a file, before anything is stored.
-fn audit_files<H: Shelf>(
+fn audit_files<H: FileStore>(
     alloc: Global,
     words: AuditWords<'_>,
-    shelf: &mut H,
+    file_store: &mut H,
     end: &mut End,
 ) -> Result<AuditedPlan, Refusal>
     requires { words.problem.common.state ≤ 99 }
-    ensures course { Comes (λ p. audited_of p.audited) result (audit_course (H.contents shelf.old) words.entry (H.history shelf.old) (H.history shelf.new)) }
-    ensures same { H.contents shelf.new ≡ H.contents shelf.old }
-    ensures kept { H.stored shelf.new ≡ H.stored shelf.old }
+    ensures course { Comes (λ p. audited_of p.audited) result (audit_course (H.contents file_store.old) words.entry (H.history file_store.old) (H.history file_store.new)) }
+    ensures same { H.contents file_store.new ≡ H.contents file_store.old }
+    ensures kept { H.stored file_store.new ≡ H.stored file_store.old }
 {
-    let problem = load_problem(alloc, words.problem, shelf, end)?;
-    let blocks = load_blocks(alloc, words.problem.common, shelf, end)?;
-    let grouping = load_grouping(alloc, FileOption::Grouping, words.grouping, shelf, end)?;
-    let lines = load_assignments(alloc, words.assignments, shelf, end)?;
+    let problem = load_problem(alloc, words.problem, file_store, end)?;
+    let blocks = load_blocks(alloc, words.problem.common, file_store, end)?;
+    let grouping = load_grouping(alloc, FileOption::Grouping, words.grouping, file_store, end)?;
+    let lines = load_assignments(alloc, words.assignments, file_store, end)?;
     let asked = words.districts.is_some();
     audit_plan(alloc, problem, grouping, &blocks, &lines, asked)
 }
@@ -89,18 +89,18 @@ fn audit_files<H: Shelf>(
 /// Returns all that is wrong with the assignments of a plan. The problem is built first. Then the census blocks, the
 /// grouping and the assignments are read, in this order. The table of the districts is stored if the words name its
 /// file, whether or not anything is found. The first fault met is the answer.
-pub(crate) fn audit<H: Shelf>(
+pub(crate) fn audit<H: FileStore>(
     alloc: Global,
     words: AuditWords<'_>,
-    shelf: &mut H,
+    file_store: &mut H,
     end: &mut End,
 ) -> Result<RunAnswer, Refusal>
     requires { words.problem.common.state ≤ 99 }
     ensures { (stored : List NamedFile)
-        × HasStored (H.contents shelf.old) (H.contents shelf.new) (H.stored shelf.old) (H.stored shelf.new) stored
-        × CommandRun (H.contents shelf.old) (CommandWords.Audit words.entry) (H.history shelf.old) (H.history shelf.new) stored (said_by result) }
+        × HasStored (H.contents file_store.old) (H.contents file_store.new) (H.stored file_store.old) (H.stored file_store.new) stored
+        × CommandRun (H.contents file_store.old) (CommandWords.Audit words.entry) (H.history file_store.old) (H.history file_store.new) stored (said_by result) }
 {
-    let plan = audit_files(alloc, words, shelf, end)?;
+    let plan = audit_files(alloc, words, file_store, end)?;
     let AuditedPlan {
         audited,
         problem,
@@ -111,7 +111,7 @@ pub(crate) fn audit<H: Shelf>(
         FileOption::Districts,
         words.districts,
         audited.districts.as_ref(),
-        shelf,
+        file_store,
         end,
     ) {
         Ok(()) => {

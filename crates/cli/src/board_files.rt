@@ -2,16 +2,16 @@
 
 ghost use Rattle.std.specs.Prelude.{◌≡◌, length, map};
 ghost use Rattle.share_board.specs.Events.{event_of};
-ghost use Rattle.cli_shelves.specs.History.{History};
+ghost use Rattle.cli_file_stores.specs.History.{History};
 ghost use Rattle.cli_answers.specs.Answers.{Comes};
-ghost use Rattle.cli_runs.specs.BoardCourse.{language_of, events_in, events_of, named_events_of};
+ghost use Rattle.cli_runs.specs.BoardCourse.{format_of, events_in, events_of, named_events_of};
 
 use crate::end::{End, Ending, FileFault, FileOption};
 use crate::files::load;
 use board_events::read_events;
 use cli_answers::{Refusal, refuse_events};
-use cli_runs::language_for;
-use cli_shelves::Shelf;
+use cli_file_stores::FileStore;
+use cli_runs::format_for;
 use cli_words::RoundWords;
 use county_problem::Problem;
 use share_board::Event;
@@ -26,11 +26,11 @@ fn events_from(
     end: &mut End,
 ) -> Result<Vec<Event>, Refusal>
     ensures { (history : History)
-        → Comes (λ v. map event_of v.items) result (events_in (language_of words) (length problem.now.counties) text.items history history) }
+        → Comes (λ v. map event_of v.items) result (events_in (format_of words) (length problem.now.counties) text.items history history) }
 {
-    let language = language_for(words);
+    let format = format_for(words);
     let counties = problem.counties().len() as u16;
-    match read_events(alloc, &text, language, counties) {
+    match read_events(alloc, &text, format, counties) {
         Ok(events) => Ok(events),
         Err(fault) => {
             end.note_refused(FileOption::Events, FileFault::Events(fault), text);
@@ -39,39 +39,39 @@ fn events_from(
     }
 }
 
-/// Loads and reads the events of the file `name`. Their trees are in the language of the rounds, and for the counties
+/// Loads and reads the events of the file `name`. Their trees are in the format of the rounds, and for the counties
 /// of `problem`.
-pub(crate) fn load_events<H: Shelf>(
+pub(crate) fn load_events<H: FileStore>(
     alloc: Global,
     name: &str,
     words: RoundWords,
     problem: &Problem,
-    shelf: &mut H,
+    file_store: &mut H,
     end: &mut End,
 ) -> Result<Vec<Event>, Refusal>
-    ensures course { Comes (λ v. map event_of v.items) result (events_of (H.contents shelf.old) (language_of words) (length problem.now.counties) name.now (H.history shelf.old) (H.history shelf.new)) }
-    ensures same { H.contents shelf.new ≡ H.contents shelf.old }
-    ensures kept { H.stored shelf.new ≡ H.stored shelf.old }
+    ensures course { Comes (λ v. map event_of v.items) result (events_of (H.contents file_store.old) (format_of words) (length problem.now.counties) name.now (H.history file_store.old) (H.history file_store.new)) }
+    ensures same { H.contents file_store.new ≡ H.contents file_store.old }
+    ensures kept { H.stored file_store.new ≡ H.stored file_store.old }
 {
-    let text = load(alloc, FileOption::Events, name, shelf, end)?;
+    let text = load(alloc, FileOption::Events, name, file_store, end)?;
     events_from(alloc, text, words, problem, end)
 }
 
 /// Loads and reads the events of the file `name`. Returns none if no file is named.
-pub(crate) fn load_named_events<H: Shelf>(
+pub(crate) fn load_named_events<H: FileStore>(
     alloc: Global,
     name: Option<&str>,
     words: RoundWords,
     problem: &Problem,
-    shelf: &mut H,
+    file_store: &mut H,
     end: &mut End,
 ) -> Result<Vec<Event>, Refusal>
-    ensures course { Comes (λ v. map event_of v.items) result (named_events_of (H.contents shelf.old) (language_of words) (length problem.now.counties) name.entry (H.history shelf.old) (H.history shelf.new)) }
-    ensures same { H.contents shelf.new ≡ H.contents shelf.old }
-    ensures kept { H.stored shelf.new ≡ H.stored shelf.old }
+    ensures course { Comes (λ v. map event_of v.items) result (named_events_of (H.contents file_store.old) (format_of words) (length problem.now.counties) name.entry (H.history file_store.old) (H.history file_store.new)) }
+    ensures same { H.contents file_store.new ≡ H.contents file_store.old }
+    ensures kept { H.stored file_store.new ≡ H.stored file_store.old }
 {
     match name {
-        Some(name) => load_events(alloc, name, words, problem, shelf, end),
+        Some(name) => load_events(alloc, name, words, problem, file_store, end),
         None => Ok(Vec::new(alloc)),
     }
 }

@@ -7,11 +7,11 @@ ghost use Rattle.std.specs.List.{slice_split, list_all};
 ghost use Rattle.std.specs.Str.{is_utf8};
 ghost use Rattle.field_lines.specs.RawPieces.{RawLine, raw_lines};
 ghost use Rattle.field_lines.specs.Piece.{raw_of};
-ghost use Rattle.cli_shelves.specs.Files.{NamedFile};
-ghost use Rattle.cli_shelves.specs.Memory.{files_of};
+ghost use Rattle.cli_file_stores.specs.Files.{NamedFile};
+ghost use Rattle.cli_file_stores.specs.Memory.{files_of};
 ghost use Rattle.cli.specs.Case.{whole_line, file_name, first_case_line, case_files, is_case, are_named, with_open};
 ghost use Rattle.cli.specs.Case.{parts_of};
-ghost use Rattle.cli_shelves.specs.declared.whole_source.WholeFault.{WholeFault};
+ghost use Rattle.cli_file_stores.specs.declared.whole_source.WholeFault.{WholeFault};
 ghost use Rattle.cli_answers.specs.Answer.{Answered};
 ghost use Rattle.cli_answers.specs.Answers.{answer_of};
 ghost use Rattle.cli.specs.Delivery.{texts};
@@ -21,7 +21,7 @@ use crate::command::{deliver, words_answer};
 use crate::end::{End, Ending};
 use branch_bound::NoWatcher;
 use cli_answers::{MEMORY, RunAnswer};
-use cli_shelves::{MemoryFile, MemoryShelf, Sink, WholeFault, read_whole};
+use cli_file_stores::{MemoryFile, MemoryFileStore, Sink, WholeFault, read_whole};
 use field_lines::{Piece, RawLines, Source};
 use std::alloc::{AllocError, Global};
 
@@ -164,10 +164,10 @@ fn words_over_files(
     ensures { IfOk result (λ a. WordsOver (reverse (files_of files.items)) (slice_split (λ b. b == 32) line.now) (answer_of a)) }
 {
     files.reverse();
-    let mut shelf = MemoryShelf::new(alloc, files);
+    let mut file_store = MemoryFileStore::new(alloc, files);
     let words = words_in(alloc, line)?;
-    let mut answer = words_answer(alloc, &words, &mut shelf, end, &mut NoWatcher)?;
-    push_stored(&mut answer.text, shelf.stored_files())?;
+    let mut answer = words_answer(alloc, &words, &mut file_store, end, &mut NoWatcher)?;
+    push_stored(&mut answer.text, file_store.stored_files())?;
     Ok(answer)
 }
 

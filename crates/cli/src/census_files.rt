@@ -5,7 +5,7 @@ ghost use Rattle.std.specs.Prelude.{◌≡◌, ℕ, ◌≤◌, ◌<◌, All, IfO
 ghost use Rattle.std.specs.List.Sorted.{IsStrictlyIncreasing};
 ghost use Rattle.field_lines.specs.Source.{Given};
 ghost use Rattle.field_lines.specs.Values.{GivesUnless};
-ghost use Rattle.cli_shelves.specs.History.{History};
+ghost use Rattle.cli_file_stores.specs.History.{History};
 ghost use Rattle.cli_answers.specs.Answers.{Comes};
 ghost use Rattle.pl94_counties.specs.PeopleByCode.{IsPl94Memory};
 ghost use Rattle.pl94_counties.specs.Counties.{county_list, block_list};
@@ -20,7 +20,7 @@ use crate::fault_text::FaultText;
 use crate::head_reader::HeadReader;
 use crate::readers::{give_both_back, open_both};
 use cli_answers::{Refusal, refuse_file, refuse_named_counties};
-use cli_shelves::Shelf;
+use cli_file_stores::FileStore;
 use cli_words::CommonWords;
 use county_codes::County;
 use pl94_counties::{
@@ -92,25 +92,25 @@ fn counties_read(
 
 /// Reads the counties of the state. The geographic header is opened first, but segment 1 is read before it. The first
 /// fault of the two files is refused.
-pub(crate) fn load_counties<H: Shelf>(
+pub(crate) fn load_counties<H: FileStore>(
     alloc: Global,
     words: CommonWords<'_>,
-    shelf: &mut H,
+    file_store: &mut H,
     end: &mut End,
 ) -> Result<Vec<County>, Refusal>
     requires { words.state ≤ 99 }
-    ensures course { Comes (λ v. v.items) result (counties_course (H.contents shelf.old) words.entry (H.history shelf.old) (H.history shelf.new)) }
-    ensures same { H.contents shelf.new ≡ H.contents shelf.old }
-    ensures kept { H.stored shelf.new ≡ H.stored shelf.old }
+    ensures course { Comes (λ v. v.items) result (counties_course (H.contents file_store.old) words.entry (H.history file_store.old) (H.history file_store.new)) }
+    ensures same { H.contents file_store.new ≡ H.contents file_store.old }
+    ensures kept { H.stored file_store.new ≡ H.stored file_store.old }
 {
-    let (geo, segment) = open_both(alloc, words, shelf, end)?;
+    let (geo, segment) = open_both(alloc, words, file_store, end)?;
     let mut geo = HeadReader::new(alloc, geo);
     let mut segment = HeadReader::new(alloc, segment);
     let mut notes = CensusNotes::new(alloc);
     let read = read_counties_from(alloc, &mut geo, &mut segment, words.state, &mut notes);
     let (geo_reader, geo) = geo.into_parts();
     let (segment_reader, segment) = segment.into_parts();
-    give_both_back(alloc, words, (geo_reader, segment_reader), shelf, end)?;
+    give_both_back(alloc, words, (geo_reader, segment_reader), file_store, end)?;
     let texts = CensusTexts {
         geo,
         segment,
@@ -156,25 +156,25 @@ fn named_read(
 }
 
 /// Reads the counties of the state with their names, as `load_counties` reads them without.
-pub(crate) fn load_named_counties<H: Shelf>(
+pub(crate) fn load_named_counties<H: FileStore>(
     alloc: Global,
     words: CommonWords<'_>,
-    shelf: &mut H,
+    file_store: &mut H,
     end: &mut End,
 ) -> Result<Vec<NamedCounty>, Refusal>
     requires { words.state ≤ 99 }
-    ensures course { Comes (λ v. map county_name v.items) result (named_counties_of (H.contents shelf.old) words.entry (H.history shelf.old) (H.history shelf.new)) }
-    ensures same { H.contents shelf.new ≡ H.contents shelf.old }
-    ensures kept { H.stored shelf.new ≡ H.stored shelf.old }
+    ensures course { Comes (λ v. map county_name v.items) result (named_counties_of (H.contents file_store.old) words.entry (H.history file_store.old) (H.history file_store.new)) }
+    ensures same { H.contents file_store.new ≡ H.contents file_store.old }
+    ensures kept { H.stored file_store.new ≡ H.stored file_store.old }
 {
-    let (geo, segment) = open_both(alloc, words, shelf, end)?;
+    let (geo, segment) = open_both(alloc, words, file_store, end)?;
     let mut geo = HeadReader::new(alloc, geo);
     let mut segment = HeadReader::new(alloc, segment);
     let mut notes = CensusNotes::new(alloc);
     let read = read_named_counties_from(alloc, &mut geo, &mut segment, words.state, &mut notes);
     let (geo_reader, geo) = geo.into_parts();
     let (segment_reader, segment) = segment.into_parts();
-    give_both_back(alloc, words, (geo_reader, segment_reader), shelf, end)?;
+    give_both_back(alloc, words, (geo_reader, segment_reader), file_store, end)?;
     let texts = CensusTexts {
         geo,
         segment,
@@ -205,27 +205,27 @@ fn blocks_read(
 }
 
 /// Reads the census blocks of the state, as `load_counties` reads the counties. The census files are opened anew.
-pub(crate) fn load_blocks<H: Shelf>(
+pub(crate) fn load_blocks<H: FileStore>(
     alloc: Global,
     words: CommonWords<'_>,
-    shelf: &mut H,
+    file_store: &mut H,
     end: &mut End,
 ) -> Result<Vec<Block>, Refusal>
     requires { words.state ≤ 99 }
-    ensures course { Comes (λ v. v.items) result (blocks_of (H.contents shelf.old) words.entry (H.history shelf.old) (H.history shelf.new)) }
+    ensures course { Comes (λ v. v.items) result (blocks_of (H.contents file_store.old) words.entry (H.history file_store.old) (H.history file_store.new)) }
     ensures ascending { IfOk result (λ v. IsStrictlyIncreasing (map (λ b. b.code) v.items)) }
     ensures small { IfOk result (λ v. All (λ b. b.code < 1000000000000000) v.items) }
-    ensures same { H.contents shelf.new ≡ H.contents shelf.old }
-    ensures kept { H.stored shelf.new ≡ H.stored shelf.old }
+    ensures same { H.contents file_store.new ≡ H.contents file_store.old }
+    ensures kept { H.stored file_store.new ≡ H.stored file_store.old }
 {
-    let (geo, segment) = open_both(alloc, words, shelf, end)?;
+    let (geo, segment) = open_both(alloc, words, file_store, end)?;
     let mut geo = HeadReader::new(alloc, geo);
     let mut segment = HeadReader::new(alloc, segment);
     let mut notes = CensusNotes::new(alloc);
     let read = read_blocks_from(alloc, &mut geo, &mut segment, words.state, &mut notes);
     let (geo_reader, geo) = geo.into_parts();
     let (segment_reader, segment) = segment.into_parts();
-    give_both_back(alloc, words, (geo_reader, segment_reader), shelf, end)?;
+    give_both_back(alloc, words, (geo_reader, segment_reader), file_store, end)?;
     let texts = CensusTexts {
         geo,
         segment,

@@ -1,7 +1,7 @@
 //! The subcommand `check`.
 
 ghost use Rattle.std.specs.Prelude.{◌≡◌, ◌≤◌, List, MatchResult, IsOkAnd};
-ghost use Rattle.cli_shelves.specs.Files.{NamedFile};
+ghost use Rattle.cli_file_stores.specs.Files.{NamedFile};
 ghost use Rattle.cli_answers.specs.Answers.{Comes, said_by};
 ghost use Rattle.cli_runs.specs.CheckCourse.{check_course};
 ghost use Rattle.cli_runs.specs.Storing.{HasStored};
@@ -17,8 +17,8 @@ use crate::readers::{give_one_back, open};
 use crate::storing::store_reported;
 use certificate_checker::CheckStop;
 use cli_answers::{Refusal, RunAnswer};
-use cli_runs::{Checked, Reported, Tabled, check_from_and_say};
-use cli_shelves::Shelf;
+use cli_file_stores::FileStore;
+use cli_runs::{Checked, Reported, Tabled, check_from_and_report};
 use cli_words::{CertificateWords, CheckWords, CommandWords};
 use county_problem::Problem;
 use state_judge::CheckFault;
@@ -66,56 +66,56 @@ fn said(
 }
 
 /// Checks the certificate of a file. The file is read once, piece by piece, and no further than the verdict asks.
-fn check_file<H: Shelf>(
+fn check_file<H: FileStore>(
     alloc: Global,
     words: CertificateWords<'_>,
     tabled: Tabled,
-    shelf: &mut H,
+    file_store: &mut H,
     end: &mut End,
 ) -> Result<Reported, Refusal>
-    ensures course { Comes reported_of result (checked_file (H.contents shelf.old) words.entry (tabled_of tabled) (H.history shelf.old) (H.history shelf.new)) }
-    ensures same { H.contents shelf.new ≡ H.contents shelf.old }
-    ensures kept { H.stored shelf.new ≡ H.stored shelf.old }
+    ensures course { Comes reported_of result (checked_file (H.contents file_store.old) words.entry (tabled_of tabled) (H.history file_store.old) (H.history file_store.new)) }
+    ensures same { H.contents file_store.new ≡ H.contents file_store.old }
+    ensures kept { H.stored file_store.new ≡ H.stored file_store.old }
 {
     let (option, name) = (FileOption::Certificate, words.certificate);
-    let reader = open(alloc, option, name, shelf, end)?;
+    let reader = open(alloc, option, name, file_store, end)?;
     let mut source = HeadReader::new(alloc, reader);
     let mut line = Vec::new(alloc);
-    let checked = check_from_and_say(alloc, &tabled, &mut source, words.budget, &mut line);
+    let checked = check_from_and_report(alloc, &tabled, &mut source, words.budget, &mut line);
     let (reader, head) = source.into_parts();
-    give_one_back(alloc, option, name, reader, shelf, end)?;
+    give_one_back(alloc, option, name, reader, file_store, end)?;
     said(checked, FaultText::Read { head, line }, tabled.problem, end)
 }
 
 /// Returns the verdict on the certificate of a file, before anything is stored.
-fn check_files<H: Shelf>(
+fn check_files<H: FileStore>(
     alloc: Global,
     words: CheckWords<'_>,
-    shelf: &mut H,
+    file_store: &mut H,
     end: &mut End,
 ) -> Result<Reported, Refusal>
     requires { words.check.problem.common.state ≤ 99 }
-    ensures course { Comes reported_of result (check_course (H.contents shelf.old) words.entry (H.history shelf.old) (H.history shelf.new)) }
-    ensures same { H.contents shelf.new ≡ H.contents shelf.old }
-    ensures kept { H.stored shelf.new ≡ H.stored shelf.old }
+    ensures course { Comes reported_of result (check_course (H.contents file_store.old) words.entry (H.history file_store.old) (H.history file_store.new)) }
+    ensures same { H.contents file_store.new ≡ H.contents file_store.old }
+    ensures kept { H.stored file_store.new ≡ H.stored file_store.old }
 {
-    let tabled = load_tabled_problem(alloc, words.check.problem, words.table, shelf, end)?;
-    check_file(alloc, words.check, tabled, shelf, end)
+    let tabled = load_tabled_problem(alloc, words.check.problem, words.table, file_store, end)?;
+    check_file(alloc, words.check, tabled, file_store, end)
 }
 
 /// Returns the verdict on a certificate. The problem is built before the certificate is opened. If a grouping is best,
 /// its table is then stored. The first fault met is the answer.
-pub(crate) fn check<H: Shelf>(
+pub(crate) fn check<H: FileStore>(
     alloc: Global,
     words: CheckWords<'_>,
-    shelf: &mut H,
+    file_store: &mut H,
     end: &mut End,
 ) -> Result<RunAnswer, Refusal>
     requires { words.check.problem.common.state ≤ 99 }
     ensures { (stored : List NamedFile)
-        × HasStored (H.contents shelf.old) (H.contents shelf.new) (H.stored shelf.old) (H.stored shelf.new) stored
-        × CommandRun (H.contents shelf.old) (CommandWords.Check words.entry) (H.history shelf.old) (H.history shelf.new) stored (said_by result) }
+        × HasStored (H.contents file_store.old) (H.contents file_store.new) (H.stored file_store.old) (H.stored file_store.new) stored
+        × CommandRun (H.contents file_store.old) (CommandWords.Check words.entry) (H.history file_store.old) (H.history file_store.new) stored (said_by result) }
 {
-    let reported = check_files(alloc, words, shelf, end)?;
-    store_reported(alloc, words.table, reported, shelf, end)
+    let reported = check_files(alloc, words, file_store, end)?;
+    store_reported(alloc, words.table, reported, file_store, end)
 }

@@ -2,7 +2,7 @@
 //! Then the answer is written.
 
 ghost use Rattle.std.specs.Prelude.{◌≡◌, List, IfOk};
-ghost use Rattle.cli_shelves.specs.Files.{NamedFile};
+ghost use Rattle.cli_file_stores.specs.Files.{NamedFile};
 ghost use Rattle.cli_answers.specs.Answer.{Answered};
 ghost use Rattle.cli_answers.specs.Answers.{answer_of, said_by};
 ghost use Rattle.cli_runs.specs.Storing.{HasStored};
@@ -23,49 +23,49 @@ use crate::size::size;
 use crate::solve::solve;
 use branch_bound::{NoWatcher, Watcher};
 use cli_answers::{MEMORY, Refusal, RunAnswer};
-use cli_shelves::{Shelf, Sink};
+use cli_file_stores::{FileStore, Sink};
 use cli_words::{CommandWords, WordsEnd, parse};
 use std::alloc::{AllocError, Global};
 
 /// Runs a command. Returns its answer, or the refusal with which it ends before that.
-fn command_end<H: Shelf, V: Watcher>(
+fn command_end<H: FileStore, V: Watcher>(
     alloc: Global,
     command: CommandWords<'_>,
-    shelf: &mut H,
+    file_store: &mut H,
     end: &mut End,
     watcher: &mut V,
 ) -> Result<RunAnswer, Refusal>
     requires { HasState command }
     ensures { (stored : List NamedFile)
-        × HasStored (H.contents shelf.old) (H.contents shelf.new) (H.stored shelf.old) (H.stored shelf.new) stored
-        × CommandRun (H.contents shelf.old) command.entry (H.history shelf.old) (H.history shelf.new) stored (said_by result) }
+        × HasStored (H.contents file_store.old) (H.contents file_store.new) (H.stored file_store.old) (H.stored file_store.new) stored
+        × CommandRun (H.contents file_store.old) command.entry (H.history file_store.old) (H.history file_store.new) stored (said_by result) }
 {
     match command {
-        CommandWords::Size(words) => size(alloc, words, shelf, end),
-        CommandWords::Judge(words) => judge(alloc, words, shelf, end),
-        CommandWords::Solve(words) => solve(alloc, words, shelf, end, watcher),
-        CommandWords::Check(words) => check(alloc, words, shelf, end),
-        CommandWords::Audit(words) => audit(alloc, words, shelf, end),
-        CommandWords::List(words) => list(alloc, words, shelf, end),
-        CommandWords::Share(words) => share(alloc, words, shelf, end),
-        CommandWords::Piece(words) => piece(alloc, words, shelf, end),
+        CommandWords::Size(words) => size(alloc, words, file_store, end),
+        CommandWords::Judge(words) => judge(alloc, words, file_store, end),
+        CommandWords::Solve(words) => solve(alloc, words, file_store, end, watcher),
+        CommandWords::Check(words) => check(alloc, words, file_store, end),
+        CommandWords::Audit(words) => audit(alloc, words, file_store, end),
+        CommandWords::List(words) => list(alloc, words, file_store, end),
+        CommandWords::Share(words) => share(alloc, words, file_store, end),
+        CommandWords::Piece(words) => piece(alloc, words, file_store, end),
     }
 }
 
 /// Runs a command and returns its answer. Returns `AllocError` if memory was refused.
-pub(crate) fn command_answer<H: Shelf, V: Watcher>(
+pub(crate) fn command_answer<H: FileStore, V: Watcher>(
     alloc: Global,
     command: CommandWords<'_>,
-    shelf: &mut H,
+    file_store: &mut H,
     end: &mut End,
     watcher: &mut V,
 ) -> Result<RunAnswer, AllocError>
     requires { HasState command }
     ensures { (stored : List NamedFile)
-        × HasStored (H.contents shelf.old) (H.contents shelf.new) (H.stored shelf.old) (H.stored shelf.new) stored
-        × CommandRun (H.contents shelf.old) command.entry (H.history shelf.old) (H.history shelf.new) stored (said_of result) }
+        × HasStored (H.contents file_store.old) (H.contents file_store.new) (H.stored file_store.old) (H.stored file_store.new) stored
+        × CommandRun (H.contents file_store.old) command.entry (H.history file_store.old) (H.history file_store.new) stored (said_of result) }
 {
-    match command_end(alloc, command, shelf, end, watcher) {
+    match command_end(alloc, command, file_store, end, watcher) {
         Ok(answer) => Ok(answer),
         Err(Refusal::Shown(answer)) => Ok(answer),
         Err(Refusal::Memory) => {
@@ -100,19 +100,19 @@ fn words_end_answer(
 }
 
 /// Parses `words`, runs their command and returns the answer. Returns `AllocError` if memory was refused.
-pub(crate) fn words_answer<H: Shelf, V: Watcher>(
+pub(crate) fn words_answer<H: FileStore, V: Watcher>(
     alloc: Global,
     words: &[&str],
-    shelf: &mut H,
+    file_store: &mut H,
     end: &mut End,
     watcher: &mut V,
 ) -> Result<RunAnswer, AllocError>
     ensures { (stored : List NamedFile)
-        × HasStored (H.contents shelf.old) (H.contents shelf.new) (H.stored shelf.old) (H.stored shelf.new) stored
-        × IsRunAnswer (H.contents shelf.old) (texts words.now) (H.history shelf.old) (H.history shelf.new) stored (said_of result) }
+        × HasStored (H.contents file_store.old) (H.contents file_store.new) (H.stored file_store.old) (H.stored file_store.new) stored
+        × IsRunAnswer (H.contents file_store.old) (texts words.now) (H.history file_store.old) (H.history file_store.new) stored (said_of result) }
 {
     match parse(alloc, words) {
-        Ok(command) => answer_as_asked(alloc, words, command, shelf, end, watcher),
+        Ok(command) => answer_as_asked(alloc, words, command, file_store, end, watcher),
         Err(words_end) => words_end_answer(alloc, words_end, end),
     }
 }
@@ -143,10 +143,10 @@ fn deliver_said<W: Sink>(out: &mut W, said: Result<RunAnswer, AllocError>, end: 
 
 /// Runs one command, and returns the exit status and how the run ended. `watcher` is told how far a search is. All that
 /// `run` promises holds of it and of its status, for each watcher.
-pub fn run_with_end<H: Shelf, W: Sink, V: Watcher>(
+pub fn run_with_end<H: FileStore, W: Sink, V: Watcher>(
     alloc: Global,
     words: &[&str],
-    shelf: &mut H,
+    file_store: &mut H,
     out: &mut W,
     watcher: &mut V,
 ) -> (u8, End)
@@ -154,13 +154,13 @@ pub fn run_with_end<H: Shelf, W: Sink, V: Watcher>(
     // The answer is that of the steps of the words' command, its files are stored, and its text is written. If the
     // status is 0, 1 or 3, this answer tells of the machine's files what the command promises.
     ensures run { (a : Answered) × (stored : List NamedFile)
-        × HasStored (H.contents shelf.old) (H.contents shelf.new) (H.stored shelf.old) (H.stored shelf.new) stored
-        × IsRunAnswer (H.contents shelf.old) (texts words.now) (H.history shelf.old) (H.history shelf.new) stored a
-        × RunTells (texts words.now) (H.history shelf.old) (H.history shelf.new) a
+        × HasStored (H.contents file_store.old) (H.contents file_store.new) (H.stored file_store.old) (H.stored file_store.new) stored
+        × IsRunAnswer (H.contents file_store.old) (texts words.now) (H.history file_store.old) (H.history file_store.new) stored a
+        × RunTells (texts words.now) (H.history file_store.old) (H.history file_store.new) a
         × Delivers (W.is_failed out.new) (W.contents out.old) (W.contents out.new) a result.0 }
 {
     let mut end = End::new(alloc);
-    let said = words_answer(alloc, words, shelf, &mut end, watcher);
+    let said = words_answer(alloc, words, file_store, &mut end, watcher);
     let status = deliver_said(out, said, &mut end);
     (status, end)
 }
@@ -191,15 +191,20 @@ pub fn run_with_end<H: Shelf, W: Sink, V: Watcher>(
 /// grouping and the table of all groupings, `audit` the table of the districts, and `share` a certificate. Each is
 /// stored if the words name its file. If they name a file for the record of the run and the status is 0, 1 or 3, the
 /// record is stored last. What was stored before a fault stays stored.
-pub fn run<H: Shelf, W: Sink>(alloc: Global, words: &[&str], shelf: &mut H, out: &mut W) -> u8
+pub fn run<H: FileStore, W: Sink>(
+    alloc: Global,
+    words: &[&str],
+    file_store: &mut H,
+    out: &mut W,
+) -> u8
 
     // The answer is that of the steps of the words' command, its files are stored, and its text is written. If the
     // status is 0, 1 or 3, this answer tells of the machine's files what the command promises.
     ensures run { (a : Answered) × (stored : List NamedFile)
-        × HasStored (H.contents shelf.old) (H.contents shelf.new) (H.stored shelf.old) (H.stored shelf.new) stored
-        × IsRunAnswer (H.contents shelf.old) (texts words.now) (H.history shelf.old) (H.history shelf.new) stored a
-        × RunTells (texts words.now) (H.history shelf.old) (H.history shelf.new) a
+        × HasStored (H.contents file_store.old) (H.contents file_store.new) (H.stored file_store.old) (H.stored file_store.new) stored
+        × IsRunAnswer (H.contents file_store.old) (texts words.now) (H.history file_store.old) (H.history file_store.new) stored a
+        × RunTells (texts words.now) (H.history file_store.old) (H.history file_store.new) a
         × Delivers (W.is_failed out.new) (W.contents out.old) (W.contents out.new) a result }
 {
-    run_with_end(alloc, words, shelf, out, &mut NoWatcher).0
+    run_with_end(alloc, words, file_store, out, &mut NoWatcher).0
 }

@@ -5,8 +5,8 @@ use crate::fault_text::FaultText;
 use crate::warnings::Warning;
 use baf_auditor::{AssignmentFault, Findings};
 use certificate_lines::TextFault;
-use cli_runs::Unshown;
-use cli_shelves::ShelfFault;
+use cli_file_stores::FileStoreFault;
+use cli_runs::BestNotShown;
 use cli_words::WordsEnd;
 use county_codes::{County, Grouping};
 use county_problem::{GroupingFault, Problem, ProblemFault};
@@ -136,7 +136,7 @@ pub enum Ending {
     /// The grouping of this problem isn't lawful.
     Unlawful(GroupingFault, Problem, Grouping),
     /// The grouping is lawful, but this text doesn't show that it is best for the problem. The first value says why.
-    NotShownBest(Unshown, FaultText, Problem),
+    NotShownBest(BestNotShown, FaultText, Problem),
     /// The audit of this grouping of the problem found something.
     Found(Findings, Problem, Grouping),
     /// This text is no certificate of the problem. The values are its first fault and the line of the fault, which
@@ -146,9 +146,9 @@ pub enum Ending {
     Budget,
     /// The file of an option could not be had. The path is that of the words. It is `None` if memory for it was
     /// refused.
-    NotLoaded(FileOption, ShelfFault, Option<String>),
+    NotLoaded(FileOption, FileStoreFault, Option<String>),
     /// The file of an option could not be stored. The path is as at `NotLoaded`.
-    NotStored(FileOption, ShelfFault, Option<String>),
+    NotStored(FileOption, FileStoreFault, Option<String>),
     /// Memory was refused.
     Memory,
     /// No grouping of the problem is lawful.
@@ -342,7 +342,7 @@ impl End {
         alloc: Global,
         option: FileOption,
         name: &str,
-        fault: ShelfFault,
+        fault: FileStoreFault,
     ) {
         self.ending = Ending::NotLoaded(option, fault, copied(alloc, name));
     }
@@ -353,7 +353,7 @@ impl End {
         alloc: Global,
         option: FileOption,
         name: &str,
-        fault: ShelfFault,
+        fault: FileStoreFault,
     ) {
         self.ending = Ending::NotStored(option, fault, copied(alloc, name));
     }

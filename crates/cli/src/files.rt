@@ -2,7 +2,7 @@
 
 ghost use Rattle.std.specs.Prelude.{◌≡◌};
 ghost use Rattle.county_problem.specs.ProblemValue.{codes_of};
-ghost use Rattle.cli_shelves.specs.History.{History};
+ghost use Rattle.cli_file_stores.specs.History.{History};
 ghost use Rattle.cli_answers.specs.Answers.{Comes};
 ghost use Rattle.cli_runs.specs.Course.{load_step};
 ghost use Rattle.cli_runs.specs.ProblemCourse.{pairs_of, pairs_in, links_in, withdrawn_in};
@@ -13,25 +13,25 @@ use crate::end::{End, FileFault, FileOption};
 use crate::readers::refuse_named;
 use adjacency_reader::{Link, apply_links, read_links, read_pairs, read_withdrawn};
 use cli_answers::{InputFile, Refusal, refuse_codes};
-use cli_shelves::Shelf;
+use cli_file_stores::FileStore;
 use cli_words::ProblemWords;
 use county_codes::{County, CountyCode, Grouping, Withdrawn, listed_codes};
 use grouping_reader::read_grouping;
 use std::alloc::Global;
 
 /// Loads the bytes of the file `name`.
-pub(crate) fn load<H: Shelf>(
+pub(crate) fn load<H: FileStore>(
     alloc: Global,
     option: FileOption,
     name: &str,
-    shelf: &mut H,
+    file_store: &mut H,
     end: &mut End,
 ) -> Result<Vec<u8>, Refusal>
-    ensures course { Comes (λ v. v.items) result (load_step (H.contents shelf.old) name.now (H.history shelf.old) (H.history shelf.new)) }
-    ensures same { H.contents shelf.new ≡ H.contents shelf.old }
-    ensures kept { H.stored shelf.new ≡ H.stored shelf.old }
+    ensures course { Comes (λ v. v.items) result (load_step (H.contents file_store.old) name.now (H.history file_store.old) (H.history file_store.new)) }
+    ensures same { H.contents file_store.new ≡ H.contents file_store.old }
+    ensures kept { H.stored file_store.new ≡ H.stored file_store.old }
 {
-    match shelf.load(alloc, name) {
+    match file_store.load(alloc, name) {
         Ok(bytes) => Ok(bytes),
         Err(fault) => Err(refuse_named(alloc, option, name, fault, end)),
     }
@@ -103,35 +103,35 @@ fn grouping_from(
 }
 
 /// Loads an adjacency file and reads its pairs of `listed` counties.
-fn load_pairs<H: Shelf>(
+fn load_pairs<H: FileStore>(
     alloc: Global,
     listed: &[CountyCode],
     name: &str,
-    shelf: &mut H,
+    file_store: &mut H,
     end: &mut End,
 ) -> Result<Vec<(CountyCode, CountyCode)>, Refusal>
-    ensures course { Comes (λ v. v.items) result (pairs_of (H.contents shelf.old) listed.now name.now (H.history shelf.old) (H.history shelf.new)) }
-    ensures same { H.contents shelf.new ≡ H.contents shelf.old }
-    ensures kept { H.stored shelf.new ≡ H.stored shelf.old }
+    ensures course { Comes (λ v. v.items) result (pairs_of (H.contents file_store.old) listed.now name.now (H.history file_store.old) (H.history file_store.new)) }
+    ensures same { H.contents file_store.new ≡ H.contents file_store.old }
+    ensures kept { H.stored file_store.new ≡ H.stored file_store.old }
 {
-    let text = load(alloc, FileOption::Adjacency, name, shelf, end)?;
+    let text = load(alloc, FileOption::Adjacency, name, file_store, end)?;
     pairs_from(alloc, listed, text, end)
 }
 
 /// Loads and reads the links of the file `name`. Returns none if no file is named.
-fn load_links<H: Shelf>(
+fn load_links<H: FileStore>(
     alloc: Global,
     name: Option<&str>,
-    shelf: &mut H,
+    file_store: &mut H,
     end: &mut End,
 ) -> Result<Vec<Link>, Refusal>
-    ensures course { Comes (λ v. v.items) result (links_of (H.contents shelf.old) name.entry (H.history shelf.old) (H.history shelf.new)) }
-    ensures same { H.contents shelf.new ≡ H.contents shelf.old }
-    ensures kept { H.stored shelf.new ≡ H.stored shelf.old }
+    ensures course { Comes (λ v. v.items) result (links_of (H.contents file_store.old) name.entry (H.history file_store.old) (H.history file_store.new)) }
+    ensures same { H.contents file_store.new ≡ H.contents file_store.old }
+    ensures kept { H.stored file_store.new ≡ H.stored file_store.old }
 {
     match name {
         Some(name) => {
-            let text = load(alloc, FileOption::Links, name, shelf, end)?;
+            let text = load(alloc, FileOption::Links, name, file_store, end)?;
             links_from(alloc, text, end)
         }
         None => Ok(Vec::new(alloc)),
@@ -139,19 +139,19 @@ fn load_links<H: Shelf>(
 }
 
 /// Loads and reads the withdrawn sets of the file `name`. Returns none if no file is named.
-pub(crate) fn load_withdrawn<H: Shelf>(
+pub(crate) fn load_withdrawn<H: FileStore>(
     alloc: Global,
     name: Option<&str>,
-    shelf: &mut H,
+    file_store: &mut H,
     end: &mut End,
 ) -> Result<Vec<Withdrawn>, Refusal>
-    ensures course { Comes (λ v. v.items) result (withdrawn_of (H.contents shelf.old) name.entry (H.history shelf.old) (H.history shelf.new)) }
-    ensures same { H.contents shelf.new ≡ H.contents shelf.old }
-    ensures kept { H.stored shelf.new ≡ H.stored shelf.old }
+    ensures course { Comes (λ v. v.items) result (withdrawn_of (H.contents file_store.old) name.entry (H.history file_store.old) (H.history file_store.new)) }
+    ensures same { H.contents file_store.new ≡ H.contents file_store.old }
+    ensures kept { H.stored file_store.new ≡ H.stored file_store.old }
 {
     match name {
         Some(name) => {
-            let text = load(alloc, FileOption::Withdrawn, name, shelf, end)?;
+            let text = load(alloc, FileOption::Withdrawn, name, file_store, end)?;
             withdrawn_from(alloc, text, end)
         }
         None => Ok(Vec::new(alloc)),
@@ -159,37 +159,37 @@ pub(crate) fn load_withdrawn<H: Shelf>(
 }
 
 /// Returns the adjacent pairs: those of the adjacency file, with the links applied to them.
-pub(crate) fn load_adjacency<H: Shelf>(
+pub(crate) fn load_adjacency<H: FileStore>(
     alloc: Global,
     counties: &[County],
     words: ProblemWords<'_>,
-    shelf: &mut H,
+    file_store: &mut H,
     end: &mut End,
 ) -> Result<Vec<(CountyCode, CountyCode)>, Refusal>
-    ensures course { Comes (λ v. v.items) result (adjacency_of (H.contents shelf.old) (codes_of counties.now) words.entry (H.history shelf.old) (H.history shelf.new)) }
-    ensures same { H.contents shelf.new ≡ H.contents shelf.old }
-    ensures kept { H.stored shelf.new ≡ H.stored shelf.old }
+    ensures course { Comes (λ v. v.items) result (adjacency_of (H.contents file_store.old) (codes_of counties.now) words.entry (H.history file_store.old) (H.history file_store.new)) }
+    ensures same { H.contents file_store.new ≡ H.contents file_store.old }
+    ensures kept { H.stored file_store.new ≡ H.stored file_store.old }
 {
     let listed = listed_codes(alloc, counties)?;
-    let pairs = load_pairs(alloc, &listed, words.adjacency, shelf, end)?;
-    let links = load_links(alloc, words.links, shelf, end)?;
+    let pairs = load_pairs(alloc, &listed, words.adjacency, file_store, end)?;
+    let links = load_links(alloc, words.links, file_store, end)?;
     note_links(alloc, &listed, &pairs, &links, end);
     let linked = apply_links(alloc, &pairs, &links)?;
     Ok(linked)
 }
 
 /// Loads the file that `option` names, and reads its grouping.
-pub(crate) fn load_grouping<H: Shelf>(
+pub(crate) fn load_grouping<H: FileStore>(
     alloc: Global,
     option: FileOption,
     name: &str,
-    shelf: &mut H,
+    file_store: &mut H,
     end: &mut End,
 ) -> Result<Grouping, Refusal>
-    ensures course { Comes (λ g. g.groups.items) result (grouping_of (H.contents shelf.old) name.now (H.history shelf.old) (H.history shelf.new)) }
-    ensures same { H.contents shelf.new ≡ H.contents shelf.old }
-    ensures kept { H.stored shelf.new ≡ H.stored shelf.old }
+    ensures course { Comes (λ g. g.groups.items) result (grouping_of (H.contents file_store.old) name.now (H.history file_store.old) (H.history file_store.new)) }
+    ensures same { H.contents file_store.new ≡ H.contents file_store.old }
+    ensures kept { H.stored file_store.new ≡ H.stored file_store.old }
 {
-    let text = load(alloc, option, name, shelf, end)?;
+    let text = load(alloc, option, name, file_store, end)?;
     grouping_from(alloc, option, text, end)
 }

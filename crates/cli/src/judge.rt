@@ -1,8 +1,8 @@
 //! The subcommand `judge`.
 
 ghost use Rattle.std.specs.Prelude.{◌≡◌, ◌≤◌, List, option_map};
-ghost use Rattle.cli_shelves.specs.Files.{NamedFile};
-ghost use Rattle.cli_shelves.specs.History.{History};
+ghost use Rattle.cli_file_stores.specs.Files.{NamedFile};
+ghost use Rattle.cli_file_stores.specs.History.{History};
 ghost use Rattle.cli_answers.specs.Answers.{Comes, said_by};
 ghost use Rattle.cli_runs.specs.JudgeWithCertificate.{certificate_text_of};
 ghost use Rattle.cli_runs.specs.JudgeCourse.{judge_step, judge_course};
@@ -16,39 +16,43 @@ use crate::files::{load, load_grouping};
 use crate::problem::load_tabled_problem;
 use crate::storing::store_reported;
 use cli_answers::{Refusal, RunAnswer, refuse_verdict};
-use cli_runs::{Judged, Reported, Tabled, Unshown, judge_and_say};
-use cli_shelves::Shelf;
+use cli_file_stores::FileStore;
+use cli_runs::{BestNotShown, Judged, Reported, Tabled, judge_and_report};
 use cli_words::{CommandWords, JudgeWords};
 use county_codes::Grouping;
 use county_problem::{Problem, judge as judge_grouping};
 use std::alloc::Global;
 
 /// Loads the text of a certificate, if `name` is given.
-fn load_certificate<H: Shelf>(
+fn load_certificate<H: FileStore>(
     alloc: Global,
     name: Option<&str>,
-    shelf: &mut H,
+    file_store: &mut H,
     end: &mut End,
 ) -> Result<Option<Vec<u8>>, Refusal>
-    ensures course { Comes (option_map (λ t. t.items)) result (certificate_text_of (H.contents shelf.old) name.entry (H.history shelf.old) (H.history shelf.new)) }
-    ensures same { H.contents shelf.new ≡ H.contents shelf.old }
-    ensures kept { H.stored shelf.new ≡ H.stored shelf.old }
+    ensures course { Comes (option_map (λ t. t.items)) result (certificate_text_of (H.contents file_store.old) name.entry (H.history file_store.old) (H.history file_store.new)) }
+    ensures same { H.contents file_store.new ≡ H.contents file_store.old }
+    ensures kept { H.stored file_store.new ≡ H.stored file_store.old }
 {
     match name {
         Some(name) => {
-            let text = load(alloc, FileOption::Certificate, name, shelf, end)?;
+            let text = load(alloc, FileOption::Certificate, name, file_store, end)?;
             Ok(Some(text))
         }
         None => Ok(None),
     }
 }
 
-/// Returns the ending of a run whose grouping is lawful. `unshown` says why the certificate doesn't show that the
-/// grouping is best, if it doesn't.
-fn lawful_end(unshown: Option<Unshown>, certificate: Option<Vec<u8>>, problem: Problem) -> Ending {
-    match (unshown, certificate) {
-        (Some(unshown), Some(text)) => Ending::NotShownBest(
-            unshown,
+/// Returns the ending of a run whose grouping is lawful. `best_not_shown` says why the certificate doesn't show that
+/// the grouping is best, if it doesn't.
+fn lawful_end(
+    best_not_shown: Option<BestNotShown>,
+    certificate: Option<Vec<u8>>,
+    problem: Problem,
+) -> Ending {
+    match (best_not_shown, certificate) {
+        (Some(best_not_shown), Some(text)) => Ending::NotShownBest(
+            best_not_shown,
             FaultText::Whole(text),
             problem,
         ),
@@ -72,10 +76,11 @@ fn verdict(
     match judge_grouping(alloc, &tabled.problem, &grouping) {
         Ok(own) => {
             let text = certificate.as_ref();
-            let Judged { reported, unshown } = judge_and_say(
-                alloc, &tabled, grouping, own, text, budget,
-            )?;
-            end.note(lawful_end(unshown, certificate, tabled.problem));
+            let Judged {
+                reported,
+                best_not_shown,
+            } = judge_and_report(alloc, &tabled, grouping, own, text, budget)?;
+            end.note(lawful_end(best_not_shown, certificate, tabled.problem));
             Ok(reported)
         }
         Err(fault) => {
@@ -86,37 +91,37 @@ fn verdict(
 }
 
 /// Returns what is said of the grouping of a file, before anything is stored.
-fn judge_files<H: Shelf>(
+fn judge_files<H: FileStore>(
     alloc: Global,
     words: JudgeWords<'_>,
-    shelf: &mut H,
+    file_store: &mut H,
     end: &mut End,
 ) -> Result<Reported, Refusal>
     requires { words.problem.common.state ≤ 99 }
-    ensures course { Comes reported_of result (judge_course (H.contents shelf.old) words.entry (H.history shelf.old) (H.history shelf.new)) }
-    ensures same { H.contents shelf.new ≡ H.contents shelf.old }
-    ensures kept { H.stored shelf.new ≡ H.stored shelf.old }
+    ensures course { Comes reported_of result (judge_course (H.contents file_store.old) words.entry (H.history file_store.old) (H.history file_store.new)) }
+    ensures same { H.contents file_store.new ≡ H.contents file_store.old }
+    ensures kept { H.stored file_store.new ≡ H.stored file_store.old }
 {
-    let tabled = load_tabled_problem(alloc, words.problem, words.table, shelf, end)?;
-    let grouping = load_grouping(alloc, FileOption::Grouping, words.grouping, shelf, end)?;
-    let certificate = load_certificate(alloc, words.certificate, shelf, end)?;
+    let tabled = load_tabled_problem(alloc, words.problem, words.table, file_store, end)?;
+    let grouping = load_grouping(alloc, FileOption::Grouping, words.grouping, file_store, end)?;
+    let certificate = load_certificate(alloc, words.certificate, file_store, end)?;
     verdict(alloc, tabled, grouping, certificate, words.budget, end)
 }
 
 /// Judges whether a grouping is lawful, and with a certificate whether it is best. The problem is built first. Then the
 /// grouping is loaded and read, and then the certificate is loaded. If the grouping is lawful, its table is then
 /// stored. The first fault met is the answer.
-pub(crate) fn judge<H: Shelf>(
+pub(crate) fn judge<H: FileStore>(
     alloc: Global,
     words: JudgeWords<'_>,
-    shelf: &mut H,
+    file_store: &mut H,
     end: &mut End,
 ) -> Result<RunAnswer, Refusal>
     requires { words.problem.common.state ≤ 99 }
     ensures { (stored : List NamedFile)
-        × HasStored (H.contents shelf.old) (H.contents shelf.new) (H.stored shelf.old) (H.stored shelf.new) stored
-        × CommandRun (H.contents shelf.old) (CommandWords.Judge words.entry) (H.history shelf.old) (H.history shelf.new) stored (said_by result) }
+        × HasStored (H.contents file_store.old) (H.contents file_store.new) (H.stored file_store.old) (H.stored file_store.new) stored
+        × CommandRun (H.contents file_store.old) (CommandWords.Judge words.entry) (H.history file_store.old) (H.history file_store.new) stored (said_by result) }
 {
-    let reported = judge_files(alloc, words, shelf, end)?;
-    store_reported(alloc, words.table, reported, shelf, end)
+    let reported = judge_files(alloc, words, file_store, end)?;
+    store_reported(alloc, words.table, reported, file_store, end)
 }

@@ -29,9 +29,9 @@ mod withdrawn_warnings;
 
 pub use branch_bound::{NoWatcher, Watcher};
 pub use case::{MAX_CASE, run_case, run_case_with_end};
-pub use cli_shelves::{
-    EventLog, FileReader, FileShelf, GivenBytes, MAX_FILE, MemoryFile, MemoryReader, MemoryShelf,
-    ReadEnd, Shelf, ShelfFault, Sink, SinkFault, WholeFault, Writing,
+pub use cli_file_stores::{
+    DiskFileStore, EventLog, FileReader, FileStore, FileStoreFault, GivenBytes, MAX_FILE,
+    MemoryFile, MemoryFileStore, MemoryReader, ReadEnd, Sink, SinkFault, WholeFault, Writing,
 };
 pub use command::{run, run_with_end};
 pub use end::{End, Ending, FileFault, FileOption};

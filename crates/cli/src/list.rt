@@ -1,7 +1,7 @@
 //! The subcommand `list`.
 
 ghost use Rattle.std.specs.Prelude.{◌≡◌, ◌≤◌, List, option_map};
-ghost use Rattle.cli_shelves.specs.Files.{NamedFile};
+ghost use Rattle.cli_file_stores.specs.Files.{NamedFile};
 ghost use Rattle.cli_answers.specs.Answers.{Comes, said_by};
 ghost use Rattle.cli_runs.specs.Storing.{HasStored, store_steps};
 ghost use Rattle.cli_runs.specs.ListCourse.{list_course, listed_files, which_of};
@@ -15,8 +15,8 @@ use crate::files::{load, load_grouping};
 use crate::problem::load_tabled_problem;
 use crate::storing::store_named;
 use cli_answers::{Refusal, RunAnswer};
-use cli_runs::{Asked, ListEnd, Listed, list_and_say};
-use cli_shelves::Shelf;
+use cli_file_stores::FileStore;
+use cli_runs::{Asked, ListEnd, Listed, list_and_report};
 use cli_words::{CommandWords, ListWords, StoredWords};
 use county_codes::Grouping;
 use county_problem::Problem;
@@ -61,19 +61,19 @@ fn listed_end(end: ListEnd, text: Vec<u8>, problem: Problem) -> Ending {
 }
 
 /// Loads the grouping whose number is asked for, if `name` is given.
-fn load_which<H: Shelf>(
+fn load_which<H: FileStore>(
     alloc: Global,
     name: Option<&str>,
-    shelf: &mut H,
+    file_store: &mut H,
     end: &mut End,
 ) -> Result<Option<Grouping>, Refusal>
-    ensures course { Comes (option_map (λ g. g.groups.items)) result (which_of (H.contents shelf.old) name.entry (H.history shelf.old) (H.history shelf.new)) }
-    ensures same { H.contents shelf.new ≡ H.contents shelf.old }
-    ensures kept { H.stored shelf.new ≡ H.stored shelf.old }
+    ensures course { Comes (option_map (λ g. g.groups.items)) result (which_of (H.contents file_store.old) name.entry (H.history file_store.old) (H.history file_store.new)) }
+    ensures same { H.contents file_store.new ≡ H.contents file_store.old }
+    ensures kept { H.stored file_store.new ≡ H.stored file_store.old }
 {
     match name {
         Some(name) => {
-            let grouping = load_grouping(alloc, FileOption::Which, name, shelf, end)?;
+            let grouping = load_grouping(alloc, FileOption::Which, name, file_store, end)?;
             Ok(Some(grouping))
         }
         None => Ok(None),
@@ -81,45 +81,45 @@ fn load_which<H: Shelf>(
 }
 
 /// Returns what `list` says of the certificate of a file, before anything is stored.
-fn list_files<H: Shelf>(
+fn list_files<H: FileStore>(
     alloc: Global,
     words: ListWords<'_>,
-    shelf: &mut H,
+    file_store: &mut H,
     end: &mut End,
 ) -> Result<Listed, Refusal>
     requires { words.check.problem.common.state ≤ 99 }
-    ensures course { Comes listed_of result (list_course (H.contents shelf.old) words.entry (H.history shelf.old) (H.history shelf.new)) }
-    ensures same { H.contents shelf.new ≡ H.contents shelf.old }
-    ensures kept { H.stored shelf.new ≡ H.stored shelf.old }
+    ensures course { Comes listed_of result (list_course (H.contents file_store.old) words.entry (H.history file_store.old) (H.history file_store.new)) }
+    ensures same { H.contents file_store.new ≡ H.contents file_store.old }
+    ensures kept { H.stored file_store.new ≡ H.stored file_store.old }
 {
-    let tabled = load_tabled_problem(alloc, words.check.problem, words.groupings, shelf, end)?;
-    let which = load_which(alloc, words.which, shelf, end)?;
+    let tabled = load_tabled_problem(alloc, words.check.problem, words.groupings, file_store, end)?;
+    let which = load_which(alloc, words.which, file_store, end)?;
     let text = load(
         alloc,
         FileOption::Certificate,
         words.check.certificate,
-        shelf,
+        file_store,
         end,
     )?;
     let number = number_in(words.stored);
     let asked = Asked { number, which };
-    let listed = list_and_say(alloc, &tabled, &text, words.check.budget, &asked)?;
+    let listed = list_and_report(alloc, &tabled, &text, words.check.budget, &asked)?;
     end.note(listed_end(listed.end, text, tabled.problem));
     Ok(listed)
 }
 
 /// Stores the grouping of the number, and then the table of all groupings. Each is stored if there is one and its file
 /// is named.
-fn store_listed<H: Shelf>(
+fn store_listed<H: FileStore>(
     alloc: Global,
     words: ListWords<'_>,
     listed: &Listed,
-    shelf: &mut H,
+    file_store: &mut H,
     end: &mut End,
 ) -> Result<(), Refusal>
     ensures { (stored : List NamedFile)
-        × HasStored (H.contents shelf.old) (H.contents shelf.new) (H.stored shelf.old) (H.stored shelf.new) stored
-        × store_steps (listed_files words.entry (listed_of listed.now)) (H.history shelf.old) (H.history shelf.new) stored (refusal_by result) }
+        × HasStored (H.contents file_store.old) (H.contents file_store.new) (H.stored file_store.old) (H.stored file_store.new) stored
+        × store_steps (listed_files words.entry (listed_of listed.now)) (H.history file_store.old) (H.history file_store.new) stored (refusal_by result) }
 {
     let out = out_in(words.stored);
     store_named(
@@ -127,7 +127,7 @@ fn store_listed<H: Shelf>(
         FileOption::Out,
         out,
         listed.grouping.as_ref(),
-        shelf,
+        file_store,
         end,
     )?;
     store_named(
@@ -135,7 +135,7 @@ fn store_listed<H: Shelf>(
         FileOption::Groupings,
         words.groupings,
         listed.table.as_ref(),
-        shelf,
+        file_store,
         end,
     )
 }
@@ -143,19 +143,19 @@ fn store_listed<H: Shelf>(
 /// Returns all best groupings, as a certificate shows them. The problem is built first. Then the grouping whose number
 /// is asked for is loaded, and then the certificate. The grouping of a number and the table of all groupings are stored
 /// if the words name their files. The first fault met is the answer.
-pub(crate) fn list<H: Shelf>(
+pub(crate) fn list<H: FileStore>(
     alloc: Global,
     words: ListWords<'_>,
-    shelf: &mut H,
+    file_store: &mut H,
     end: &mut End,
 ) -> Result<RunAnswer, Refusal>
     requires { words.check.problem.common.state ≤ 99 }
     ensures { (stored : List NamedFile)
-        × HasStored (H.contents shelf.old) (H.contents shelf.new) (H.stored shelf.old) (H.stored shelf.new) stored
-        × CommandRun (H.contents shelf.old) (CommandWords.List words.entry) (H.history shelf.old) (H.history shelf.new) stored (said_by result) }
+        × HasStored (H.contents file_store.old) (H.contents file_store.new) (H.stored file_store.old) (H.stored file_store.new) stored
+        × CommandRun (H.contents file_store.old) (CommandWords.List words.entry) (H.history file_store.old) (H.history file_store.new) stored (said_by result) }
 {
-    let listed = list_files(alloc, words, shelf, end)?;
-    match store_listed(alloc, words, &listed, shelf, end) {
+    let listed = list_files(alloc, words, file_store, end)?;
+    match store_listed(alloc, words, &listed, file_store, end) {
         Ok(()) => Ok(listed.answer),
         Err(refusal) => {
             end.note_report(listed.answer.text);

@@ -1,7 +1,7 @@
 //! The subcommand `piece`.
 
 ghost use Rattle.std.specs.Prelude.{◌≡◌, ◌≤◌, map, length};
-ghost use Rattle.cli_shelves.specs.History.{History};
+ghost use Rattle.cli_file_stores.specs.History.{History};
 ghost use Rattle.share_board.specs.Events.{event_of};
 ghost use Rattle.cli_answers.specs.Answers.{answer_of, Comes};
 ghost use Rattle.cli_runs.specs.PieceCourse.{said_step, piece_course};
@@ -11,8 +11,8 @@ use crate::end::{End, Ending, FileOption};
 use crate::files::load_grouping;
 use crate::problem::load_problem;
 use cli_answers::{Refusal, RunAnswer, refuse_board};
-use cli_runs::{PieceEnd, piece_and_say};
-use cli_shelves::Shelf;
+use cli_file_stores::FileStore;
+use cli_runs::{PieceEnd, piece_and_report};
 use cli_words::PieceWords;
 use county_codes::Grouping;
 use county_problem::Problem;
@@ -40,7 +40,7 @@ fn proved(
     ensures { (history : History)
         → Comes answer_of result (said_step problem.now grouping.now.groups.items words.entry (map event_of events.items) history history) }
 {
-    match piece_and_say(alloc, problem, grouping, words, events) {
+    match piece_and_report(alloc, problem, grouping, words, events) {
         Ok(said) => {
             end.note(piece_end(said.end));
             Ok(said.answer)
@@ -54,25 +54,32 @@ fn proved(
 
 /// Returns what the solver answers for one piece of a board. All files are read before the board is opened. The first
 /// fault met is the answer.
-pub(crate) fn piece<H: Shelf>(
+pub(crate) fn piece<H: FileStore>(
     alloc: Global,
     words: PieceWords<'_>,
-    shelf: &mut H,
+    file_store: &mut H,
     end: &mut End,
 ) -> Result<RunAnswer, Refusal>
     requires { words.board.problem.common.state ≤ 99 }
-    ensures course { Comes answer_of result (piece_course (H.contents shelf.old) words.entry (H.history shelf.old) (H.history shelf.new)) }
-    ensures same { H.contents shelf.new ≡ H.contents shelf.old }
-    ensures kept { H.stored shelf.new ≡ H.stored shelf.old }
+    ensures course { Comes answer_of result (piece_course (H.contents file_store.old) words.entry (H.history file_store.old) (H.history file_store.new)) }
+    ensures same { H.contents file_store.new ≡ H.contents file_store.old }
+    ensures kept { H.stored file_store.new ≡ H.stored file_store.old }
 {
-    let problem = load_problem(alloc, words.board.problem, shelf, end)?;
+    let problem = load_problem(alloc, words.board.problem, file_store, end)?;
     let grouping = load_grouping(
         alloc,
         FileOption::Grouping,
         words.board.grouping,
-        shelf,
+        file_store,
         end,
     )?;
-    let events = load_named_events(alloc, words.events, words.board.round, &problem, shelf, end)?;
+    let events = load_named_events(
+        alloc,
+        words.events,
+        words.board.round,
+        &problem,
+        file_store,
+        end,
+    )?;
     proved(alloc, &problem, &grouping, events, words, end)
 }

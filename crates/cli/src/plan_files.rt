@@ -1,7 +1,7 @@
 //! The assignments of census blocks that the file of a plan gives.
 
 ghost use Rattle.std.specs.Prelude.{◌≡◌, ◌≤◌, IfOk, vec_len};
-ghost use Rattle.cli_shelves.specs.History.{History};
+ghost use Rattle.cli_file_stores.specs.History.{History};
 ghost use Rattle.cli_answers.specs.Answers.{Comes};
 ghost use Rattle.cli_runs.specs.PlanCourse.{assignments_in, plan_assignments};
 
@@ -9,7 +9,7 @@ use crate::end::{End, FileFault, FileOption};
 use crate::files::load;
 use baf_auditor::{Assignment, read_assignments};
 use cli_answers::{Refusal, refuse_assignments};
-use cli_shelves::Shelf;
+use cli_file_stores::FileStore;
 use std::alloc::Global;
 
 /// Reads the assignments in the `text` of a file.
@@ -27,17 +27,17 @@ fn assignments_from(alloc: Global, text: Vec<u8>, end: &mut End) -> Result<Vec<A
 }
 
 /// Loads the file `name` and reads its assignments.
-pub(crate) fn load_assignments<H: Shelf>(
+pub(crate) fn load_assignments<H: FileStore>(
     alloc: Global,
     name: &str,
-    shelf: &mut H,
+    file_store: &mut H,
     end: &mut End,
 ) -> Result<Vec<Assignment>, Refusal>
-    ensures course { Comes (λ v. v.items) result (plan_assignments (H.contents shelf.old) name.now (H.history shelf.old) (H.history shelf.new)) }
+    ensures course { Comes (λ v. v.items) result (plan_assignments (H.contents file_store.old) name.now (H.history file_store.old) (H.history file_store.new)) }
     ensures few { IfOk result (λ v. vec_len v ≤ 4000000) }
-    ensures same { H.contents shelf.new ≡ H.contents shelf.old }
-    ensures kept { H.stored shelf.new ≡ H.stored shelf.old }
+    ensures same { H.contents file_store.new ≡ H.contents file_store.old }
+    ensures kept { H.stored file_store.new ≡ H.stored file_store.old }
 {
-    let text = load(alloc, FileOption::Assignments, name, shelf, end)?;
+    let text = load(alloc, FileOption::Assignments, name, file_store, end)?;
     assignments_from(alloc, text, end)
 }

@@ -1,7 +1,7 @@
 //! The problem that a command works on.
 
 ghost use Rattle.std.specs.Prelude.{◌≡◌, ◌≤◌};
-ghost use Rattle.cli_shelves.specs.History.{History};
+ghost use Rattle.cli_file_stores.specs.History.{History};
 ghost use Rattle.cli_answers.specs.Answers.{Comes};
 ghost use Rattle.cli_runs.specs.ProblemCourse.{build_step, problem_over, problem_course};
 ghost use Rattle.cli_runs.specs.TableCourse.{named_problem_in, tabled_problem_in};
@@ -12,8 +12,8 @@ use crate::end::End;
 use crate::files::{load_adjacency, load_withdrawn};
 use crate::withdrawn_warnings::note_withdrawn;
 use cli_answers::{Refusal, refuse_problem};
+use cli_file_stores::FileStore;
 use cli_runs::Tabled;
-use cli_shelves::Shelf;
 use cli_words::ProblemWords;
 use county_codes::{County, CountyCode, Window, Withdrawn};
 use county_problem::Problem;
@@ -42,19 +42,19 @@ pub(crate) fn build(
 }
 
 /// Builds the problem of these `counties`. The other files are loaded and read in turn before it is built.
-fn load_problem_over<H: Shelf>(
+fn load_problem_over<H: FileStore>(
     alloc: Global,
     words: ProblemWords<'_>,
     counties: &[County],
-    shelf: &mut H,
+    file_store: &mut H,
     end: &mut End,
 ) -> Result<Problem, Refusal>
-    ensures course { Comes (λ p. p) result (problem_over (H.contents shelf.old) words.entry counties.now (H.history shelf.old) (H.history shelf.new)) }
-    ensures same { H.contents shelf.new ≡ H.contents shelf.old }
-    ensures kept { H.stored shelf.new ≡ H.stored shelf.old }
+    ensures course { Comes (λ p. p) result (problem_over (H.contents file_store.old) words.entry counties.now (H.history file_store.old) (H.history file_store.new)) }
+    ensures same { H.contents file_store.new ≡ H.contents file_store.old }
+    ensures kept { H.stored file_store.new ≡ H.stored file_store.old }
 {
-    let pairs = load_adjacency(alloc, counties, words, shelf, end)?;
-    let withdrawn = load_withdrawn(alloc, words.withdrawn, shelf, end)?;
+    let pairs = load_adjacency(alloc, counties, words, file_store, end)?;
+    let withdrawn = load_withdrawn(alloc, words.withdrawn, file_store, end)?;
     note_withdrawn(alloc, counties, &pairs, &withdrawn, words.common, end);
     build(
         alloc,
@@ -68,38 +68,38 @@ fn load_problem_over<H: Shelf>(
 }
 
 /// Builds the problem of the files. They are loaded and read in turn before it is built.
-pub(crate) fn load_problem<H: Shelf>(
+pub(crate) fn load_problem<H: FileStore>(
     alloc: Global,
     words: ProblemWords<'_>,
-    shelf: &mut H,
+    file_store: &mut H,
     end: &mut End,
 ) -> Result<Problem, Refusal>
     requires { words.common.state ≤ 99 }
-    ensures course { Comes (λ p. p) result (problem_course (H.contents shelf.old) words.entry (H.history shelf.old) (H.history shelf.new)) }
-    ensures same { H.contents shelf.new ≡ H.contents shelf.old }
-    ensures kept { H.stored shelf.new ≡ H.stored shelf.old }
+    ensures course { Comes (λ p. p) result (problem_course (H.contents file_store.old) words.entry (H.history file_store.old) (H.history file_store.new)) }
+    ensures same { H.contents file_store.new ≡ H.contents file_store.old }
+    ensures kept { H.stored file_store.new ≡ H.stored file_store.old }
 {
-    let counties = load_counties(alloc, words.common, shelf, end)?;
-    load_problem_over(alloc, words, &counties, shelf, end)
+    let counties = load_counties(alloc, words.common, file_store, end)?;
+    load_problem_over(alloc, words, &counties, file_store, end)
 }
 
 /// Builds the problem of the files, and keeps the names of its counties. The census files are loaded and read first,
 /// and then the other files.
-fn load_named_problem<H: Shelf>(
+fn load_named_problem<H: FileStore>(
     alloc: Global,
     words: ProblemWords<'_>,
-    shelf: &mut H,
+    file_store: &mut H,
     end: &mut End,
 ) -> Result<Tabled, Refusal>
     requires { words.common.state ≤ 99 }
-    ensures course { Comes tabled_of result (named_problem_in (H.contents shelf.old) words.entry (H.history shelf.old) (H.history shelf.new)) }
-    ensures same { H.contents shelf.new ≡ H.contents shelf.old }
-    ensures kept { H.stored shelf.new ≡ H.stored shelf.old }
+    ensures course { Comes tabled_of result (named_problem_in (H.contents file_store.old) words.entry (H.history file_store.old) (H.history file_store.new)) }
+    ensures same { H.contents file_store.new ≡ H.contents file_store.old }
+    ensures kept { H.stored file_store.new ≡ H.stored file_store.old }
 {
-    let named = load_named_counties(alloc, words.common, shelf, end)?;
+    let named = load_named_counties(alloc, words.common, file_store, end)?;
     let counties = without_names(alloc, &named)?;
     end.note_people(&counties);
-    let problem = load_problem_over(alloc, words, &counties, shelf, end)?;
+    let problem = load_problem_over(alloc, words, &counties, file_store, end)?;
     Ok(Tabled {
         problem,
         named: Some(named),
@@ -107,22 +107,22 @@ fn load_named_problem<H: Shelf>(
 }
 
 /// Builds the problem of the files. The names of its counties are kept if `table` names the file of a table.
-pub(crate) fn load_tabled_problem<H: Shelf>(
+pub(crate) fn load_tabled_problem<H: FileStore>(
     alloc: Global,
     words: ProblemWords<'_>,
     table: Option<&str>,
-    shelf: &mut H,
+    file_store: &mut H,
     end: &mut End,
 ) -> Result<Tabled, Refusal>
     requires { words.common.state ≤ 99 }
-    ensures course { Comes tabled_of result (tabled_problem_in (H.contents shelf.old) words.entry table.entry (H.history shelf.old) (H.history shelf.new)) }
-    ensures same { H.contents shelf.new ≡ H.contents shelf.old }
-    ensures kept { H.stored shelf.new ≡ H.stored shelf.old }
+    ensures course { Comes tabled_of result (tabled_problem_in (H.contents file_store.old) words.entry table.entry (H.history file_store.old) (H.history file_store.new)) }
+    ensures same { H.contents file_store.new ≡ H.contents file_store.old }
+    ensures kept { H.stored file_store.new ≡ H.stored file_store.old }
 {
     match table {
-        Some(_) => load_named_problem(alloc, words, shelf, end),
+        Some(_) => load_named_problem(alloc, words, file_store, end),
         None => {
-            let problem = load_problem(alloc, words, shelf, end)?;
+            let problem = load_problem(alloc, words, file_store, end)?;
             Ok(Tabled {
                 problem,
                 named: None,

@@ -3,98 +3,98 @@
 ghost use Rattle.std.specs.Prelude.{◌≡◌, false, Ok, Err, IfOk, OnOk, MatchResult};
 ghost use Rattle.field_lines.specs.Source.{nothing_given};
 ghost use Rattle.cli_answers.specs.Answers.{Comes, AnswerMeets, RefusalShows};
-ghost use Rattle.cli_answers.specs.Refusals.{shelf_answer};
+ghost use Rattle.cli_answers.specs.Refusals.{file_store_answer};
 ghost use Rattle.cli_runs.specs.Reading.{open_step, read_both};
 ghost use Rattle.cli.specs.Streams.{given_back, both_given_back, AreBack};
 
 use crate::end::{End, FileOption};
 use cli_answers::{Refusal, refuse_load};
-use cli_shelves::{ReadEnd, Shelf, ShelfFault};
+use cli_file_stores::{FileStore, FileStoreFault, ReadEnd};
 use cli_words::CommonWords;
 use std::alloc::Global;
 
-/// Returns the refusal of the shelf's `fault` for the file of `option`, and notes it at `end`.
+/// Returns the refusal of the file store's `fault` for the file of `option`, and notes it at `end`.
 pub(crate) fn refuse_named(
     alloc: Global,
     option: FileOption,
     name: &str,
-    fault: ShelfFault,
+    fault: FileStoreFault,
     end: &mut End,
 ) -> Refusal
-    ensures { RefusalShows (shelf_answer name.now fault) result }
+    ensures { RefusalShows (file_store_answer name.now fault) result }
 {
     end.note_unloaded(alloc, option, name, fault);
     refuse_load(alloc, name, fault)
 }
 
 /// Opens the file of `option`, and returns its reader.
-pub(crate) fn open<H: Shelf>(
+pub(crate) fn open<H: FileStore>(
     alloc: Global,
     option: FileOption,
     name: &str,
-    shelf: &mut H,
+    file_store: &mut H,
     end: &mut End,
 ) -> Result<H::Reader, Refusal>
-    ensures course { Comes (λ reader. tt) result (open_step (H.contents shelf.old) name.now (H.history shelf.old) (H.history shelf.new)) }
+    ensures course { Comes (λ reader. tt) result (open_step (H.contents file_store.old) name.now (H.history file_store.old) (H.history file_store.new)) }
     ensures given { IfOk result (λ reader. H.Reader.given reader ≡ nothing_given) }
     ensures sound { IfOk result (λ reader. H.Reader.is_failed reader ≡ false) }
-    ensures same { H.contents shelf.new ≡ H.contents shelf.old }
-    ensures kept { H.stored shelf.new ≡ H.stored shelf.old }
+    ensures same { H.contents file_store.new ≡ H.contents file_store.old }
+    ensures kept { H.stored file_store.new ≡ H.stored file_store.old }
 {
-    match shelf.reader(alloc, name) {
+    match file_store.reader(alloc, name) {
         Ok(reader) => Ok(reader),
         Err(fault) => Err(refuse_named(alloc, option, name, fault, end)),
     }
 }
 
 /// Gives back the reader of the file of `option`. Returns a refusal if the reader's last pull failed.
-pub(crate) fn give_one_back<H: Shelf>(
+pub(crate) fn give_one_back<H: FileStore>(
     alloc: Global,
     option: FileOption,
     name: &str,
     reader: H::Reader,
-    shelf: &mut H,
+    file_store: &mut H,
     end: &mut End,
 ) -> Result<(), Refusal>
-    ensures back { Comes (λ _. H.Reader.given reader) result (given_back (H.contents shelf.old) name.now (H.history shelf.old) (H.history shelf.new)) }
+    ensures back { Comes (λ _. H.Reader.given reader) result (given_back (H.contents file_store.old) name.now (H.history file_store.old) (H.history file_store.new)) }
     ensures sound { OnOk result (H.Reader.is_failed reader ≡ false) }
-    ensures same { H.contents shelf.new ≡ H.contents shelf.old }
-    ensures kept { H.stored shelf.new ≡ H.stored shelf.old }
+    ensures same { H.contents file_store.new ≡ H.contents file_store.old }
+    ensures kept { H.stored file_store.new ≡ H.stored file_store.old }
 {
-    match shelf.give_back(name, reader) {
+    match file_store.give_back(name, reader) {
         Ok(_) => Ok(()),
         Err(fault) => Err(refuse_named(alloc, option, name, fault, end)),
     }
 }
 
 /// Opens both census files, the geographic header first. Returns the reader of the header and then that of segment 1.
-pub(crate) fn open_both<H: Shelf>(
+pub(crate) fn open_both<H: FileStore>(
     alloc: Global,
     words: CommonWords<'_>,
-    shelf: &mut H,
+    file_store: &mut H,
     end: &mut End,
 ) -> Result<(H::Reader, H::Reader), Refusal>
     ensures opened { MatchResult
         result
-        (λ _. H.history shelf.new ≡ H.history shelf.old)
-        (λ refusal. AnswerMeets refusal (λ a. read_both (H.contents shelf.old) words.entry.geo.now words.entry.segment.now (H.history shelf.old) (H.history shelf.new) (Err a))) }
+        (λ _. H.history file_store.new ≡ H.history file_store.old)
+        (λ refusal. AnswerMeets refusal (λ a. read_both (H.contents file_store.old) words.entry.geo.now words.entry.segment.now (H.history file_store.old) (H.history file_store.new) (Err a))) }
     ensures given { IfOk result (λ both. (H.Reader.given both.0 ≡ nothing_given) × (H.Reader.given both.1 ≡ nothing_given)) }
     ensures sound { IfOk result (λ both. (H.Reader.is_failed both.0 ≡ false) × (H.Reader.is_failed both.1 ≡ false)) }
-    ensures same { H.contents shelf.new ≡ H.contents shelf.old }
-    ensures kept { H.stored shelf.new ≡ H.stored shelf.old }
+    ensures same { H.contents file_store.new ≡ H.contents file_store.old }
+    ensures kept { H.stored file_store.new ≡ H.stored file_store.old }
 {
-    let geo = open(alloc, FileOption::Geo, words.geo, shelf, end)?;
-    let segment = open(alloc, FileOption::Segment, words.segment, shelf, end)?;
+    let geo = open(alloc, FileOption::Geo, words.geo, file_store, end)?;
+    let segment = open(alloc, FileOption::Segment, words.segment, file_store, end)?;
     Ok((geo, segment))
 }
 
-/// Returns the refusal of a reader that failed, from what the shelf says of both. If both failed, the refusal is that
-/// of segment 1.
+/// Returns the refusal of a reader that failed, from what the file store says of both. If both failed, the refusal is
+/// that of segment 1.
 fn if_sound(
     alloc: Global,
     words: CommonWords<'_>,
-    geo: Result<ReadEnd, ShelfFault>,
-    segment: Result<ReadEnd, ShelfFault>,
+    geo: Result<ReadEnd, FileStoreFault>,
+    segment: Result<ReadEnd, FileStoreFault>,
     end: &mut End,
 ) -> Result<(), Refusal>
     ensures { AreBack words.entry.geo.now words.entry.segment.now geo segment result }
@@ -108,24 +108,24 @@ fn if_sound(
 
 /// Gives back both readers of the census files, that of segment 1 first. Returns a refusal if the last pull of one of
 /// them failed.
-pub(crate) fn give_both_back<H: Shelf>(
+pub(crate) fn give_both_back<H: FileStore>(
     alloc: Global,
     words: CommonWords<'_>,
     readers: (H::Reader, H::Reader),
-    shelf: &mut H,
+    file_store: &mut H,
     end: &mut End,
 ) -> Result<(), Refusal>
     ensures back { Comes
         (λ _. (H.Reader.given readers.0, H.Reader.given readers.1))
         result
-        (both_given_back (H.contents shelf.old) words.entry.geo.now words.entry.segment.now (H.history shelf.old) (H.history shelf.new)) }
+        (both_given_back (H.contents file_store.old) words.entry.geo.now words.entry.segment.now (H.history file_store.old) (H.history file_store.new)) }
     ensures geo_sound { OnOk result (H.Reader.is_failed readers.0 ≡ false) }
     ensures segment_sound { OnOk result (H.Reader.is_failed readers.1 ≡ false) }
-    ensures same { H.contents shelf.new ≡ H.contents shelf.old }
-    ensures kept { H.stored shelf.new ≡ H.stored shelf.old }
+    ensures same { H.contents file_store.new ≡ H.contents file_store.old }
+    ensures kept { H.stored file_store.new ≡ H.stored file_store.old }
 {
     let (geo, segment) = readers;
-    let segment_end = shelf.give_back(words.segment, segment);
-    let geo_end = shelf.give_back(words.geo, geo);
+    let segment_end = file_store.give_back(words.segment, segment);
+    let geo_end = file_store.give_back(words.geo, geo);
     if_sound(alloc, words, geo_end, segment_end, end)
 }

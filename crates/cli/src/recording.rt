@@ -1,8 +1,8 @@
 //! The record of a run, which is stored after the files of its command.
 
 ghost use Rattle.std.specs.Prelude.{◌≡◌, ◌-◌, ◌^◌, ◌∷◌, [], true, List, Option, length, min};
-ghost use Rattle.cli_shelves.specs.Files.{NamedFile};
-ghost use Rattle.cli_shelves.specs.History.{History};
+ghost use Rattle.cli_file_stores.specs.Files.{NamedFile};
+ghost use Rattle.cli_file_stores.specs.History.{History};
 ghost use Rattle.cli_record.specs.RecordFiles.{record_name_of};
 ghost use Rattle.cli_answers.specs.Answer.{Answered, memory_answer};
 ghost use Rattle.cli_answers.specs.Answers.{answer_of};
@@ -17,8 +17,8 @@ use crate::end::{End, Ending, FileOption};
 use crate::storing::store_named;
 use branch_bound::Watcher;
 use cli_answers::{Refusal, RunAnswer};
+use cli_file_stores::FileStore;
 use cli_record::{record_file, record_since};
-use cli_shelves::Shelf;
 use cli_words::CommandWords;
 use std::alloc::{AllocError, Global};
 
@@ -53,22 +53,22 @@ fn answer_after(
 }
 
 /// Stores the `bytes` of a record. Returns the answer of the run, unless the file was refused.
-fn store_bytes<H: Shelf>(
+fn store_bytes<H: FileStore>(
     alloc: Global,
     name: &str,
     bytes: Vec<u8>,
     answer: RunAnswer,
-    shelf: &mut H,
+    file_store: &mut H,
     end: &mut End,
 ) -> Result<RunAnswer, AllocError>
     ensures { (last : List NamedFile) × (refusal : Option Answered)
-        × HasStored (H.contents shelf.old) (H.contents shelf.new) (H.stored shelf.old) (H.stored shelf.new) last
+        × HasStored (H.contents file_store.old) (H.contents file_store.new) (H.stored file_store.old) (H.stored file_store.new) last
         × store_steps (record { name = name.now; bytes = bytes.items }
-        ∷ []) (H.history shelf.old) (H.history shelf.new) last refusal
+        ∷ []) (H.history file_store.old) (H.history file_store.new) last refusal
         × (said_of result ≡ said_after refusal (answer_of answer)) }
 {
     let option = FileOption::Record;
-    let handed_over = store_named(alloc, option, Some(name), Some(&bytes), shelf, end);
+    let handed_over = store_named(alloc, option, Some(name), Some(&bytes), file_store, end);
     answer_after(handed_over, answer, end)
 }
 
@@ -81,98 +81,98 @@ fn uncomposed(answer: RunAnswer, end: &mut End) -> Result<RunAnswer, AllocError>
     Err(AllocError)
 }
 
-/// Stores the record of a run whose status asks for it. The shelf had `first` events before the run.
-fn store_composed<H: Shelf>(
+/// Stores the record of a run whose status asks for it. The file store had `first` events before the run.
+fn store_composed<H: FileStore>(
     alloc: Global,
     words: &[&str],
     command: &CommandWords<'_>,
     name: &str,
     first: u64,
     answer: RunAnswer,
-    shelf: &mut H,
+    file_store: &mut H,
     end: &mut End,
 ) -> Result<RunAnswer, AllocError>
     requires { must_be_recorded answer.status ≡ true }
     ensures { (before : History) → first ≡ min (length before.events) (2 ^ 64 - 1) → (last : List NamedFile)
-        × HasStored (H.contents shelf.old) (H.contents shelf.new) (H.stored shelf.old) (H.stored shelf.new) last
-        × RecordEnds (texts words.now) command.now name.now before (H.history shelf.old) (H.history shelf.new) last (answer_of answer) (said_of result) }
+        × HasStored (H.contents file_store.old) (H.contents file_store.new) (H.stored file_store.old) (H.stored file_store.new) last
+        × RecordEnds (texts words.now) command.now name.now before (H.history file_store.old) (H.history file_store.new) last (answer_of answer) (said_of result) }
 {
     match record_since(
         alloc,
         words,
         command,
-        shelf,
+        file_store,
         first,
         answer.status,
         &answer.text,
     ) {
-        Some(bytes) => store_bytes(alloc, name, bytes, answer, shelf, end),
+        Some(bytes) => store_bytes(alloc, name, bytes, answer, file_store, end),
         None => uncomposed(answer, end),
     }
 }
 
-/// Stores the record of a run, if the answer's status asks for it. The shelf had `first` events before the run.
-fn store_record<H: Shelf>(
+/// Stores the record of a run, if the answer's status asks for it. The file store had `first` events before the run.
+fn store_record<H: FileStore>(
     alloc: Global,
     words: &[&str],
     command: &CommandWords<'_>,
     name: &str,
     first: u64,
     answer: RunAnswer,
-    shelf: &mut H,
+    file_store: &mut H,
     end: &mut End,
 ) -> Result<RunAnswer, AllocError>
     ensures { (before : History) → first ≡ min (length before.events) (2 ^ 64 - 1) → (last : List NamedFile)
-        × HasStored (H.contents shelf.old) (H.contents shelf.new) (H.stored shelf.old) (H.stored shelf.new) last
-        × RecordEnds (texts words.now) command.now name.now before (H.history shelf.old) (H.history shelf.new) last (answer_of answer) (said_of result) }
+        × HasStored (H.contents file_store.old) (H.contents file_store.new) (H.stored file_store.old) (H.stored file_store.new) last
+        × RecordEnds (texts words.now) command.now name.now before (H.history file_store.old) (H.history file_store.new) last (answer_of answer) (said_of result) }
 {
     if is_recorded(answer.status) {
-        store_composed(alloc, words, command, name, first, answer, shelf, end)
+        store_composed(alloc, words, command, name, first, answer, file_store, end)
     } else {
         Ok(answer)
     }
 }
 
 /// Runs a command whose words name a file for the record of the run, and returns its answer.
-fn answer_with_record<H: Shelf, V: Watcher>(
+fn answer_with_record<H: FileStore, V: Watcher>(
     alloc: Global,
     words: &[&str],
     command: CommandWords<'_>,
     name: &str,
-    shelf: &mut H,
+    file_store: &mut H,
     end: &mut End,
     watcher: &mut V,
 ) -> Result<RunAnswer, AllocError>
     requires { HasState command }
     ensures { (stored : List NamedFile)
-        × HasStored (H.contents shelf.old) (H.contents shelf.new) (H.stored shelf.old) (H.stored shelf.new) stored
-        × RunsWithRecord (H.contents shelf.old) (texts words.now) command.entry name.now (H.history shelf.old) (H.history shelf.new) stored (said_of result) }
+        × HasStored (H.contents file_store.old) (H.contents file_store.new) (H.stored file_store.old) (H.stored file_store.new) stored
+        × RunsWithRecord (H.contents file_store.old) (texts words.now) command.entry name.now (H.history file_store.old) (H.history file_store.new) stored (said_of result) }
 {
-    let first = shelf.events();
-    shelf.keep_sums(alloc);
-    match command_answer(alloc, command, shelf, end, watcher) {
-        Ok(answer) => store_record(alloc, words, &command, name, first, answer, shelf, end),
+    let first = file_store.events();
+    file_store.keep_sums(alloc);
+    match command_answer(alloc, command, file_store, end, watcher) {
+        Ok(answer) => store_record(alloc, words, &command, name, first, answer, file_store, end),
         Err(AllocError) => Err(AllocError),
     }
 }
 
 /// Runs a command and returns its answer. The record of the run is stored if the words name a file for it and the
 /// answer's status asks for it.
-pub(crate) fn answer_as_asked<H: Shelf, V: Watcher>(
+pub(crate) fn answer_as_asked<H: FileStore, V: Watcher>(
     alloc: Global,
     words: &[&str],
     command: CommandWords<'_>,
-    shelf: &mut H,
+    file_store: &mut H,
     end: &mut End,
     watcher: &mut V,
 ) -> Result<RunAnswer, AllocError>
     requires { HasState command }
     ensures { (stored : List NamedFile)
-        × HasStored (H.contents shelf.old) (H.contents shelf.new) (H.stored shelf.old) (H.stored shelf.new) stored
-        × RunsAsAsked (H.contents shelf.old) (texts words.now) command.entry (record_name_of command.entry) (H.history shelf.old) (H.history shelf.new) stored (said_of result) }
+        × HasStored (H.contents file_store.old) (H.contents file_store.new) (H.stored file_store.old) (H.stored file_store.new) stored
+        × RunsAsAsked (H.contents file_store.old) (texts words.now) command.entry (record_name_of command.entry) (H.history file_store.old) (H.history file_store.new) stored (said_of result) }
 {
     match record_file(&command) {
-        Some(name) => answer_with_record(alloc, words, command, name, shelf, end, watcher),
-        None => command_answer(alloc, command, shelf, end, watcher),
+        Some(name) => answer_with_record(alloc, words, command, name, file_store, end, watcher),
+        None => command_answer(alloc, command, file_store, end, watcher),
     }
 }

@@ -1,8 +1,8 @@
 //! The subcommand `share`.
 
 ghost use Rattle.std.specs.Prelude.{◌≡◌, ◌≤◌, List, map, length};
-ghost use Rattle.cli_shelves.specs.Files.{NamedFile};
-ghost use Rattle.cli_shelves.specs.History.{History};
+ghost use Rattle.cli_file_stores.specs.Files.{NamedFile};
+ghost use Rattle.cli_file_stores.specs.History.{History};
 ghost use Rattle.share_board.specs.Events.{event_of};
 ghost use Rattle.cli_answers.specs.Answers.{answer_of, Comes, said_by};
 ghost use Rattle.cli_runs.specs.Storing.{HasStored};
@@ -16,8 +16,8 @@ use crate::problem::load_problem;
 use crate::storing::store_named;
 use board_report::Shared;
 use cli_answers::{Refusal, RunAnswer, refuse_board};
+use cli_file_stores::FileStore;
 use cli_runs::share_events;
-use cli_shelves::Shelf;
 use cli_words::{CommandWords, ShareWords};
 use county_codes::Grouping;
 use county_problem::Problem;
@@ -53,26 +53,33 @@ fn taken(
 }
 
 /// Returns the outcome of `share` over the files, before anything is stored.
-fn share_files<H: Shelf>(
+fn share_files<H: FileStore>(
     alloc: Global,
     words: ShareWords<'_>,
-    shelf: &mut H,
+    file_store: &mut H,
     end: &mut End,
 ) -> Result<Shared, Refusal>
     requires { words.board.problem.common.state ≤ 99 }
-    ensures course { Comes (λ s. s) result (share_course (H.contents shelf.old) words.entry (H.history shelf.old) (H.history shelf.new)) }
-    ensures same { H.contents shelf.new ≡ H.contents shelf.old }
-    ensures kept { H.stored shelf.new ≡ H.stored shelf.old }
+    ensures course { Comes (λ s. s) result (share_course (H.contents file_store.old) words.entry (H.history file_store.old) (H.history file_store.new)) }
+    ensures same { H.contents file_store.new ≡ H.contents file_store.old }
+    ensures kept { H.stored file_store.new ≡ H.stored file_store.old }
 {
-    let problem = load_problem(alloc, words.board.problem, shelf, end)?;
+    let problem = load_problem(alloc, words.board.problem, file_store, end)?;
     let grouping = load_grouping(
         alloc,
         FileOption::Grouping,
         words.board.grouping,
-        shelf,
+        file_store,
         end,
     )?;
-    let events = load_events(alloc, words.events, words.board.round, &problem, shelf, end)?;
+    let events = load_events(
+        alloc,
+        words.events,
+        words.board.round,
+        &problem,
+        file_store,
+        end,
+    )?;
     taken(alloc, &problem, &grouping, events, words, end)
 }
 
@@ -97,24 +104,24 @@ fn shared_end(left: usize) -> Ending {
 
 /// Opens a board that takes the events that solvers have sent, and stores the certificate that it joins. All files are
 /// read before the board is opened. The first fault met is the answer.
-pub(crate) fn share<H: Shelf>(
+pub(crate) fn share<H: FileStore>(
     alloc: Global,
     words: ShareWords<'_>,
-    shelf: &mut H,
+    file_store: &mut H,
     end: &mut End,
 ) -> Result<RunAnswer, Refusal>
     requires { words.board.problem.common.state ≤ 99 }
     ensures { (stored : List NamedFile)
-        × HasStored (H.contents shelf.old) (H.contents shelf.new) (H.stored shelf.old) (H.stored shelf.new) stored
-        × CommandRun (H.contents shelf.old) (CommandWords.Share words.entry) (H.history shelf.old) (H.history shelf.new) stored (said_by result) }
+        × HasStored (H.contents file_store.old) (H.contents file_store.new) (H.stored file_store.old) (H.stored file_store.new) stored
+        × CommandRun (H.contents file_store.old) (CommandWords.Share words.entry) (H.history file_store.old) (H.history file_store.new) stored (said_by result) }
 {
-    let shared = share_files(alloc, words, shelf, end)?;
+    let shared = share_files(alloc, words, file_store, end)?;
     match store_named(
         alloc,
         FileOption::CertificateOut,
         words.certificate,
         shared.certificate.as_ref(),
-        shelf,
+        file_store,
         end,
     ) {
         Ok(()) => {

@@ -8,24 +8,24 @@ use crate::census_files::load_counties;
 use crate::end::{End, Ending};
 use crate::problem::build;
 use cli_answers::{Refusal, RunAnswer};
-use cli_shelves::Shelf;
+use cli_file_stores::FileStore;
 use cli_words::CommonWords;
 use grouping_report::size_table;
 use std::alloc::Global;
 
 /// Returns the size table of the counties. The first fault met is the answer.
-pub(crate) fn size<H: Shelf>(
+pub(crate) fn size<H: FileStore>(
     alloc: Global,
     words: CommonWords<'_>,
-    shelf: &mut H,
+    file_store: &mut H,
     end: &mut End,
 ) -> Result<RunAnswer, Refusal>
     requires { words.state ≤ 99 }
-    ensures course { Comes answer_of result (size_course (H.contents shelf.old) words.entry (H.history shelf.old) (H.history shelf.new)) }
-    ensures same { H.contents shelf.new ≡ H.contents shelf.old }
-    ensures kept { H.stored shelf.new ≡ H.stored shelf.old }
+    ensures course { Comes answer_of result (size_course (H.contents file_store.old) words.entry (H.history file_store.old) (H.history file_store.new)) }
+    ensures same { H.contents file_store.new ≡ H.contents file_store.old }
+    ensures kept { H.stored file_store.new ≡ H.stored file_store.old }
 {
-    let counties = load_counties(alloc, words, shelf, end)?;
+    let counties = load_counties(alloc, words, file_store, end)?;
     let problem = build(alloc, &counties, &[], &[], words.chamber, words.window, end)?;
     let text = size_table(alloc, &problem)?;
     end.note(Ending::Done);

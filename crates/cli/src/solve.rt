@@ -1,7 +1,7 @@
 //! The subcommand `solve`.
 
 ghost use Rattle.std.specs.Prelude.{◌≡◌, ◌≤◌, List};
-ghost use Rattle.cli_shelves.specs.Files.{NamedFile};
+ghost use Rattle.cli_file_stores.specs.Files.{NamedFile};
 ghost use Rattle.cli_answers.specs.Answers.{Comes, said_by};
 ghost use Rattle.cli_runs.specs.Storing.{HasStored, store_steps};
 ghost use Rattle.cli_runs.specs.SolveCourse.{solve_course, files_to_store};
@@ -14,26 +14,26 @@ use crate::problem::load_tabled_problem;
 use crate::storing::store_named;
 use branch_bound::Watcher;
 use cli_answers::{Refusal, RunAnswer};
-use cli_runs::{Solved, solve_and_say};
-use cli_shelves::Shelf;
+use cli_file_stores::FileStore;
+use cli_runs::{Solved, solve_and_report};
 use cli_words::{CommandWords, SolveWords};
 use std::alloc::Global;
 
 /// Returns what `solve` says of the problem of the files, before anything is stored.
-fn solve_files<H: Shelf, V: Watcher>(
+fn solve_files<H: FileStore, V: Watcher>(
     alloc: Global,
     words: SolveWords<'_>,
-    shelf: &mut H,
+    file_store: &mut H,
     end: &mut End,
     watcher: &mut V,
 ) -> Result<Solved, Refusal>
     requires { words.problem.common.state ≤ 99 }
-    ensures course { Comes solved_of result (solve_course (H.contents shelf.old) words.entry (H.history shelf.old) (H.history shelf.new)) }
-    ensures same { H.contents shelf.new ≡ H.contents shelf.old }
-    ensures kept { H.stored shelf.new ≡ H.stored shelf.old }
+    ensures course { Comes solved_of result (solve_course (H.contents file_store.old) words.entry (H.history file_store.old) (H.history file_store.new)) }
+    ensures same { H.contents file_store.new ≡ H.contents file_store.old }
+    ensures kept { H.stored file_store.new ≡ H.stored file_store.old }
 {
-    let tabled = load_tabled_problem(alloc, words.problem, words.table, shelf, end)?;
-    let solved = solve_and_say(alloc, &tabled, words.steps, watcher)?;
+    let tabled = load_tabled_problem(alloc, words.problem, words.table, file_store, end)?;
+    let solved = solve_and_report(alloc, &tabled, words.steps, watcher)?;
     Ok(solved)
 }
 
@@ -47,23 +47,23 @@ fn searched(solved: &Solved) -> Ending {
 }
 
 /// Stores the certificate, then the grouping and then the table. Each is stored if there is one and its file is named.
-fn store_solved<H: Shelf>(
+fn store_solved<H: FileStore>(
     alloc: Global,
     words: SolveWords<'_>,
     solved: &Solved,
-    shelf: &mut H,
+    file_store: &mut H,
     end: &mut End,
 ) -> Result<(), Refusal>
     ensures { (stored : List NamedFile)
-        × HasStored (H.contents shelf.old) (H.contents shelf.new) (H.stored shelf.old) (H.stored shelf.new) stored
-        × store_steps (files_to_store words.entry (solved_of solved.now)) (H.history shelf.old) (H.history shelf.new) stored (refusal_by result) }
+        × HasStored (H.contents file_store.old) (H.contents file_store.new) (H.stored file_store.old) (H.stored file_store.new) stored
+        × store_steps (files_to_store words.entry (solved_of solved.now)) (H.history file_store.old) (H.history file_store.new) stored (refusal_by result) }
 {
     store_named(
         alloc,
         FileOption::CertificateOut,
         words.certificate,
         solved.certificate.as_ref(),
-        shelf,
+        file_store,
         end,
     )?;
     store_named(
@@ -71,7 +71,7 @@ fn store_solved<H: Shelf>(
         FileOption::Out,
         words.out,
         solved.grouping.as_ref(),
-        shelf,
+        file_store,
         end,
     )?;
     store_named(
@@ -79,7 +79,7 @@ fn store_solved<H: Shelf>(
         FileOption::Table,
         words.table,
         solved.table.as_ref(),
-        shelf,
+        file_store,
         end,
     )
 }
@@ -87,20 +87,20 @@ fn store_solved<H: Shelf>(
 /// Returns the best grouping of the problem with its certificate. The problem is built first, and then the solver
 /// answers. Then the files are stored: the certificate first, then the grouping, then the table. The first fault met is
 /// the answer.
-pub(crate) fn solve<H: Shelf, V: Watcher>(
+pub(crate) fn solve<H: FileStore, V: Watcher>(
     alloc: Global,
     words: SolveWords<'_>,
-    shelf: &mut H,
+    file_store: &mut H,
     end: &mut End,
     watcher: &mut V,
 ) -> Result<RunAnswer, Refusal>
     requires { words.problem.common.state ≤ 99 }
     ensures { (stored : List NamedFile)
-        × HasStored (H.contents shelf.old) (H.contents shelf.new) (H.stored shelf.old) (H.stored shelf.new) stored
-        × CommandRun (H.contents shelf.old) (CommandWords.Solve words.entry) (H.history shelf.old) (H.history shelf.new) stored (said_by result) }
+        × HasStored (H.contents file_store.old) (H.contents file_store.new) (H.stored file_store.old) (H.stored file_store.new) stored
+        × CommandRun (H.contents file_store.old) (CommandWords.Solve words.entry) (H.history file_store.old) (H.history file_store.new) stored (said_by result) }
 {
-    let solved = solve_files(alloc, words, shelf, end, watcher)?;
-    match store_solved(alloc, words, &solved, shelf, end) {
+    let solved = solve_files(alloc, words, file_store, end, watcher)?;
+    match store_solved(alloc, words, &solved, file_store, end) {
         Ok(()) => {
             end.note(searched(&solved));
             Ok(solved.answer)

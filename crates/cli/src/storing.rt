@@ -3,33 +3,33 @@
 ghost use Rattle.std.specs.Prelude.{◌≡◌, List, [], ◌∷◌, Option, option_map};
 ghost use Rattle.cli_answers.specs.Answer.{Answered};
 ghost use Rattle.cli_answers.specs.Answers.{answer_of, said_by};
-ghost use Rattle.cli_shelves.specs.Files.{NamedFile};
+ghost use Rattle.cli_file_stores.specs.Files.{NamedFile};
 ghost use Rattle.cli_runs.specs.Storing.{HasStored, named_file, said_after, store_steps};
 ghost use Rattle.cli_runs.specs.Texts.{reported_of};
 ghost use Rattle.cli.specs.Ends.{refusal_by};
 
 use crate::end::{End, FileOption};
 use cli_answers::{Refusal, RunAnswer, refuse_load};
+use cli_file_stores::FileStore;
 use cli_runs::Reported;
-use cli_shelves::Shelf;
 use std::alloc::Global;
 
-/// Stores `bytes` under `name`, and notes at `end` whether that succeeded. Returns the refusal of the shelf's fault if
-/// it didn't.
-fn store<H: Shelf>(
+/// Stores `bytes` under `name`, and notes at `end` whether that succeeded. Returns the refusal of the file store's
+/// fault if it didn't.
+fn store<H: FileStore>(
     alloc: Global,
     option: FileOption,
     name: &str,
     bytes: &[u8],
-    shelf: &mut H,
+    file_store: &mut H,
     end: &mut End,
 ) -> Result<(), Refusal>
     ensures { (stored : List NamedFile)
-        × HasStored (H.contents shelf.old) (H.contents shelf.new) (H.stored shelf.old) (H.stored shelf.new) stored
+        × HasStored (H.contents file_store.old) (H.contents file_store.new) (H.stored file_store.old) (H.stored file_store.new) stored
         × store_steps (record { name = name.now; bytes = bytes.now }
-        ∷ []) (H.history shelf.old) (H.history shelf.new) stored (refusal_by result) }
+        ∷ []) (H.history file_store.old) (H.history file_store.new) stored (refusal_by result) }
 {
-    match shelf.store(alloc, name, bytes) {
+    match file_store.store(alloc, name, bytes) {
         Ok(()) => {
             end.note_stored(option);
             Ok(())
@@ -42,36 +42,36 @@ fn store<H: Shelf>(
 }
 
 /// Stores `text` under `name` if both are given. Otherwise nothing is stored.
-pub(crate) fn store_named<H: Shelf>(
+pub(crate) fn store_named<H: FileStore>(
     alloc: Global,
     option: FileOption,
     name: Option<&str>,
     text: Option<&Vec<u8>>,
-    shelf: &mut H,
+    file_store: &mut H,
     end: &mut End,
 ) -> Result<(), Refusal>
     ensures { (stored : List NamedFile)
-        × HasStored (H.contents shelf.old) (H.contents shelf.new) (H.stored shelf.old) (H.stored shelf.new) stored
-        × store_steps (named_file name.entry (option_map (λ t. t.now.items) text.entry)) (H.history shelf.old) (H.history shelf.new) stored (refusal_by result) }
+        × HasStored (H.contents file_store.old) (H.contents file_store.new) (H.stored file_store.old) (H.stored file_store.new) stored
+        × store_steps (named_file name.entry (option_map (λ t. t.now.items) text.entry)) (H.history file_store.old) (H.history file_store.new) stored (refusal_by result) }
 {
     match (name, text) {
-        (Some(name), Some(text)) => store(alloc, option, name, text, shelf, end),
+        (Some(name), Some(text)) => store(alloc, option, name, text, file_store, end),
         _ => Ok(()),
     }
 }
 
 /// Stores the table of `reported` if there is one and `name` is given. Returns the answer of `reported`, unless the
 /// table was refused.
-pub(crate) fn store_reported<H: Shelf>(
+pub(crate) fn store_reported<H: FileStore>(
     alloc: Global,
     name: Option<&str>,
     reported: Reported,
-    shelf: &mut H,
+    file_store: &mut H,
     end: &mut End,
 ) -> Result<RunAnswer, Refusal>
     ensures { (stored : List NamedFile) × (refusal : Option Answered)
-        × HasStored (H.contents shelf.old) (H.contents shelf.new) (H.stored shelf.old) (H.stored shelf.new) stored
-        × store_steps (named_file name.entry (reported_of reported).table) (H.history shelf.old) (H.history shelf.new) stored refusal
+        × HasStored (H.contents file_store.old) (H.contents file_store.new) (H.stored file_store.old) (H.stored file_store.new) stored
+        × store_steps (named_file name.entry (reported_of reported).table) (H.history file_store.old) (H.history file_store.new) stored refusal
         × (said_by result ≡ said_after refusal (answer_of reported.answer)) }
 {
     match store_named(
@@ -79,7 +79,7 @@ pub(crate) fn store_reported<H: Shelf>(
         FileOption::Table,
         name,
         reported.table.as_ref(),
-        shelf,
+        file_store,
         end,
     ) {
         Ok(()) => Ok(reported.answer),

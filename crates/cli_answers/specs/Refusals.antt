@@ -29,8 +29,8 @@ use Rattle.certificate_lines.specs.declared.fault.TextKind.TheVariants as text
 use Rattle.certificate_lines.specs.KindWords.{text_kind_word}
 use Rattle.share_board.specs.declared.fault.BoardFault.{BoardFault}
 use Rattle.share_board.specs.declared.fault.BoardFault.TheVariants as board
-use Rattle.cli_shelves.specs.declared.shelf.ShelfFault.{ShelfFault}
-use Rattle.cli_shelves.specs.declared.shelf.ShelfFault.TheVariants as shelf
+use Rattle.cli_file_stores.specs.declared.file_store.FileStoreFault.{FileStoreFault}
+use Rattle.cli_file_stores.specs.declared.file_store.FileStoreFault.TheVariants as file_store
 use Rattle.county_codes.specs.Digits.{five_digits}
 use Rattle.cli_answers.specs.Answer.{Answered, budget_answer, memory_answer}
 
@@ -218,18 +218,18 @@ board_answer board.Budget = budget_answer
 board_answer board.Memory = memory_answer
 board_answer fault = record { text = refused_board (board_word fault); status = 4 }
 
--- the word of a fault of the shelf
-abbrev pub shelf_word : ShelfFault → List ℕ
-shelf_word shelf.Missing = codes "Missing"
-shelf_word shelf.TooLarge = codes "TooLarge"
-shelf_word shelf.Device = codes "Device"
-shelf_word shelf.Memory = codes "Memory"
+-- the word of a fault of the file store
+abbrev pub file_store_word : FileStoreFault → List ℕ
+file_store_word file_store.Missing = codes "Missing"
+file_store_word file_store.TooLarge = codes "TooLarge"
+file_store_word file_store.Device = codes "Device"
+file_store_word file_store.Memory = codes "Memory"
 
 -- `device NAME KIND`
 unfoldable pub device_line : List ℕ → List ℕ → List ℕ
 device_line name kind = codes "device " ++ name ++ codes " " ++ kind ++ codes "\n"
 
--- a fault of the shelf under a name
-abbrev pub shelf_answer : List ℕ → ShelfFault → Answered
-shelf_answer name shelf.Memory = memory_answer
-shelf_answer name fault = record { text = device_line name (shelf_word fault); status = 5 }
+-- a fault of the file store under a name
+abbrev pub file_store_answer : List ℕ → FileStoreFault → Answered
+file_store_answer name file_store.Memory = memory_answer
+file_store_answer name fault = record { text = device_line name (file_store_word fault); status = 5 }

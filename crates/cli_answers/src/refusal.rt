@@ -12,11 +12,11 @@ ghost use Rattle.cli_answers.specs.Refusals.{line_fault_word, kind_word, code_li
 ghost use Rattle.cli_answers.specs.Refusals.{assignment_answer, cut_line, file_word, input_of as input_file_of};
 ghost use Rattle.cli_answers.specs.Refusals.{refused_line, input_answer, pl94_answer, named_answer, code_file_answer};
 ghost use Rattle.cli_answers.specs.Refusals.{fault_line, verdict_answer, after_blank, problem_words, refused_problem};
-ghost use Rattle.cli_answers.specs.Refusals.{problem_answer, shelf_word, device_line, shelf_answer};
+ghost use Rattle.cli_answers.specs.Refusals.{problem_answer, file_store_word, device_line, file_store_answer};
 
 use crate::answer::Refusal;
 use baf_auditor::{AssignmentFault, AssignmentKind};
-use cli_shelves::ShelfFault;
+use cli_file_stores::FileStoreFault;
 use county_codes::{CountyCode, push_code};
 use county_problem::{GroupingFault, ProblemFault};
 use field_lines::{LineFault, push_number};
@@ -326,14 +326,14 @@ pub fn refuse_problem(alloc: Global, fault: ProblemFault) -> Refusal
     Refusal::of_text(problem_text(alloc, fault), 4)
 }
 
-fn word_of_shelf_fault(fault: ShelfFault) -> &'static [u8]
-    ensures { result.now ≡ shelf_word fault }
+fn word_of_file_store_fault(fault: FileStoreFault) -> &'static [u8]
+    ensures { result.now ≡ file_store_word fault }
 {
     match fault {
-        ShelfFault::Missing => b"Missing",
-        ShelfFault::TooLarge => b"TooLarge",
-        ShelfFault::Device => b"Device",
-        ShelfFault::Memory => b"Memory",
+        FileStoreFault::Missing => b"Missing",
+        FileStoreFault::TooLarge => b"TooLarge",
+        FileStoreFault::Device => b"Device",
+        FileStoreFault::Memory => b"Memory",
     }
 }
 
@@ -350,14 +350,14 @@ fn device_text(alloc: Global, name: &[u8], kind: &[u8]) -> Result<Vec<u8>, Alloc
     Ok(out)
 }
 
-/// Returns the refusal of a fault of the shelf at the file `name`: `device NAME KIND` with exit status 5. Returns
+/// Returns the refusal of a fault of the file store at the file `name`: `device NAME KIND` with exit status 5. Returns
 /// `Memory` if that is the fault, or if memory for the line was refused.
-pub fn refuse_load(alloc: Global, name: &str, fault: ShelfFault) -> Refusal
-    ensures { RefusalShows (shelf_answer name.now fault) result }
+pub fn refuse_load(alloc: Global, name: &str, fault: FileStoreFault) -> Refusal
+    ensures { RefusalShows (file_store_answer name.now fault) result }
 {
-    if fault == ShelfFault::Memory {
+    if fault == FileStoreFault::Memory {
         return Refusal::Memory;
     }
-    let text = device_text(alloc, name.as_bytes(), word_of_shelf_fault(fault));
+    let text = device_text(alloc, name.as_bytes(), word_of_file_store_fault(fault));
     Refusal::of_text(text, 5)
 }

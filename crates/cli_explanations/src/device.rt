@@ -3,7 +3,7 @@
 use crate::machine_files::words_of_reason;
 use crate::shown_bytes::name_of;
 use cli::FileOption;
-use cli_shelves::ShelfFault;
+use cli_file_stores::FileStoreFault;
 use std::alloc::AllocError;
 use std::fmt::Write;
 use std::io::ErrorKind;
@@ -13,8 +13,8 @@ use std::io::ErrorKind;
 pub(crate) struct Unmoved<'a> {
     /// The option that names it.
     pub(crate) option: FileOption,
-    /// What the shelf says.
-    pub(crate) fault: ShelfFault,
+    /// What the file store says.
+    pub(crate) fault: FileStoreFault,
     /// Its path.
     pub(crate) path: &'a str,
     /// The kind of error that the system gave, if it gave one.
@@ -25,8 +25,8 @@ impl Unmoved<'_> {
     /// Returns why the file could not be read or stored.
     fn words(&self) -> &'static str {
         match (self.fault, self.reason) {
-            (ShelfFault::TooLarge, _) => "it has more than 1073741824 bytes",
-            (ShelfFault::Missing, _) => words_of_reason(ErrorKind::NotFound),
+            (FileStoreFault::TooLarge, _) => "it has more than 1073741824 bytes",
+            (FileStoreFault::Missing, _) => words_of_reason(ErrorKind::NotFound),
             (_, Some(reason)) => words_of_reason(reason),
             (_, None) => "the device failed",
         }

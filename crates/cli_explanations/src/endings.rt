@@ -1,5 +1,6 @@
 //! What a person is told on standard error, before a run and once it has ended.
 
+use crate::best_not_shown::explain_best_not_shown;
 use crate::board::{explain_board, explain_left, explain_no_piece, explain_open_piece};
 use crate::certificate_fault::explain_certificate;
 use crate::device::{Unmoved, explain_unloaded, explain_unstored, push_report};
@@ -10,7 +11,6 @@ use crate::options::Options;
 use crate::outputs::{warn_of_older_files, warn_of_outputs};
 use crate::refusals::{explain_problem, explain_refused};
 use crate::state_line::{warn_of_state, warn_of_two_states};
-use crate::unshown_best::explain_unshown;
 use crate::usage::explain_usage;
 use crate::warnings::push_warnings;
 use cli::{End, Ending, FileOption};
@@ -144,8 +144,8 @@ fn explain_ending(
         Ending::Unlawful(fault, problem, grouping) => {
             explain_fault(out, options, fault, (problem, grouping))
         }
-        Ending::NotShownBest(unshown, text, problem) => {
-            explain_unshown(out, options, unshown, (text, problem))
+        Ending::NotShownBest(best_not_shown, text, problem) => {
+            explain_best_not_shown(out, options, best_not_shown, (text, problem))
         }
         Ending::Found(findings, problem, grouping) => {
             explain_findings(out, options, findings, (problem, grouping))

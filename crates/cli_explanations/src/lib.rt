@@ -3,6 +3,7 @@
 //! composing it returns.
 #![tactic(auto)]
 
+mod best_not_shown;
 mod board;
 mod certificate_fault;
 mod county_names;
@@ -18,7 +19,6 @@ mod outputs;
 mod refusals;
 mod shown_bytes;
 mod state_line;
-mod unshown_best;
 mod usage;
 mod warnings;
 

@@ -3,7 +3,7 @@ use Rattle.std.proofs.Common.{◌≡◌, ◌∙◌, List, ◌++◌, ap, sym, app
 use Rattle.std.specs.Prelude.{Result, Ok, Err, OnOk}
 use Rattle.std.specs.Option.{option_map}
 use Rattle.std.proofs.lemmas.List.Elements.{filter_map-append}
-use Rattle.cli_shelves.specs.Sums.{SumOfEvent}
+use Rattle.cli_file_stores.specs.Sums.{SumOfEvent}
 use Rattle.cli_record.specs.RecordFiles.{FileToRead, ReadValue, files_read, reading_of, read_value}
 
 -- what holds where a call succeeds, changed

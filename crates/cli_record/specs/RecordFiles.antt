@@ -17,9 +17,9 @@ use Rattle.cli_record_text.specs.declared.run.ReadFile.TheVariants as files
 use Rattle.cli_record_text.specs.declared.run.StoreOption.{StoreOption}
 use Rattle.cli_record_text.specs.declared.run.StoreOption.TheVariants as options
 use Rattle.cli_record_text.specs.Sums.{SumValue}
-use Rattle.cli_shelves.specs.declared.sums.EventKind.{EventKind}
-use Rattle.cli_shelves.specs.declared.sums.EventKind.TheVariants.{Whole, Part, Taken, Failed}
-use Rattle.cli_shelves.specs.Sums.{SumOfEvent}
+use Rattle.cli_file_stores.specs.declared.sums.EventKind.{EventKind}
+use Rattle.cli_file_stores.specs.declared.sums.EventKind.TheVariants.{Whole, Part, Taken, Failed}
+use Rattle.cli_file_stores.specs.Sums.{SumOfEvent}
 
 -- a file that a command reads: which one it is, and its name
 pub record FileToRead : Type 0 where

@@ -8,8 +8,8 @@ use Rattle.cli_record_text.specs.declared.run.FileStored.{FileStored}
 use Rattle.cli_record_text.specs.declared.run.Run.{Run}
 use Rattle.cli_record_text.specs.Answers.{recorded_answer}
 use Rattle.cli_record_text.specs.Record.{record_text}
-use Rattle.cli_shelves.specs.History.{History}
-use Rattle.cli_shelves.specs.Sums.{SumOfEvent, sum_of_event}
+use Rattle.cli_file_stores.specs.History.{History}
+use Rattle.cli_file_stores.specs.Sums.{SumOfEvent, sum_of_event}
 use Rattle.cli_record.specs.RecordFiles.{ReadValue, StoredValue, files_to_read, files_read, options_to_store}
 use Rattle.cli_record.specs.RecordFiles.{files_stored}
 

@@ -1,4 +1,4 @@
-//! The record of a run, made from its words and from the sums of what its shelf gave and took.
+//! The record of a run, made from its words and from the sums of what its file store gave and took.
 //!
 //! If a command comes to read a further file, name it in `files_to_read` of `specs/RecordFiles.antt` and in
 //! `src/reads.rt`. If a further option names a file to store, name it in `options_to_store` there and in

@@ -3,14 +3,14 @@
 ghost use Rattle.std.specs.Prelude.{◌≡◌, List, IfOk, map};
 ghost use Rattle.std.specs.Option.{option_map};
 ghost use Rattle.std.specs.String.{string_bytes};
-ghost use Rattle.cli_shelves.specs.Sums.{sum_value};
+ghost use Rattle.cli_file_stores.specs.Sums.{sum_value};
 ghost use Rattle.cli_record.specs.RunRecord.{IsRecord, SaysOfRun};
 ghost use Rattle.cli_record.specs.RecordFiles.{record_name_of};
 
 use crate::reads::reads_of;
 use crate::stores::stores_of;
+use cli_file_stores::EventSum;
 use cli_record_text::{Run, answer_of, record_text};
-use cli_shelves::EventSum;
 use cli_words::{CommandWords, version_text};
 use std::alloc::{AllocError, Global};
 
@@ -63,8 +63,8 @@ fn run_of(
 }
 
 /// Returns the record of a run. It has the version of the program, the words, the files that the command read and
-/// stored with the sums of their bytes, the status, and the answer. `sums` are those of the events of the run's shelf,
-/// in order.
+/// stored with the sums of their bytes, the status, and the answer. `sums` are those of the events of the run's file
+/// store, in order.
 ///
 /// # Errors
 ///

@@ -5,14 +5,14 @@ use Rattle.std.specs.Borrow.{Bor}
 use Rattle.county_problem.specs.ProblemValue.{problem_of}
 use Rattle.grouping_laws.specs.Grouping.{Grouping}
 use Rattle.certificate_data.specs.TreeValue.{certificate_of}
-use Rattle.branch_bound.specs.declared.answer.Answer as desk
+use Rattle.branch_bound.specs.declared.answer.Answer as solver
 use Rattle.branch_bound.specs.declared.answer.Answer.TheVariants.{Best, Impossible, Open}
 use Rattle.branch_bound.specs.Answers.{IsSolveAnswer}
 use Rattle.certificate_checker.proofs.Agrees as texts
 use Rattle.cli_words.specs.declared.words.SolveWords.{SolveWords}
 use Rattle.cli_words.specs.declared.words.CommandWords.TheVariants.{Solve}
-use Rattle.cli_shelves.specs.Files.{NamedFile, Files}
-use Rattle.cli_shelves.specs.History.{History}
+use Rattle.cli_file_stores.specs.Files.{NamedFile, Files}
+use Rattle.cli_file_stores.specs.History.{History}
 use Rattle.cli_answers.specs.Answer.{Answered, memory_answer}
 use Rattle.cli_runs.specs.TableCourse.{Tabled, Reported}
 use Rattle.cli_runs.specs.SolveCourse.{Solved, SaysSolved, IsSolved, solve_course, files_to_store}
@@ -75,7 +75,7 @@ module _ (files : Files) (words : SolveWords) (stored : List NamedFile) (a : Ans
   pub other_status : (s : Solved) (n m : ℕ) → h.s ≡ s → a.status ≡ n → s.answer.status ≡ m → n ≢ m → ⊥
   other_status s n m e is other apart = apart (sym is ∙ same_status a s.answer (answer_is s e) ∙ other)
 
-  proves : (found : desk.Answer) → IsSolveAnswer (problem_of h.t.problem) words.steps found → SaysSolved h.t found h.s → a.status ≤ 1
+  proves : (found : solver.Answer) → IsSolveAnswer (problem_of h.t.problem) words.steps found → SaysSolved h.t found h.s → a.status ≤ 1
       → IsStoredFirst words.certificate (λ text. ChecksAs files words.problem text a) stored
   proves (Best g c) is said low =
       stored_proof files words stored a h said.0

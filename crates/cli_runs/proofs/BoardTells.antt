@@ -23,14 +23,14 @@ use Rattle.cli_words.specs.declared.words.BoardWords.{BoardWords}
 use Rattle.cli_words.specs.declared.words.ShareWords.{ShareWords}
 use Rattle.cli_words.specs.declared.words.PieceWords.{PieceWords}
 use Rattle.cli_words.specs.declared.words.CommandWords.TheVariants.{Share, Piece}
-use Rattle.cli_shelves.specs.Files.{NamedFile, Files}
-use Rattle.cli_shelves.specs.History.{History}
+use Rattle.cli_file_stores.specs.Files.{NamedFile, Files}
+use Rattle.cli_file_stores.specs.History.{History}
 use Rattle.cli_answers.specs.Answer.{Answered}
 use Rattle.cli_answers.specs.Refusals.{board_answer, events_answer}
 use Rattle.cli_runs.specs.Course.{Course, ◌>>=◌, GoesOn, load_step, value_step}
 use Rattle.cli_runs.specs.FilesProblem.{IsProblemOfFiles, IsGroupingOfFile}
 use Rattle.cli_runs.specs.ProblemCourse.{problem_course, grouping_of}
-use Rattle.cli_runs.specs.BoardCourse.{language_of, depth_of, limit_of_words, AreEvents, events_in, events_of, named_events_of, AnswersOnBoard}
+use Rattle.cli_runs.specs.BoardCourse.{format_of, depth_of, limit_of_words, AreEvents, events_in, events_of, named_events_of, AnswersOnBoard}
 use Rattle.cli_runs.specs.ShareCourse.{left_status, share_answer, share_step, share_course, joined_file}
 use Rattle.cli_runs.specs.PieceCourse.{no_such_piece, piece_said, piece_status, piece_step, said_step, piece_course}
 use Rattle.cli_runs.specs.Storing.{named_file}
@@ -41,12 +41,12 @@ use Rattle.cli_runs.proofs.Ending.{HasEnded, same_status, not_refused, not_out_o
 use Rattle.cli_runs.proofs.FilesRead.{ReadsProblem, went, problem_reads, problem_of_files}
 use Rattle.cli_runs.proofs.FilesProblemLemmas.{grouping_told}
 
-events_refuse : (files : Files) (words : BoardWords) (counties : ℕ) (name : List ℕ) → Refuses (events_of (Some files) (language_of words.round) counties name)
+events_refuse : (files : Files) (words : BoardWords) (counties : ℕ) (name : List ℕ) → Refuses (events_of (Some files) (format_of words.round) counties name)
 events_refuse files words counties name =
-    bind_refuses (load_step (Some files) name) (events_in (language_of words.round) counties) (load_refuses (Some files) name)
-    (λ text. call_refuses events_answer (AreEvents (language_of words.round) counties text) events_status)
+    bind_refuses (load_step (Some files) name) (events_in (format_of words.round) counties) (load_refuses (Some files) name)
+    (λ text. call_refuses events_answer (AreEvents (format_of words.round) counties text) events_status)
 
-named_events_refuse : (files : Files) (words : BoardWords) (counties : ℕ) (name : Option (Bor (List ℕ))) → Refuses (named_events_of (Some files) (language_of words.round) counties name)
+named_events_refuse : (files : Files) (words : BoardWords) (counties : ℕ) (name : Option (Bor (List ℕ))) → Refuses (named_events_of (Some files) (format_of words.round) counties name)
 named_events_refuse files words counties None = value_refuses (λ (events : List Event). events ≡ [])
 named_events_refuse files words counties (Some name) = events_refuse files words counties name.now
 
@@ -55,7 +55,7 @@ module _ (files : Files) where
 
   -- the events of a file
   events_told : (words : BoardWords) (v : ProblemValue) (name : Option (Bor (List ℕ))) (before after : History) (events : List Event)
-      → named_events_of (Some files) (language_of words.round) (length v.counties) name before after (Ok events) → AreEventsOfFile files words v name events
+      → named_events_of (Some files) (format_of words.round) (length v.counties) name before after (Ok events) → AreEventsOfFile files words v name events
   events_told words v None before after events h = h.1
   events_told words v (Some name) before after events h =
       let t = went _ _ before after events h in
@@ -66,7 +66,7 @@ module _ (files : Files) where
   StopsAtBudget words budget a = IsRefusal a ⊎ BoardTellsBudget files words budget a
 
   module _ (words : BoardWords) (budget : ℕ) (v : ProblemValue) (problem : IsProblemOfFiles files words.problem v) (target : Grouping) (target_is : IsGroupingOfFile files words.grouping.now target) where
-    fault_tells : (round : Round) → IsFirstRound (problem_of v) target (limit_of_words target words.round) (language_of words.round) round
+    fault_tells : (round : Round) → IsFirstRound (problem_of v) target (limit_of_words target words.round) (format_of words.round) round
         → (f : BoardFault) → IsBoardFault (problem_of v) (depth_of words.round) budget target round f → (a : Answered) → a ≡ board_answer f → StopsAtBudget words budget a
     fault_tells round first board.Budget below a said = inr (record {
       v = v;
@@ -88,7 +88,7 @@ module _ (files : Files) where
   -- ---- share
   module _ (words : ShareWords) where
     abbrev with_events : ProblemValue → Grouping → Course Shared
-    with_events v g = events_of (Some files) (language_of words.board.round) (length v.counties) words.events.now >>= share_step v g words
+    with_events v g = events_of (Some files) (format_of words.board.round) (length v.counties) words.events.now >>= share_step v g words
 
     abbrev with_grouping : ProblemValue → Course Shared
     with_grouping v = grouping_of (Some files) words.board.grouping.now >>= with_events v
@@ -233,7 +233,7 @@ module _ (files : Files) where
   -- ---- piece
   module _ (words : PieceWords) where
     abbrev piece_with_events : ProblemValue → Grouping → Course Answered
-    piece_with_events v g = named_events_of (Some files) (language_of words.board.round) (length v.counties) words.events >>= said_step v g words
+    piece_with_events v g = named_events_of (Some files) (format_of words.board.round) (length v.counties) words.events >>= said_step v g words
 
     abbrev piece_with_grouping : ProblemValue → Course Answered
     piece_with_grouping v = grouping_of (Some files) words.board.grouping.now >>= piece_with_events v

@@ -13,8 +13,8 @@ use Rattle.certificate_checker.specs.declared.verdict.Verdict.TheVariants.{Best,
 use Rattle.certificate_checker.specs.CertificateAnswers.{SaysBest, SaysImpossible}
 use Rattle.pl94_counties.specs.declared.county_names.NamedFault.TheVariants.{BadName}
 use Rattle.cli_words.specs.declared.words.CheckWords.{CheckWords}
-use Rattle.cli_shelves.specs.Files.{NamedFile, Files}
-use Rattle.cli_shelves.specs.History.{History}
+use Rattle.cli_file_stores.specs.Files.{NamedFile, Files}
+use Rattle.cli_file_stores.specs.History.{History}
 use Rattle.cli_answers.specs.Answer.{Answered, success}
 use Rattle.cli_answers.specs.Refusals.{named_answer}
 use Rattle.cli_runs.specs.Course.{◌>>=◌, value_step}
@@ -82,7 +82,7 @@ module _ (others : Files) (check : CheckWords) (v : ProblemValue) (text : List �
     (reads : ReadsProblem others check.check.problem v)
     (certificate : others check.check.certificate.now ≡ Some text)
     (checked : (t : Tabled) (r : Reported) → t.problem ≡ v → ChecksText t check.check.budget text r → IsAgreed a r.answer) where
-  -- it ends early at a fault of the shelf, for want of memory, or at a name
+  -- it ends early at a fault of the file store, for want of memory, or at a name
   abbrev IsStopped : Answered → Type 0
   IsStopped b = (b.status ≡ 5) ⊎ IsUnnamed check.table b
 

@@ -1,8 +1,8 @@
 -- What steps whose files are stored came to, where they end with a status of an answer.
 use Rattle.std.proofs.Common.{◌≡◌, ◌≤◌, ◌⊎◌, List, [], Option, Some, None, inl, inr, ap, ◌∙◌, arith}
 use Rattle.std.specs.Prelude.{Ok, Err}
-use Rattle.cli_shelves.specs.Files.{NamedFile}
-use Rattle.cli_shelves.specs.History.{History}
+use Rattle.cli_file_stores.specs.Files.{NamedFile}
+use Rattle.cli_file_stores.specs.History.{History}
 use Rattle.cli_answers.specs.Answer.{Answered, memory_answer}
 use Rattle.cli_runs.specs.Course.{Course}
 use Rattle.cli_runs.specs.Storing.{EndsStoring, store_steps, said_after}

@@ -10,8 +10,8 @@ use Rattle.pl94_counties.proofs.ListedLemmas.{are_blocks}
 use Rattle.baf_auditor.specs.declared.assignments.Assignment.{Assignment}
 use Rattle.cli_words.specs.declared.words.CommonWords.{CommonWords}
 use Rattle.cli_words.specs.declared.words.ProblemWords.{ProblemWords}
-use Rattle.cli_shelves.specs.Files.{Files}
-use Rattle.cli_shelves.specs.History.{History}
+use Rattle.cli_file_stores.specs.Files.{Files}
+use Rattle.cli_file_stores.specs.History.{History}
 use Rattle.cli_runs.specs.ProblemCourse.{counties_course, problem_course, grouping_of}
 use Rattle.cli_runs.specs.PlanCourse.{blocks_of, plan_assignments}
 use Rattle.cli_runs.specs.ListCourse.{which_of}

@@ -21,8 +21,8 @@ use Rattle.grouping_table.specs.Table.{unnamed_counties as without_names, table_
 use Rattle.grouping_table.specs.GroupingsTable.{groupings_text}
 use Rattle.cli_words.specs.declared.words.CommonWords.{CommonWords}
 use Rattle.cli_words.specs.declared.words.ProblemWords.{ProblemWords}
-use Rattle.cli_shelves.specs.Files.{NamedFile, Files}
-use Rattle.cli_shelves.specs.History.{History}
+use Rattle.cli_file_stores.specs.Files.{NamedFile, Files}
+use Rattle.cli_file_stores.specs.History.{History}
 use Rattle.cli_runs.specs.Course.{Course, ◌>>=◌, GoesOn}
 use Rattle.cli_runs.specs.ProblemCourse.{IsBuilt, links_of, withdrawn_of, problem_over, problem_course}
 use Rattle.cli_runs.specs.TableCourse.{Tabled, named_counties_of, tabled_problem_in, table_of}

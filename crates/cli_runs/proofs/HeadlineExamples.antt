@@ -35,7 +35,7 @@ use Rattle.cli_words.specs.declared.words.ListWords.{ListWords}
 use Rattle.cli_words.specs.declared.words.JudgeWords.{JudgeWords}
 use Rattle.cli_words.specs.declared.words.ShareWords.{ShareWords}
 use Rattle.cli_words.specs.declared.words.CommandWords.TheVariants.{List as ListAll}
-use Rattle.cli_shelves.specs.Files.{NamedFile, Files}
+use Rattle.cli_file_stores.specs.Files.{NamedFile, Files}
 use Rattle.cli_answers.specs.Answer.{Answered}
 use Rattle.cli_runs.specs.FilesProblem.{AreCountiesOfFiles, IsReadAsIfNamed, IsProblemOfFiles, IsGroupingIfNamed}
 use Rattle.cli_runs.specs.ListCourse.{listing_answer}

@@ -11,8 +11,8 @@ use Rattle.board_report.specs.declared.board_outcome.Shared.{Shared}
 use Rattle.certificate_checker.proofs.Agrees as texts
 use Rattle.cli_words.specs.declared.words.ShareWords.{ShareWords}
 use Rattle.cli_words.specs.declared.words.CommandWords.TheVariants.{Share}
-use Rattle.cli_shelves.specs.Files.{NamedFile, Files}
-use Rattle.cli_shelves.specs.History.{History}
+use Rattle.cli_file_stores.specs.Files.{NamedFile, Files}
+use Rattle.cli_file_stores.specs.History.{History}
 use Rattle.cli_answers.specs.Answer.{Answered, memory_answer}
 use Rattle.cli_runs.specs.ShareCourse.{left_status, share_answer, share_course, joined_file}
 use Rattle.cli_runs.specs.Storing.{named_file, store_steps, said_after}

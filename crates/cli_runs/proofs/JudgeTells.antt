@@ -8,8 +8,8 @@ use Rattle.county_problem.specs.declared.grouping_fault.GroupingFault.{GroupingF
 use Rattle.grouping_laws.specs.Grouping.{Grouping, IsBest}
 use Rattle.cli_words.specs.declared.words.JudgeWords.{JudgeWords}
 use Rattle.cli_words.specs.declared.words.CommandWords.TheVariants.{Judge}
-use Rattle.cli_shelves.specs.Files.{NamedFile, Files}
-use Rattle.cli_shelves.specs.History.{History}
+use Rattle.cli_file_stores.specs.Files.{NamedFile, Files}
+use Rattle.cli_file_stores.specs.History.{History}
 use Rattle.cli_answers.specs.Answer.{Answered}
 use Rattle.cli_answers.specs.Refusals.{verdict_answer}
 use Rattle.cli_runs.specs.Course.{Course, ◌>>=◌, GoesOn, load_step, value_step}

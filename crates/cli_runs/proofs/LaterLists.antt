@@ -24,8 +24,8 @@ use Rattle.cli_words.specs.declared.words.ListWords.{ListWords}
 use Rattle.cli_words.specs.declared.words.SolveWords.{SolveWords}
 use Rattle.cli_words.specs.declared.words.CommandWords.TheVariants.{Solve, List as ListAll}
 use Rattle.pl94_counties.specs.declared.county_names.NamedFault.TheVariants.{BadName}
-use Rattle.cli_shelves.specs.Files.{NamedFile, Files}
-use Rattle.cli_shelves.specs.History.{History}
+use Rattle.cli_file_stores.specs.Files.{NamedFile, Files}
+use Rattle.cli_file_stores.specs.History.{History}
 use Rattle.cli_answers.specs.Answer.{Answered, memory_answer}
 use Rattle.cli_answers.specs.Refusals.{named_answer}
 use Rattle.cli_runs.specs.Course.{◌>>=◌, load_step, value_step}
@@ -89,7 +89,7 @@ module _ (files : Files) (words : SolveWords) (stored : List NamedFile) (a : Ans
     (listed : (budget : ℕ) (t : Tabled) → t.problem ≡ h.t.problem → (asked : Asked) (s : Listed) → IsListAnswer t budget asked text s → SaysAllOrStops h.t.problem asked.which s.answer) where
   module _ (others : Files) (list : ListWords) (which : Option Grouping) (same : HasSameProblem files others words.problem list.check.problem)
       (certificate : others list.check.certificate.now ≡ Some text) (which_is : IsGroupingIfNamed others list.which which) where
-    -- it ends early at a fault of the shelf, for want of memory, or at a name
+    -- it ends early at a fault of the file store, for want of memory, or at a name
     abbrev IsStopped : Answered → Type 0
     IsStopped b = (b.status ≡ 5) ⊎ IsUnnamed list.groupings b
 

@@ -5,11 +5,11 @@ use Rattle.std.specs.List.{All}
 use Rattle.std.specs.Borrow.{Bor}
 use Rattle.std.proofs.lemmas.List.{append-nil, append_cancel_left}
 use Rattle.std.proofs.lemmas.List.Elements.{All-nil, All-cons, All-head, All-tail, All-same}
-use Rattle.cli_shelves.specs.declared.shelf.ShelfFault.{ShelfFault}
-use Rattle.cli_shelves.specs.declared.shelf.ShelfFault.TheVariants.{Missing, TooLarge, Device, Memory}
-use Rattle.cli_shelves.specs.Files.{Files}
-use Rattle.cli_shelves.specs.Shelf.{IsLoad}
-use Rattle.cli_shelves.specs.History.{ShelfEvent, History}
+use Rattle.cli_file_stores.specs.declared.file_store.FileStoreFault.{FileStoreFault}
+use Rattle.cli_file_stores.specs.declared.file_store.FileStoreFault.TheVariants.{Missing, TooLarge, Device, Memory}
+use Rattle.cli_file_stores.specs.Files.{Files}
+use Rattle.cli_file_stores.specs.FileStore.{IsLoad}
+use Rattle.cli_file_stores.specs.History.{FileStoreEvent, History}
 use Rattle.cli_answers.specs.Answer.{Answered}
 use Rattle.cli_runs.specs.Course.{Course, ◌>>=◌, CourseEndsIn, load_step, call_step, value_step, optional_step}
 use Rattle.field_lines.specs.Source.{Given}
@@ -18,13 +18,13 @@ use Rattle.cli_runs.specs.Loads.{HasAnswer, Answers, AnsweredBy}
 
 -- the events of one history are those of another and then more
 abbrev pub Extends : History → History → Type 0
-Extends before after = (more : List ShelfEvent) × (after.events ≡ before.events ++ more)
+Extends before after = (more : List FileStoreEvent) × (after.events ≡ before.events ++ more)
 
 pub extends_same : (before after : History) → after ≡ before → Extends before after
 extends_same before after same = ([], ap (λ (h : History). h.events) same ∙ sym (append-nil before.events))
 
 pub extends_twice : (before between after : History) (first : Extends before between) (next : Extends between after) → after.events ≡ before.events ++ (first.0 ++ next.0)
-extends_twice before between after first next = next.1 ∙ ap (λ (events : List ShelfEvent). events ++ next.0) first.1 ∙ append_assoc before.events first.0 next.0
+extends_twice before between after first next = next.1 ∙ ap (λ (events : List FileStoreEvent). events ++ next.0) first.1 ∙ append_assoc before.events first.0 next.0
 
 -- all of a list's members are all of its front's and all of the rest's
 All_split : {X : Type 0} (P : X → Type 0) (xs ys : List X) → All P (xs ++ ys) → All P xs × All P ys
@@ -43,12 +43,12 @@ module _ (given : Option Files) (files : Files) where
       ((first.0, first.1, parts.0), (next.0, next.1, parts.1))
 
   -- the one event of a step
-  one_answer : (before after : History) (event : ShelfEvent) → after.events ≡ before.events ++ event ∷ [] → AnsweredBy files before after → Answers files event
+  one_answer : (before after : History) (event : FileStoreEvent) → after.events ≡ before.events ++ event ∷ [] → AnsweredBy files before after → Answers files event
   one_answer before after event events by =
       let same : event ∷ [] ≡ by.0 = append_cancel_left before.events (event ∷ []) by.0 (sym events ∙ by.1) in
       All-head (Answers files) event [] (All-same (Answers files) (event ∷ []) by.0 same by.2)
 
-  fault_of_files : (failures : ℕ) (name : List ℕ) (fault : ShelfFault) → HasAnswer files name (Err fault) → IsLoad {X = List ℕ} (λ b. b) (Some files) failures name (Err fault)
+  fault_of_files : (failures : ℕ) (name : List ℕ) (fault : FileStoreFault) → HasAnswer files name (Err fault) → IsLoad {X = List ℕ} (λ b. b) (Some files) failures name (Err fault)
   fault_of_files failures name Missing h = inl h
   fault_of_files failures name TooLarge h = h
   fault_of_files failures name Device h = tt

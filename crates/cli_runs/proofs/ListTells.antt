@@ -13,8 +13,8 @@ use Rattle.certificate_checker.proofs.Answering.{shows_impossible}
 use Rattle.cli_words.specs.declared.words.ListWords.{ListWords}
 use Rattle.cli_words.specs.declared.words.StoredWords.{StoredWords}
 use Rattle.cli_words.specs.declared.words.CommandWords.TheVariants.{List as ListAll}
-use Rattle.cli_shelves.specs.Files.{NamedFile, Files}
-use Rattle.cli_shelves.specs.History.{History}
+use Rattle.cli_file_stores.specs.Files.{NamedFile, Files}
+use Rattle.cli_file_stores.specs.History.{History}
 use Rattle.cli_answers.specs.Answer.{Answered}
 use Rattle.cli_runs.specs.TableCourse.{Tabled}
 use Rattle.cli_runs.specs.FilesProblem.{IsProblemOfFiles, IsLongTableOfFiles, IsGroupingIfNamed}

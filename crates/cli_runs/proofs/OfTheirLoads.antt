@@ -1,4 +1,4 @@
--- Runs over files, whether a shelf tells them or not, are runs over any files by which their loads and readers answered.
+-- Runs over files, whether a file store tells them or not, are runs over any files by which their loads and readers answered.
 use Rattle.std.proofs.Common.{◌≡◌, ◌⊎◌, ℕ, length, List, [], ◌∷◌, ◌++◌, Contains, Option, Some, None, inl, inr, sym, ap, subst, ◌∙◌, append_assoc}
 use Rattle.std.specs.Borrow.{Bor}
 use Rattle.std.specs.Prelude.{Ok, Err, true, is_some}
@@ -22,9 +22,9 @@ use Rattle.cli_words.specs.declared.words.ShareWords.{ShareWords}
 use Rattle.cli_words.specs.declared.words.PieceWords.{PieceWords}
 use Rattle.cli_words.specs.declared.words.CommandWords.{CommandWords}
 use Rattle.cli_words.specs.declared.words.CommandWords.TheVariants.{Size, Judge, Solve, Check, Audit, List as ListAll, Share, Piece}
-use Rattle.cli_shelves.specs.Files.{NamedFile, Files}
-use Rattle.cli_shelves.specs.History.{ShelfEvent, History}
-use Rattle.cli_shelves.specs.History.ShelfEvent.{Stored}
+use Rattle.cli_file_stores.specs.Files.{NamedFile, Files}
+use Rattle.cli_file_stores.specs.History.{FileStoreEvent, History}
+use Rattle.cli_file_stores.specs.History.FileStoreEvent.{Stored}
 use Rattle.cli_answers.specs.declared.refusal.InputFile.TheVariants as input
 use Rattle.cli_answers.specs.Answer.{Answered, success}
 use Rattle.cli_answers.specs.Refusals.{pl94_answer, named_answer, code_file_answer, problem_answer, assignment_answer, verdict_answer, events_answer, board_answer}
@@ -40,10 +40,10 @@ use Rattle.cli_runs.specs.SolveCourse.{IsSolved, solve_course, files_to_store}
 use Rattle.cli_runs.specs.CheckCourse.{IsChecked, check_course}
 use Rattle.cli_runs.specs.ListCourse.{IsListAnswer, which_of, asked_by, list_course, listed_files}
 use Rattle.county_problem.specs.ProblemValue.{codes_of, problem_of}
-use Rattle.certificate_data.specs.declared.language.Language as rounds
+use Rattle.certificate_data.specs.declared.format.Format as rounds
 use Rattle.board_report.specs.BoardOutcome.{IsShared}
 use Rattle.board_report.specs.PieceAnswers.{IsAnswered, piece_budget}
-use Rattle.cli_runs.specs.BoardCourse.{language_of, depth_of, AreEvents, events_of, named_events_of, AnswersOnBoard}
+use Rattle.cli_runs.specs.BoardCourse.{format_of, depth_of, AreEvents, events_of, named_events_of, AnswersOnBoard}
 use Rattle.cli_runs.specs.ShareCourse.{share_answer, share_course, joined_file}
 use Rattle.cli_runs.specs.PieceCourse.{piece_said, piece_course}
 use Rattle.cli_record.specs.RecordFiles.{record_name_of}
@@ -145,23 +145,23 @@ module _ (given : Option Files) (files : Files) where
       lifts_bind given files (tabled_lifts words.check.problem words.groupings) (λ t. lifts_bind given files (which_lifts words.which) (λ which.
       lifts_bind given files (lifts_load given files words.check.certificate.now) (λ text. lifts_value given files (IsListAnswer t words.check.budget (asked_by words which) text))))
 
-  events_lift : (language : rounds.Language) (counties : ℕ) (name : List ℕ) → Lifts given files (events_of given language counties name) (events_of (Some files) language counties name)
-  events_lift language counties name = lifts_bind given files (lifts_load given files name) (λ text. lifts_call given files events_answer (AreEvents language counties text))
+  events_lift : (format : rounds.Format) (counties : ℕ) (name : List ℕ) → Lifts given files (events_of given format counties name) (events_of (Some files) format counties name)
+  events_lift format counties name = lifts_bind given files (lifts_load given files name) (λ text. lifts_call given files events_answer (AreEvents format counties text))
 
-  named_events_lift : (language : rounds.Language) (counties : ℕ) (name : Option (Bor (List ℕ)))
-      → Lifts given files (named_events_of given language counties name) (named_events_of (Some files) language counties name)
-  named_events_lift language counties name = lifts_optional given files [] name (λ file. events_lift language counties file)
+  named_events_lift : (format : rounds.Format) (counties : ℕ) (name : Option (Bor (List ℕ)))
+      → Lifts given files (named_events_of given format counties name) (named_events_of (Some files) format counties name)
+  named_events_lift format counties name = lifts_optional given files [] name (λ file. events_lift format counties file)
 
   share_lifts : (words : ShareWords) → Lifts given files (share_course given words) (share_course (Some files) words)
   share_lifts words =
       lifts_bind given files (problem_lifts words.board.problem) (λ v. lifts_bind given files (grouping_lifts words.board.grouping.now) (λ g.
-      lifts_bind given files (events_lift (language_of words.board.round) (length v.counties) words.events.now) (λ events.
+      lifts_bind given files (events_lift (format_of words.board.round) (length v.counties) words.events.now) (λ events.
       lifts_call given files board_answer (AnswersOnBoard v g words.board.round words.budget (λ round. IsShared (problem_of v) (depth_of words.board.round) words.budget round events)))))
 
   piece_lifts : (words : PieceWords) → Lifts given files (piece_course given words) (piece_course (Some files) words)
   piece_lifts words =
       lifts_bind given files (problem_lifts words.board.problem) (λ v. lifts_bind given files (grouping_lifts words.board.grouping.now) (λ g.
-      lifts_bind given files (named_events_lift (language_of words.board.round) (length v.counties) words.events) (λ events.
+      lifts_bind given files (named_events_lift (format_of words.board.round) (length v.counties) words.events) (λ events.
       lifts_bind given files (lifts_call given files board_answer (AnswersOnBoard v g words.board.round piece_budget (λ round. IsAnswered (problem_of v) (depth_of words.board.round) round events words.number))) (λ piece.
       lifts_value given files (λ a. a ≡ piece_said words.round words.number piece)))))
 
@@ -241,8 +241,8 @@ module _ (given : Option Files) (files : Files) where
       let last = k.0 ++ (event ∷ k.1) in (
         first.0 ++ k.0,
         k.1,
-        k.2 ∙ ap (λ (events : List ShelfEvent). events ++ last) first.1 ∙ append_assoc before.events first.0 last
-            ∙ ap (λ (events : List ShelfEvent). before.events ++ events) (sym (append_assoc first.0 k.0 (event ∷ k.1))),
+        k.2 ∙ ap (λ (events : List FileStoreEvent). events ++ last) first.1 ∙ append_assoc before.events first.0 last
+            ∙ ap (λ (events : List FileStoreEvent). before.events ++ events) (sym (append_assoc first.0 k.0 (event ∷ k.1))),
       )
 
   none_holds : (stored : List NamedFile) (f : NamedFile) → stored ≡ [] → Contains stored f → ⊥

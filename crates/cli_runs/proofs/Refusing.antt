@@ -2,8 +2,8 @@
 use Rattle.std.proofs.Common.{◌≡◌, ◌⊎◌, ℕ, List, [], Option, Some, None, inl, inr, refl, ap, ◌∙◌}
 use Rattle.std.specs.Prelude.{Result, Err}
 use Rattle.std.specs.Borrow.{Bor}
-use Rattle.cli_shelves.specs.Files.{Files}
-use Rattle.cli_shelves.specs.History.{History}
+use Rattle.cli_file_stores.specs.Files.{Files}
+use Rattle.cli_file_stores.specs.History.{History}
 use Rattle.pl94_counties.specs.declared.fault.Pl94Kind.{Pl94Kind}
 use Rattle.pl94_counties.specs.declared.fault.Pl94Kind.TheVariants as kinds
 use Rattle.pl94_counties.specs.declared.county_names.NamedFault.{NamedFault}
@@ -33,7 +33,7 @@ use Rattle.baf_auditor.specs.Assignments.{assignment_list}
 use Rattle.cli_answers.specs.declared.refusal.InputFile.{InputFile}
 use Rattle.cli_answers.specs.declared.refusal.InputFile.TheVariants.{Adjacency, Links, Withdrawn, Grouping}
 use Rattle.cli_answers.specs.Answer.{Answered}
-use Rattle.cli_answers.specs.Refusals.{shelf_answer, file_answer, pl94_answer, code_line_answer, code_file_answer, problem_answer, named_answer, assignment_line_answer, assignment_answer, events_line_answer, events_answer, board_answer}
+use Rattle.cli_answers.specs.Refusals.{file_store_answer, file_answer, pl94_answer, code_line_answer, code_file_answer, problem_answer, named_answer, assignment_line_answer, assignment_answer, events_line_answer, events_answer, board_answer}
 use Rattle.cli_words.specs.declared.words.CommonWords.{CommonWords}
 use Rattle.cli_words.specs.declared.words.ProblemWords.{ProblemWords}
 use Rattle.cli_runs.specs.Course.{Course, ◌>>=◌, load_step, call_step, value_step, optional_step}
@@ -41,10 +41,10 @@ use Rattle.cli_runs.specs.Reading.{given_of, given_of_both, OfTexts}
 use Rattle.cli_runs.specs.PlanCourse.{blocks_of, plan_assignments}
 use Rattle.cli_runs.specs.ListCourse.{which_of}
 use Rattle.cli_runs.specs.TableCourse.{untabled, tabled_by, named_counties_of, tabled_problem_in}
-use Rattle.cli_runs.proofs.Texts.{shelf_status, given_of_cuts, given_of_both_cuts}
+use Rattle.cli_runs.proofs.Texts.{file_store_status, given_of_cuts, given_of_both_cuts}
 use Rattle.cli_runs.specs.ProblemCourse.{counties_course, pairs_of, pairs_in, links_of, links_in, withdrawn_of, withdrawn_in, adjacency_of, IsBuilt, problem_over, problem_course, grouping_in, grouping_of}
 
--- the status of a refusal: 4 for a file, a problem or a board, and 5 for a shelf or for memory
+-- the status of a refusal: 4 for a file, a problem or a board, and 5 for a file store or for memory
 abbrev pub IsRefusal : Answered → Type 0
 IsRefusal a = (a.status ≡ 4) ⊎ (a.status ≡ 5)
 
@@ -119,7 +119,7 @@ bind_refuses first next f n before after a (inl stop) = f before after a stop
 bind_refuses first next f n before after a (inr on) = n on.value on.between after a on.goes_on
 
 pub load_refuses : (files : Option Files) (name : List ℕ) → Refuses (load_step files name)
-load_refuses files name before after a h = as_refused a (shelf_answer name h.0) h.3 (inr (shelf_status name h.0))
+load_refuses files name before after a h = as_refused a (file_store_answer name h.0) h.3 (inr (file_store_status name h.0))
 
 pub call_refuses : {X F : Type 0} (refuse : F → Answered) (R : Result X F → Type 0) → ((fault : F) → IsRefusal (refuse fault)) → Refuses (call_step refuse R)
 call_refuses refuse R all before after a h = as_refused a (refuse h.1.0) h.1.2 (all h.1.0)

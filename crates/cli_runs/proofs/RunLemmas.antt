@@ -1,12 +1,12 @@
 -- What the steps of a run come to together.
 use Rattle.std.proofs.Common.{◌≡◌, ◌≢◌, ℕ, List, Option, Some, None, inl, inr, subst, sym, refl}
 use Rattle.std.specs.Prelude.{Result, Ok, Err, IfOk}
-use Rattle.cli_shelves.specs.declared.shelf.ShelfFault.{ShelfFault}
-use Rattle.cli_shelves.specs.declared.shelf.ShelfFault.TheVariants.{Missing, TooLarge, Device}
-use Rattle.cli_shelves.specs.declared.shelf.ShelfFault.TheVariants as shelf
-use Rattle.cli_shelves.specs.Files.{Files}
-use Rattle.cli_shelves.specs.History.{History}
-use Rattle.cli_shelves.specs.Shelf.{IsLoad}
+use Rattle.cli_file_stores.specs.declared.file_store.FileStoreFault.{FileStoreFault}
+use Rattle.cli_file_stores.specs.declared.file_store.FileStoreFault.TheVariants.{Missing, TooLarge, Device}
+use Rattle.cli_file_stores.specs.declared.file_store.FileStoreFault.TheVariants as file_store
+use Rattle.cli_file_stores.specs.Files.{Files}
+use Rattle.cli_file_stores.specs.History.{History}
+use Rattle.cli_file_stores.specs.FileStore.{IsLoad}
 use Rattle.county_problem.specs.declared.fault.ProblemFault.{ProblemFault}
 use Rattle.county_problem.specs.declared.fault.ProblemFault.TheVariants as problem
 use Rattle.county_problem.specs.Building.{IsProblemRefused}
@@ -28,13 +28,13 @@ pub loaded_bytes : {X : Type 0} (view : X → List ℕ) (files : Option Files) (
 loaded_bytes view None failures name x h = tt
 loaded_bytes view (Some files) failures name x h = h
 
-pub load_fault : {X : Type 0} (view : X → List ℕ) (files : Option Files) (failures : ℕ) (name : List ℕ) (fault : ShelfFault)
+pub load_fault : {X : Type 0} (view : X → List ℕ) (files : Option Files) (failures : ℕ) (name : List ℕ) (fault : FileStoreFault)
     → IsLoad view files failures name (Err fault) → IsLoad {X = List ℕ} (λ bytes. bytes) files failures name (Err fault)
 load_fault view None failures name fault h = tt
 load_fault view (Some files) failures name Missing h = h
 load_fault view (Some files) failures name TooLarge h = h
 load_fault view (Some files) failures name Device h = h
-load_fault view (Some files) failures name shelf.Memory h = h
+load_fault view (Some files) failures name file_store.Memory h = h
 
 -- the first steps end the course, where they meet a fault that is handed on
 pub handed_on : {X S Y : Type 0} (show : S → Y) (refusal : Refusal) (end : Result S Refusal) (first : Course X) (next : X → Course Y) (before after : History)

@@ -24,7 +24,7 @@ use Rattle.grouping_table.specs.Table.{unnamed_counties as without_names}
 use Rattle.grouping_laws.specs.Grouping.{Grouping}
 use Rattle.grouping_reader.specs.GroupingLines.{grouping_list}
 use Rattle.cli_words.specs.declared.words.ProblemWords.{ProblemWords}
-use Rattle.cli_shelves.specs.Files.{Files}
+use Rattle.cli_file_stores.specs.Files.{Files}
 use Rattle.cli_answers.specs.declared.refusal.InputFile.TheVariants as input
 use Rattle.cli_answers.specs.Answer.{Answered}
 use Rattle.cli_answers.specs.Refusals.{pl94_answer, named_answer, code_file_answer, problem_answer}

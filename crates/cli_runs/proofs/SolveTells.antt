@@ -11,8 +11,8 @@ use Rattle.branch_bound.specs.declared.answer.Answer.TheVariants.{Best, Impossib
 use Rattle.branch_bound.specs.Answers.{IsSolveAnswer, SolveIsRight, SaysWhether}
 use Rattle.cli_words.specs.declared.words.SolveWords.{SolveWords}
 use Rattle.cli_words.specs.declared.words.CommandWords.TheVariants.{Solve}
-use Rattle.cli_shelves.specs.Files.{NamedFile, Files}
-use Rattle.cli_shelves.specs.History.{History}
+use Rattle.cli_file_stores.specs.Files.{NamedFile, Files}
+use Rattle.cli_file_stores.specs.History.{History}
 use Rattle.cli_answers.specs.Answer.{Answered}
 use Rattle.cli_runs.specs.TableCourse.{table_of}
 use Rattle.cli_runs.specs.FilesProblem.{IsProblemOfFiles, IsTableOfFiles}

@@ -1,12 +1,12 @@
 -- What storing files in turn comes to together.
 use Rattle.std.proofs.Common.{◌≡◌, List, [], ◌∷◌, ◌++◌, Option, Some, None, inl, inr, refl, sym, ap, subst, ◌∙◌}
 use Rattle.std.specs.Prelude.{option_map}
-use Rattle.cli_shelves.specs.Files.{NamedFile, Files, with_file, with_files, with_bytes, with_all}
-use Rattle.cli_shelves.specs.History.{History}
+use Rattle.cli_file_stores.specs.Files.{NamedFile, Files, with_file, with_files, with_bytes, with_all}
+use Rattle.cli_file_stores.specs.History.{History}
 use Rattle.cli_answers.specs.Answer.{Answered, memory_answer}
-use Rattle.cli_answers.specs.Refusals.{shelf_answer}
+use Rattle.cli_answers.specs.Refusals.{file_store_answer}
 use Rattle.cli_runs.specs.Storing.{HasStored, IsAnsweredBy, store_steps}
-use Rattle.cli_runs.proofs.Texts.{shelf_status}
+use Rattle.cli_runs.proofs.Texts.{file_store_status}
 
 -- nothing was stored
 all_none : (files : Option Files) → files ≡ option_map (λ held. with_all held []) files
@@ -79,7 +79,7 @@ refusal_status [] before after stored refusal h = absurd (some_none h.2)
   where
     some_none : Some refusal ≡ None → ⊥
     some_none e = cc
-refusal_status (f ∷ fs) before after stored refusal (inl h) = answered_status refusal (shelf_answer f.name h.fault) h.answer (shelf_status f.name h.fault)
+refusal_status (f ∷ fs) before after stored refusal (inl h) = answered_status refusal (file_store_answer f.name h.fault) h.answer (file_store_status f.name h.fault)
 refusal_status (f ∷ fs) before after stored refusal (inr h) = refusal_status fs h.0 after h.1 refusal h.4
 
 -- all files are stored where none is refused

@@ -6,9 +6,9 @@ use Rattle.cli_words.specs.declared.words.CommandWords.TheVariants.{Size, Judge,
 use Rattle.cli_words.specs.declared.end.WordsEnd.{WordsEnd}
 use Rattle.cli_words.specs.declared.end.WordsEnd.TheVariants.{Help, Version, Usage, Memory}
 use Rattle.cli_words.specs.Words.{EndsTaken}
-use Rattle.cli_shelves.specs.Files.{NamedFile, Files}
-use Rattle.cli_shelves.specs.History.{ShelfEvent, History}
-use Rattle.cli_shelves.specs.History.ShelfEvent.{Stored}
+use Rattle.cli_file_stores.specs.Files.{NamedFile, Files}
+use Rattle.cli_file_stores.specs.History.{FileStoreEvent, History}
+use Rattle.cli_file_stores.specs.History.FileStoreEvent.{Stored}
 use Rattle.cli_answers.specs.Answer.{Answered, memory_answer}
 use Rattle.cli_record.specs.RecordFiles.{record_name_of}
 use Rattle.cli_runs.specs.Storing.{said_after, store_steps}
@@ -51,8 +51,8 @@ taken_on before between after name bytes k more =
     let event = Stored name bytes true in (
       k.0,
       k.1 ++ more.0,
-      more.1 ∙ ap (λ (events : List ShelfEvent). events ++ more.0) k.2 ∙ append_assoc before.events (k.0 ++ (event ∷ k.1)) more.0
-          ∙ ap (λ (events : List ShelfEvent). before.events ++ events) (append_assoc k.0 (event ∷ k.1) more.0),
+      more.1 ∙ ap (λ (events : List FileStoreEvent). events ++ more.0) k.2 ∙ append_assoc before.events (k.0 ++ (event ∷ k.1)) more.0
+          ∙ ap (λ (events : List FileStoreEvent). before.events ++ events) (append_assoc k.0 (event ∷ k.1) more.0),
     )
 
 -- the answer of a run with its record is that of the command, if it has a status of an answer

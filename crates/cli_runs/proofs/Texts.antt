@@ -3,26 +3,26 @@ use Rattle.std.proofs.Common.{◌≡◌, ℕ, Bool, true, false, List, [], ◌++
 use Rattle.std.proofs.lemmas.List.{append-nil}
 use Rattle.std.proofs.lemmas.Bool.{false≢true}
 use Rattle.std.specs.Prelude.{Result, Ok, Err}
-use Rattle.cli_shelves.specs.declared.shelf.ReadEnd.{ReadEnd}
-use Rattle.cli_shelves.specs.declared.shelf.ShelfFault.{ShelfFault}
-use Rattle.cli_shelves.specs.declared.shelf.ShelfFault.TheVariants as shelf
-use Rattle.cli_shelves.specs.Files.{Files}
-use Rattle.cli_shelves.specs.Shelf.{ReadsFile, read_end}
-use Rattle.cli_shelves.specs.History.{History}
+use Rattle.cli_file_stores.specs.declared.file_store.ReadEnd.{ReadEnd}
+use Rattle.cli_file_stores.specs.declared.file_store.FileStoreFault.{FileStoreFault}
+use Rattle.cli_file_stores.specs.declared.file_store.FileStoreFault.TheVariants as file_store
+use Rattle.cli_file_stores.specs.Files.{Files}
+use Rattle.cli_file_stores.specs.FileStore.{ReadsFile, read_end}
+use Rattle.cli_file_stores.specs.History.{History}
 use Rattle.cli_answers.specs.Answer.{Answered}
-use Rattle.cli_answers.specs.Refusals.{shelf_answer}
+use Rattle.cli_answers.specs.Refusals.{file_store_answer}
 use Rattle.cli_runs.specs.Course.{Course, ◌>>=◌, load_step, value_step}
 use Rattle.field_lines.specs.Source.{Given}
 use Rattle.field_lines.specs.HeldBytes.{Foresees}
 use Rattle.cli_runs.specs.Reading.{GivenBack, open_step, read_step, given_step, read_one, given_of, back_step, read_both, given_pair, given_of_both}
 
-pub shelf_status : (name : List ℕ) (fault : ShelfFault) → (shelf_answer name fault).status ≡ 5
-shelf_status name shelf.Missing = refl
-shelf_status name shelf.TooLarge = refl
-shelf_status name shelf.Device = refl
-shelf_status name shelf.Memory = refl
+pub file_store_status : (name : List ℕ) (fault : FileStoreFault) → (file_store_answer name fault).status ≡ 5
+file_store_status name file_store.Missing = refl
+file_store_status name file_store.TooLarge = refl
+file_store_status name file_store.Device = refl
+file_store_status name file_store.Memory = refl
 
--- the steps end in no other answers than those of a shelf
+-- the steps end in no other answers than those of a file store
 abbrev pub CutsOff : {X : Type 0} → Course X → Type 0
 CutsOff steps = (before after : History) (a : Answered) → steps before after (Err a) → a.status ≡ 5
 
@@ -31,7 +31,7 @@ bind_cuts first next f n before after a (inl stop) = f before after a stop
 bind_cuts first next f n before after a (inr on) = n on.value on.between after a on.goes_on
 
 pub load_cuts : (files : Option Files) (name : List ℕ) → CutsOff (load_step files name)
-load_cuts files name before after a h = ap (λ (x : Answered). x.status) h.3 ∙ shelf_status name h.0
+load_cuts files name before after a h = ap (λ (x : Answered). x.status) h.3 ∙ file_store_status name h.0
 
 open_cuts : (files : Option Files) (name : List ℕ) → CutsOff (open_step files name)
 open_cuts files name before after a h = load_cuts files name before after a h
@@ -40,7 +40,7 @@ read_cuts : (files : Option Files) (name : List ℕ) → CutsOff (read_step file
 read_cuts files name before after a h = absurd h
 
 given_cuts : (name : List ℕ) (g : GivenBack) → CutsOff (given_step name g)
-given_cuts name g before after a h = ap (λ (x : Answered). x.status) h.1.2 ∙ shelf_status name h.1.0
+given_cuts name g before after a h = ap (λ (x : Answered). x.status) h.1.2 ∙ file_store_status name h.1.0
 
 value_cuts : {X : Type 0} (P : X → Type 0) → CutsOff (value_step P)
 value_cuts P before after a h = absurd h
@@ -82,7 +82,7 @@ module _ (files : Files) where
   given_told name g before after given reads h =
       begun_by name given.bytes given.ended
       (subst (λ (bytes : List ℕ). ReadsFile files name bytes (Ok (read_end given.ended))) (sym h.1)
-      (subst (λ (answer : Result ReadEnd ShelfFault). ReadsFile files name g.bytes answer) h.2 reads))
+      (subst (λ (answer : Result ReadEnd FileStoreFault). ReadsFile files name g.bytes answer) h.2 reads))
 
   one_told : (name : List ℕ) (before after : History) (g : GivenBack) → read_one (Some files) name before after (Ok g) → IsOf name g
   one_told name before after g (inl stop) = absurd stop

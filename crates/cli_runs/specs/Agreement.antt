@@ -13,8 +13,8 @@ use Rattle.cli_words.specs.declared.words.CheckWords.{CheckWords}
 use Rattle.cli_words.specs.declared.words.ListWords.{ListWords}
 use Rattle.cli_words.specs.declared.words.ShareWords.{ShareWords}
 use Rattle.cli_words.specs.declared.words.CommandWords.TheVariants.{Solve, Check, List as ListAll, Share}
-use Rattle.cli_shelves.specs.Files.{NamedFile, Files}
-use Rattle.cli_shelves.specs.History.{History}
+use Rattle.cli_file_stores.specs.Files.{NamedFile, Files}
+use Rattle.cli_file_stores.specs.History.{History}
 use Rattle.cli_answers.specs.Answer.{Answered, success, budget_answer}
 use Rattle.cli_answers.specs.Refusals.{named_answer}
 use Rattle.cli_runs.specs.FilesProblem.{IsProblemOfFiles, IsGroupingIfNamed}
@@ -110,7 +110,8 @@ pub record RunsAgree : Type 0 where
   pub listed : (files : Files) (words : SolveWords) (before after : History) (stored : List NamedFile) (a : Answered)
       → CommandRun (Some files) (Solve words) before after stored a → a.status ≡ 0
       → IsStoredFirst words.certificate (ListsAllOfFiles files words.problem) stored
-  -- where `share` ends with status 0, every check of the certificate that it stored says that the board's target is best
+  -- where `share` ends with status 0, every check of the certificate that it stored says that the board's target is
+  -- best
   pub shared : (files : Files) (words : ShareWords) (before after : History) (stored : List NamedFile) (a : Answered)
       → CommandRun (Some files) (Share words) before after stored a → a.status ≡ 0 → SharesBest files words stored a
   -- `share` that ends with another status stores nothing

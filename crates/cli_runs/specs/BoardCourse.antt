@@ -4,8 +4,8 @@ use Rattle.std.specs.Borrow.{Bor}
 use Rattle.grouping_laws.specs.Grouping.{Grouping}
 use Rattle.county_problem.specs.ProblemValue.{ProblemValue, problem_of}
 use Rattle.certificate_data.specs.Round as rounds
-use Rattle.certificate_data.specs.declared.language.Language as language_type
-use Rattle.certificate_data.specs.declared.language.Language.TheVariants as languages
+use Rattle.certificate_data.specs.declared.format.Format as format_type
+use Rattle.certificate_data.specs.declared.format.Format.TheVariants as formats
 use Rattle.certificate_lines.specs.declared.fault.TextFault.{TextFault}
 use Rattle.board_laws.specs.Content.{Event}
 use Rattle.share_board.specs.Rounds.{IsBoardFault}
@@ -15,14 +15,14 @@ use Rattle.board_events.specs.Faults.{events_fault}
 use Rattle.board_report.specs.Rounds.{IsFirstRound}
 use Rattle.cli_words.specs.declared.words.RoundWords.{RoundWords}
 use Rattle.cli_words.specs.declared.words.RoundWords.TheVariants.{Plain, Wide}
-use Rattle.cli_shelves.specs.Files.{Files}
+use Rattle.cli_file_stores.specs.Files.{Files}
 use Rattle.cli_answers.specs.Refusals.{events_answer}
 use Rattle.cli_runs.specs.Course.{Course, ◌>>=◌, load_step, call_step, optional_step}
 
--- the language of the rounds, and how many branchings stand above their pieces
-abbrev pub language_of : RoundWords → language_type.Language
-language_of (Plain limit depth) = languages.Plain
-language_of (Wide limit) = languages.Wide
+-- the format of the rounds, and how many branchings stand above their pieces
+abbrev pub format_of : RoundWords → format_type.Format
+format_of (Plain limit depth) = formats.Plain
+format_of (Wide limit) = formats.Wide
 
 abbrev pub depth_of : RoundWords → ℕ
 depth_of (Plain limit depth) = depth
@@ -39,28 +39,28 @@ limit_of_words g (Wide (Some limit)) = limit
 limit_of_words g (Wide None) = min (longest g) 65535
 
 -- the events that a text gives
-abbrev pub AreEvents : language_type.Language → ℕ → List ℕ → Result (List Event) TextFault → Type 0
-AreEvents language counties text (Ok events) = EventsAreSpelled language counties text events
-AreEvents language counties text (Err fault) = events_fault language counties text ≡ Some fault
+abbrev pub AreEvents : format_type.Format → ℕ → List ℕ → Result (List Event) TextFault → Type 0
+AreEvents format counties text (Ok events) = EventsAreSpelled format counties text events
+AreEvents format counties text (Err fault) = events_fault format counties text ≡ Some fault
 
-abbrev pub events_in : language_type.Language → ℕ → List ℕ → Course (List Event)
-events_in language counties text = call_step events_answer (AreEvents language counties text)
+abbrev pub events_in : format_type.Format → ℕ → List ℕ → Course (List Event)
+events_in format counties text = call_step events_answer (AreEvents format counties text)
 
--- the events of a file, whose trees are of the language and for this number of counties
-abbrev pub events_of : Option Files → language_type.Language → ℕ → List ℕ → Course (List Event)
-events_of files language counties name = load_step files name >>= events_in language counties
+-- the events of a file, whose trees are of the format and for this number of counties
+abbrev pub events_of : Option Files → format_type.Format → ℕ → List ℕ → Course (List Event)
+events_of files format counties name = load_step files name >>= events_in format counties
 
 -- the events of a file that is named, else none
-abbrev pub named_events_of : Option Files → language_type.Language → ℕ → Option (Bor (List ℕ)) → Course (List Event)
-named_events_of files language counties name = optional_step [] (events_of files language counties) name
+abbrev pub named_events_of : Option Files → format_type.Format → ℕ → Option (Bor (List ℕ)) → Course (List Event)
+named_events_of files format counties name = optional_step [] (events_of files format counties) name
 
 -- What a board answers whose target is the grouping and whose first round is that of the words, or why there is no such
 -- board.
 abbrev pub AnswersOnBoard : {X : Type 0} → ProblemValue → Grouping → RoundWords → ℕ → (rounds.Round → X → Type 0)
     → Result X BoardFault → Type 0
 AnswersOnBoard v g words budget P (Ok x) =
-    (round : rounds.Round) × IsFirstRound (problem_of v) g (limit_of_words g words) (language_of words) round
+    (round : rounds.Round) × IsFirstRound (problem_of v) g (limit_of_words g words) (format_of words) round
     × P round x
 AnswersOnBoard v g words budget P (Err fault) =
-    (round : rounds.Round) × IsFirstRound (problem_of v) g (limit_of_words g words) (language_of words) round
+    (round : rounds.Round) × IsFirstRound (problem_of v) g (limit_of_words g words) (format_of words) round
     × IsBoardFault (problem_of v) (depth_of words) budget g round fault

@@ -7,8 +7,8 @@ use Rattle.certificate_checker.specs.declared.verdict.Verdict.{Verdict}
 use Rattle.certificate_checker.specs.declared.verdict.Verdict.TheVariants.{Best, Impossible, No, Budget}
 use Rattle.certificate_checker.specs.Answers.{IsCheckAnswer, CheckIsRight, ShowsImpossible}
 use Rattle.cli_words.specs.declared.words.CheckWords.{CheckWords}
-use Rattle.cli_shelves.specs.Files.{NamedFile, Files}
-use Rattle.cli_shelves.specs.History.{History}
+use Rattle.cli_file_stores.specs.Files.{NamedFile, Files}
+use Rattle.cli_file_stores.specs.History.{History}
 use Rattle.cli_answers.specs.Answer.{Answered, success, budget_answer}
 use Rattle.cli_answers.specs.CheckLines.{no_answer}
 use Rattle.cli_runs.specs.Course.{Course, ◌>>=◌, value_step}

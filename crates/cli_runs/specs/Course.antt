@@ -1,15 +1,15 @@
 -- Courses: what a command comes to, step by step, up to the first fault that it meets.
 use Rattle.std.specs.Prelude.{◌≡◌, ◌≤◌, ◌⊎◌, ℕ, List, length, Option, Some, None, Result, Ok, Err}
 use Rattle.std.specs.Borrow.{Bor}
-use Rattle.cli_shelves.specs.declared.shelf.ShelfFault.{ShelfFault}
-use Rattle.cli_shelves.specs.Files.{Files}
-use Rattle.cli_shelves.specs.Shelf.{IsLoad}
-use Rattle.cli_shelves.specs.History.{History, HasLoaded}
+use Rattle.cli_file_stores.specs.declared.file_store.FileStoreFault.{FileStoreFault}
+use Rattle.cli_file_stores.specs.Files.{Files}
+use Rattle.cli_file_stores.specs.FileStore.{IsLoad}
+use Rattle.cli_file_stores.specs.History.{History, HasLoaded}
 use Rattle.cli_answers.specs.Answer.{Answered}
-use Rattle.cli_answers.specs.Refusals.{shelf_answer}
+use Rattle.cli_answers.specs.Refusals.{file_store_answer}
 
--- what steps come to: a value, or the answer to the first fault met, where the shelf had this history before them and
--- this one after them
+-- what steps come to: a value, or the answer to the first fault met, where the file store had this history before them
+-- and this one after them
 abbrev pub Course : Type 0 → Type 1
 Course X = History → History → Result X Answered → Type 0
 
@@ -32,15 +32,15 @@ abbrev pub ◌>>=◌ : {X Y : Type 0} → Course X → (X → Course Y) → Cour
 ◌>>=◌ first next before after end = CourseStops first before after end ⊎ GoesOn first next before after end
 
 -- A file is loaded, and its name and what the load answered are the last of the history: its bytes, which are no more
--- than a shelf may give, or the answer to what the shelf says of its name.
+-- than a file store may give, or the answer to what the file store says of its name.
 abbrev pub load_step : Option Files → List ℕ → Course (List ℕ)
 load_step files name before after (Ok bytes) =
     IsLoad {X =
     List ℕ} (λ b. b) files before.failures name (Ok bytes)
     × HasLoaded {X = List ℕ} (λ b. b) before after name (Ok bytes) × (length bytes ≤ 1073741824)
 load_step files name before after (Err a) =
-    (fault : ShelfFault) × IsLoad {X = List ℕ} (λ b. b) files before.failures name (Err fault)
-    × HasLoaded {X = List ℕ} (λ b. b) before after name (Err fault) × (a ≡ shelf_answer name fault)
+    (fault : FileStoreFault) × IsLoad {X = List ℕ} (λ b. b) files before.failures name (Err fault)
+    × HasLoaded {X = List ℕ} (λ b. b) before after name (Err fault) × (a ≡ file_store_answer name fault)
 
 -- a step without a file: its results are those that R takes, and a fault among them is refused
 abbrev pub call_step : {X F : Type 0} → (F → Answered) → (Result X F → Type 0) → Course X

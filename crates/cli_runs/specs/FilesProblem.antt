@@ -23,7 +23,7 @@ use Rattle.baf_auditor.specs.Assignments.{assignment_list}
 use Rattle.grouping_reader.specs.GroupingLines.{grouping_list}
 use Rattle.cli_words.specs.declared.words.CommonWords.{CommonWords}
 use Rattle.cli_words.specs.declared.words.ProblemWords.{ProblemWords}
-use Rattle.cli_shelves.specs.Files.{Files}
+use Rattle.cli_file_stores.specs.Files.{Files}
 
 -- the bytes under a name are read as this value
 abbrev pub IsReadAs : {X F : Type 0} → (List ℕ → Result X F) → Files → List ℕ → X → Type 0

@@ -54,9 +54,9 @@ use Rattle.cli_words.specs.declared.words.PieceWords.{PieceWords}
 use Rattle.cli_words.specs.declared.words.CommandWords.{CommandWords}
 use Rattle.cli_words.specs.declared.words.CommandWords.TheVariants.{Size, Judge, Solve, Check, Audit, List as ListAll}
 use Rattle.cli_words.specs.declared.words.CommandWords.TheVariants.{Share, Piece}
-use Rattle.cli_shelves.specs.Files.{NamedFile, Files}
-use Rattle.cli_shelves.specs.History.{ShelfEvent, History}
-use Rattle.cli_shelves.specs.History.ShelfEvent.{Stored}
+use Rattle.cli_file_stores.specs.Files.{NamedFile, Files}
+use Rattle.cli_file_stores.specs.History.{FileStoreEvent, History}
+use Rattle.cli_file_stores.specs.History.FileStoreEvent.{Stored}
 use Rattle.cli_answers.specs.Answer.{Answered, success, budget_answer}
 use Rattle.cli_answers.specs.CheckLines.{no_answer}
 use Rattle.cli_answers.specs.Refusals.{verdict_answer}
@@ -66,7 +66,7 @@ use Rattle.cli_runs.specs.Storing.{IsStoredAs}
 use Rattle.cli_runs.specs.JudgeWithCertificate.{lawful_answer, best_answer}
 use Rattle.cli_runs.specs.JudgeCourse.{IsDistrictsTable, findings_answer}
 use Rattle.cli_runs.specs.ListCourse.{listing_answer, open_answer, grouping_numbered}
-use Rattle.cli_runs.specs.BoardCourse.{language_of, depth_of, limit_of_words}
+use Rattle.cli_runs.specs.BoardCourse.{format_of, depth_of, limit_of_words}
 use Rattle.cli_runs.specs.ShareCourse.{left_status}
 use Rattle.cli_runs.specs.PieceCourse.{piece_said}
 use Rattle.cli_runs.specs.Recording.{is_recorded}
@@ -86,7 +86,8 @@ pub record SolveTellsBest (files : Files) (words : SolveWords) (stored : List Na
   pub lines : IsStoredAs words.out (λ text. text ≡ grouping_text grouping.groups.items) stored
   pub table : IsStoredAs words.table (IsTableOfFiles files words.problem v grouping.groups.items) stored
 
--- `solve`, `check` or `list` ends with status 1: no grouping of the problem of the files is lawful, and this is printed.
+-- `solve`, `check` or `list` ends with status 1: no grouping of the problem of the files is lawful, and this is
+-- printed.
 pub record TellsNone (files : Files) (words : ProblemWords) (a : Answered) : Type 0 where
   pub v : ProblemValue
   pub problem : IsProblemOfFiles files words v
@@ -172,9 +173,9 @@ IsNumberedStored groupings (Some words) stored =
     (g : Grouping) × (grouping_numbered groupings words.number ≡ Some g)
     × IsStoredAs (Some words.out) (λ text. text ≡ grouping_text g) stored
 
--- `list` ends with status 0, or with 1 since a grouping isn't listed: the text lists all best groupings of the problem of
--- the files, in order. If the words name a grouping, its number stands behind the list, or that it isn't listed. Where
--- they are named, the lines of the grouping of a number and the table of all groupings were stored.
+-- `list` ends with status 0, or with 1 since a grouping isn't listed: the text lists all best groupings of the problem
+-- of the files, in order. If the words name a grouping, its number stands behind the list, or that it isn't listed.
+-- Where they are named, the lines of the grouping of a number and the table of all groupings were stored.
 pub record ListTellsAll (files : Files) (words : ListWords) (stored : List NamedFile) (a : Answered) : Type 0 where
   pub v : ProblemValue
   pub problem : IsProblemOfFiles files words.check.problem v
@@ -219,8 +220,8 @@ pub record AuditTells (files : Files) (words : AuditWords) (stored : List NamedF
 
 -- ---- size
 
--- `size` ends with status 0: the text is the table of sizes of the problem that the counties of the files make, where no
--- county is withdrawn and no pair is adjacent.
+-- `size` ends with status 0: the text is the table of sizes of the problem that the counties of the files make, where
+-- no county is withdrawn and no pair is adjacent.
 pub record SizeTells (files : Files) (words : CommonWords) (a : Answered) : Type 0 where
   pub counties : List County
   pub counties_are : AreCountiesOfFiles files words counties
@@ -235,14 +236,14 @@ pub record SizeTells (files : Files) (words : CommonWords) (a : Answered) : Type
 pub record IsFirstRoundOfFiles (files : Files) (words : BoardWords) (v : ProblemValue) (target : Grouping)
     (round : Round) : Type 0 where
   pub target_is : IsGroupingOfFile files words.grouping.now target
-  pub round_is : IsFirstRound (problem_of v) target (limit_of_words target words.round) (language_of words.round) round
+  pub round_is : IsFirstRound (problem_of v) target (limit_of_words target words.round) (format_of words.round) round
 
 -- the events of a file; none, if no file is named
 abbrev pub AreEventsOfFile : Files → BoardWords → ProblemValue → Option (Bor (List ℕ)) → List Event → Type 0
 AreEventsOfFile files words v None events = events ≡ []
 AreEventsOfFile files words v (Some name) events =
     (text : List ℕ) × (files name.now ≡ Some text)
-    × EventsAreSpelled (language_of words.round) (length v.counties) text events
+    × EventsAreSpelled (format_of words.round) (length v.counties) text events
 
 -- A board for the problem of the files took the events of a file, one after the other, with these replies. This is then
 -- its content.
@@ -256,8 +257,8 @@ pub record TookEvents (files : Files) (words : BoardWords) (name : Option (Bor (
   pub events_are : AreEventsOfFile files words v name events
   pub taken : EventsAreTaken (problem_of v) (depth_of words.round) budget round events replies last
 
--- `share` ends with status 0: each event of its file has its reply, and no piece waits. The board's target is then lawful
--- for the problem of the files, and no lawful grouping has greater counts.
+-- `share` ends with status 0: each event of its file has its reply, and no piece waits. The board's target is then
+-- lawful for the problem of the files, and no lawful grouping has greater counts.
 pub record ShareTellsBest (files : Files) (words : ShareWords) (a : Answered) : Type 0 where
   pub v : ProblemValue
   pub replies : List Reply
@@ -350,7 +351,7 @@ RunsTell =
 -- between two histories a file was handed over to be stored, and it was taken
 abbrev pub IsStoreTaken : History → History → List ℕ → List ℕ → Type 0
 IsStoreTaken before after name bytes =
-    (earlier : List ShelfEvent) × (later : List ShelfEvent)
+    (earlier : List FileStoreEvent) × (later : List FileStoreEvent)
     × (after.events ≡ before.events ++ (earlier ++ (Stored name bytes true ∷ later)))
 
 -- each of these files was taken

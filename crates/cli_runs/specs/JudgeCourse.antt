@@ -16,8 +16,8 @@ use Rattle.baf_auditor.specs.declared.finding.Finding.{Finding}
 use Rattle.cli_words.specs.declared.words.CommonWords.{CommonWords}
 use Rattle.cli_words.specs.declared.words.JudgeWords.{JudgeWords}
 use Rattle.cli_words.specs.declared.words.AuditWords.{AuditWords}
-use Rattle.cli_shelves.specs.Files.{NamedFile, Files}
-use Rattle.cli_shelves.specs.History.{History}
+use Rattle.cli_file_stores.specs.Files.{NamedFile, Files}
+use Rattle.cli_file_stores.specs.History.{History}
 use Rattle.cli_answers.specs.Answer.{Answered, success}
 use Rattle.cli_answers.specs.Refusals.{verdict_answer}
 use Rattle.cli_runs.specs.Course.{Course, ◌>>=◌, call_step, value_step}

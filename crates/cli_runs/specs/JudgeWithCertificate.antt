@@ -7,7 +7,7 @@ use Rattle.grouping_report.specs.Report.{report_text}
 use Rattle.certificate_checker.specs.declared.verdict.Verdict.{Verdict}
 use Rattle.certificate_checker.specs.declared.verdict.Verdict.TheVariants.{Best}
 use Rattle.certificate_checker.specs.Answers.{IsCheckAnswer}
-use Rattle.cli_shelves.specs.Files.{Files}
+use Rattle.cli_file_stores.specs.Files.{Files}
 use Rattle.cli_answers.specs.Answer.{Answered, success}
 use Rattle.cli_runs.specs.Course.{Course, ◌>>=◌, load_step, optional_step, value_step}
 

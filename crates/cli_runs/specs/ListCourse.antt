@@ -17,8 +17,8 @@ use Rattle.list_groupings.specs.Answers.{IsListing, ListsAllBest}
 use Rattle.list_groupings.specs.Walking.{sets_held}
 use Rattle.list_report.specs.Listing.{listing_text}
 use Rattle.cli_words.specs.declared.words.ListWords.{ListWords}
-use Rattle.cli_shelves.specs.Files.{NamedFile, Files}
-use Rattle.cli_shelves.specs.History.{History}
+use Rattle.cli_file_stores.specs.Files.{NamedFile, Files}
+use Rattle.cli_file_stores.specs.History.{History}
 use Rattle.cli_answers.specs.Answer.{Answered, success, budget_answer}
 use Rattle.cli_answers.specs.CheckLines.{no_answer}
 use Rattle.cli_runs.specs.Course.{Course, ◌>>=◌, load_step, optional_step, value_step}
@@ -44,7 +44,8 @@ open_answer gap line = record { text = open_line gap line; status = 3 }
 abbrev pub no_such_grouping : Answered
 no_such_grouping = record { text = codes "no such grouping\n"; status = 4 }
 
--- what `list` is asked for: the number of the grouping that is to be stored, and the grouping whose number is to be told
+-- what `list` is asked for: the number of the grouping that is to be stored, and the grouping whose number is to be
+-- told
 pub record Asked : Type 0 where
   pub number : Option ℕ
   pub which : Option Grouping

@@ -5,7 +5,7 @@ use Rattle.pl94_counties.specs.Counties.{block_list}
 use Rattle.baf_auditor.specs.declared.assignments.Assignment.{Assignment}
 use Rattle.baf_auditor.specs.Assignments.{assignment_list}
 use Rattle.cli_words.specs.declared.words.CommonWords.{CommonWords}
-use Rattle.cli_shelves.specs.Files.{Files}
+use Rattle.cli_file_stores.specs.Files.{Files}
 use Rattle.cli_answers.specs.Refusals.{pl94_answer, assignment_answer}
 use Rattle.field_lines.specs.Source.{Given}
 use Rattle.cli_runs.specs.Reading.{given_of_both, OfTexts}

@@ -17,7 +17,7 @@ use Rattle.adjacency_reader.specs.Adjacency.{AreLinked}
 use Rattle.grouping_reader.specs.GroupingLines.{grouping_list}
 use Rattle.cli_words.specs.declared.words.CommonWords.{CommonWords}
 use Rattle.cli_words.specs.declared.words.ProblemWords.{ProblemWords}
-use Rattle.cli_shelves.specs.Files.{Files}
+use Rattle.cli_file_stores.specs.Files.{Files}
 use Rattle.cli_answers.specs.declared.refusal.InputFile.TheVariants.{Adjacency, Links, Withdrawn, Grouping}
 use Rattle.cli_answers.specs.Refusals.{pl94_answer, code_file_answer, problem_answer}
 use Rattle.field_lines.specs.Source.{Given}

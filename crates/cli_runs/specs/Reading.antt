@@ -2,18 +2,18 @@
 use Rattle.std.specs.Prelude.{◌≡◌, ℕ, List, Option, Result, Ok, Err}
 use Rattle.field_lines.specs.Source.{Given}
 use Rattle.field_lines.specs.HeldBytes.{Foresees}
-use Rattle.cli_shelves.specs.declared.shelf.ReadEnd.{ReadEnd}
-use Rattle.cli_shelves.specs.declared.shelf.ShelfFault.{ShelfFault}
-use Rattle.cli_shelves.specs.Files.{Files}
-use Rattle.cli_shelves.specs.Shelf.{IsRead, read_end}
-use Rattle.cli_shelves.specs.History.{HasRead}
-use Rattle.cli_answers.specs.Refusals.{shelf_answer}
+use Rattle.cli_file_stores.specs.declared.file_store.ReadEnd.{ReadEnd}
+use Rattle.cli_file_stores.specs.declared.file_store.FileStoreFault.{FileStoreFault}
+use Rattle.cli_file_stores.specs.Files.{Files}
+use Rattle.cli_file_stores.specs.FileStore.{IsRead, read_end}
+use Rattle.cli_file_stores.specs.History.{HasRead}
+use Rattle.cli_answers.specs.Refusals.{file_store_answer}
 use Rattle.cli_runs.specs.Course.{Course, ◌>>=◌, load_step, value_step}
 
--- the bytes that a reader gave, and what the shelf answered when it was given back
+-- the bytes that a reader gave, and what the file store answered when it was given back
 pub record GivenBack : Type 0 where
   pub bytes : List ℕ
-  pub answer : Result ReadEnd ShelfFault
+  pub answer : Result ReadEnd FileStoreFault
 
 -- A file is opened to be read, which is no event. If it can't be opened, the end is that of a load which fails.
 abbrev pub open_step : Option Files → List ℕ → Course (Unit {0})
@@ -27,12 +27,12 @@ read_step files name before after (Ok g) =
 read_step files name before after (Err a) = ⊥
 
 -- What the reader gave, and whether it stood at the end of its file. If the reader failed, the end is the answer to
--- what the shelf says of the name.
+-- what the file store says of the name.
 abbrev pub given_step : List ℕ → GivenBack → Course Given
 given_step name g before after (Ok given) =
     (after ≡ before) × (given.bytes ≡ g.bytes) × (g.answer ≡ Ok (read_end given.ended))
 given_step name g before after (Err a) =
-    (after ≡ before) × ((fault : ShelfFault) × (g.answer ≡ Err fault) × (a ≡ shelf_answer name fault))
+    (after ≡ before) × ((fault : FileStoreFault) × (g.answer ≡ Err fault) × (a ≡ file_store_answer name fault))
 
 -- a file is opened, and its reader is given back
 abbrev pub read_one : Option Files → List ℕ → Course GivenBack

@@ -1,8 +1,8 @@
 -- A run that stores its record.
 use Rattle.std.specs.Prelude.{◌≡◌, ◌⊎◌, ◌==◌, ◌||◌, ℕ, Bool, true, false, List, [], ◌∷◌, Option}
 use Rattle.cli_words.specs.declared.words.CommandWords.{CommandWords}
-use Rattle.cli_shelves.specs.Files.{NamedFile}
-use Rattle.cli_shelves.specs.History.{History}
+use Rattle.cli_file_stores.specs.Files.{NamedFile}
+use Rattle.cli_file_stores.specs.History.{History}
 use Rattle.cli_record.specs.RunRecord.{IsRecord, sums_between}
 use Rattle.cli_answers.specs.Answer.{Answered, memory_answer}
 use Rattle.cli_runs.specs.Storing.{said_after, store_steps}

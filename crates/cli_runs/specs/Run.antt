@@ -6,8 +6,8 @@ use Rattle.cli_words.specs.declared.words.CommandWords.TheVariants.{Size, Judge,
 use Rattle.cli_words.specs.declared.words.CommandWords.TheVariants.{Share, Piece}
 use Rattle.cli_words.specs.declared.end.WordsEnd.{WordsEnd}
 use Rattle.cli_words.specs.declared.end.WordsEnd.TheVariants.{Help, Version, Usage, Memory}
-use Rattle.cli_shelves.specs.Files.{NamedFile, Files}
-use Rattle.cli_shelves.specs.History.{History}
+use Rattle.cli_file_stores.specs.Files.{NamedFile, Files}
+use Rattle.cli_file_stores.specs.History.{History}
 use Rattle.cli_answers.specs.Answer.{Answered, memory_answer}
 use Rattle.cli_runs.specs.Course.{CourseEndsIn}
 use Rattle.cli_runs.specs.JudgeCourse.{size_course, JudgeEnds, AuditEnds}
@@ -19,8 +19,8 @@ use Rattle.cli_runs.specs.PieceCourse.{piece_course}
 use Rattle.cli_record.specs.RecordFiles.{record_name_of}
 use Rattle.cli_runs.specs.Recording.{RecordEnds}
 
--- A command ends with its answer, over a shelf of these histories before and after it, with these files stored: `size` and
--- `piece` store none.
+-- A command ends with its answer, over a file store of these histories before and after it, with these files stored:
+-- `size` and `piece` store none.
 abbrev pub CommandEnds : Option Files → CommandWords → History → History → List NamedFile → Answered → Type 0
 CommandEnds files (Size words) before after stored a =
     CourseEndsIn (size_course files words) before after a × (stored ≡ [])

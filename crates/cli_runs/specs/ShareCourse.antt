@@ -7,13 +7,13 @@ use Rattle.board_laws.specs.Content.{Event}
 use Rattle.board_report.specs.BoardOutcome.{IsShared}
 use Rattle.board_report.specs.declared.board_outcome.Shared.{Shared}
 use Rattle.cli_words.specs.declared.words.ShareWords.{ShareWords}
-use Rattle.cli_shelves.specs.Files.{NamedFile, Files}
-use Rattle.cli_shelves.specs.History.{History}
+use Rattle.cli_file_stores.specs.Files.{NamedFile, Files}
+use Rattle.cli_file_stores.specs.History.{History}
 use Rattle.cli_answers.specs.Answer.{Answered}
 use Rattle.cli_answers.specs.Refusals.{board_answer}
 use Rattle.cli_runs.specs.Course.{Course, ◌>>=◌, call_step}
 use Rattle.cli_runs.specs.ProblemCourse.{problem_course, grouping_of}
-use Rattle.cli_runs.specs.BoardCourse.{language_of, depth_of, events_of, AnswersOnBoard}
+use Rattle.cli_runs.specs.BoardCourse.{format_of, depth_of, events_of, AnswersOnBoard}
 use Rattle.cli_runs.specs.Storing.{EndsStoring, named_file}
 
 -- the exit status: 0 where no piece waits, else 3
@@ -36,7 +36,7 @@ share_step v g words events =
 abbrev pub share_course : Option Files → ShareWords → Course Shared
 share_course files words =
     problem_course files words.board.problem >>= λ v. grouping_of files words.board.grouping.now >>= λ g.
-    events_of files (language_of words.board.round) (length v.counties) words.events.now >>= share_step v g words
+    events_of files (format_of words.board.round) (length v.counties) words.events.now >>= share_step v g words
 
 -- the file that is stored: the certificate that was joined
 abbrev pub joined_file : ShareWords → Shared → List NamedFile

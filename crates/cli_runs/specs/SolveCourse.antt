@@ -1,4 +1,4 @@
--- The steps of `solve`: the problem is built, a desk looks for its best grouping, and what it found is stored and
+-- The steps of `solve`: the problem is built, a solver looks for its best grouping, and what it found is stored and
 -- reported.
 use Rattle.std.specs.Prelude.{◌≡◌, ℕ, List, ◌++◌, Option, Some, None}
 use Rattle.county_problem.specs.ProblemValue.{problem_of}
@@ -7,12 +7,12 @@ use Rattle.grouping_report.specs.GroupingText.{grouping_text}
 use Rattle.grouping_report.specs.declared.outcome.Outcome.TheVariants as outcome
 use Rattle.certificate_data.specs.TreeValue.{certificate_of}
 use Rattle.certificate_text.specs.Spelling.{IsSpelling}
-use Rattle.branch_bound.specs.declared.answer.Answer as desk
+use Rattle.branch_bound.specs.declared.answer.Answer as solver
 use Rattle.branch_bound.specs.declared.answer.Answer.TheVariants.{Best, Impossible, Open}
 use Rattle.branch_bound.specs.Answers.{IsSolveAnswer, SolveIsRight, HasCompleteTree, SaysWhether}
 use Rattle.cli_words.specs.declared.words.SolveWords.{SolveWords}
-use Rattle.cli_shelves.specs.Files.{NamedFile, Files}
-use Rattle.cli_shelves.specs.History.{History}
+use Rattle.cli_file_stores.specs.Files.{NamedFile, Files}
+use Rattle.cli_file_stores.specs.History.{History}
 use Rattle.cli_answers.specs.Answer.{Answered, success}
 use Rattle.cli_runs.specs.Course.{Course, ◌>>=◌, value_step}
 use Rattle.cli_runs.specs.TableCourse.{Tabled, tabled_problem_in, table_of}
@@ -25,9 +25,9 @@ pub record Solved : Type 0 where
   pub grouping : Option (List ℕ)
   pub table : Option (List ℕ)
 
--- What a desk answers, as it is said: the report, with status 0 where it is best, 1 where none is lawful and 3 where it
--- is open; the text of the certificate; and the lines of the grouping and its table, where there is one.
-abbrev pub SaysSolved : Tabled → desk.Answer → Solved → Type 0
+-- What a solver answers, as it is said: the report, with status 0 where it is best, 1 where none is lawful and 3 where
+-- it is open; the text of the certificate; and the lines of the grouping and its table, where there is one.
+abbrev pub SaysSolved : Tabled → solver.Answer → Solved → Type 0
 SaysSolved t (Best g c) s = (text : List ℕ) × IsSpelling text (certificate_of c)
     × (s ≡ record {
       answer =
@@ -60,16 +60,16 @@ SaysSolved t (Open (Some g) steps) s =
       table = table_of t g.groups.items;
     }
 
--- what `solve` says of a problem is what a desk answers with this number of steps
+-- what `solve` says of a problem is what a solver answers with this number of steps
 pub record IsSolved (t : Tabled) (limit : ℕ) (s : Solved) : Type 0 where
-  pub found : desk.Answer
+  pub found : solver.Answer
   pub is : IsSolveAnswer (problem_of t.problem) limit found
   pub best : SolveIsRight (problem_of t.problem) found
   pub complete : HasCompleteTree (problem_of t.problem) found
   pub whether : SaysWhether (problem_of t.problem) limit found
   pub said : SaysSolved t found s
 
--- `solve`: the problem is built, and the desk answers
+-- `solve`: the problem is built, and the solver answers
 abbrev pub solve_course : Option Files → SolveWords → Course Solved
 solve_course files words =
     tabled_problem_in files words.problem words.table >>= λ t. value_step (IsSolved t words.steps)

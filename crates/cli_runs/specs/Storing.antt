@@ -1,30 +1,30 @@
 -- Files that a command stores, in turn, before it says its answer.
 use Rattle.std.specs.Prelude.{◌≡◌, ◌⊎◌, ⊤, ℕ, List, [], ◌∷◌, Option, Some, None, Ok, Err, Contains, option_map}
 use Rattle.std.specs.Borrow.{Bor}
-use Rattle.cli_shelves.specs.declared.shelf.ShelfFault.{ShelfFault}
-use Rattle.cli_shelves.specs.Files.{NamedFile, Files, with_files, with_all}
-use Rattle.cli_shelves.specs.Shelf.{IsStore}
-use Rattle.cli_shelves.specs.History.{History, HasPut}
+use Rattle.cli_file_stores.specs.declared.file_store.FileStoreFault.{FileStoreFault}
+use Rattle.cli_file_stores.specs.Files.{NamedFile, Files, with_files, with_all}
+use Rattle.cli_file_stores.specs.FileStore.{IsStore}
+use Rattle.cli_file_stores.specs.History.{History, HasPut}
 use Rattle.cli_answers.specs.Answer.{Answered, memory_answer}
-use Rattle.cli_answers.specs.Refusals.{shelf_answer}
+use Rattle.cli_answers.specs.Refusals.{file_store_answer}
 use Rattle.cli_runs.specs.Course.{Course}
 
 -- what was refused has this answer, unless a growth was refused in composing it
 abbrev pub IsAnsweredBy : Option Answered → Answered → Type 0
 IsAnsweredBy refusal a = (refusal ≡ Some a) ⊎ (refusal ≡ Some memory_answer)
 
--- The first file is refused for a fault of the shelf: nothing is stored, and this is the answer to it.
+-- The first file is refused for a fault of the file store: nothing is stored, and this is the answer to it.
 pub record IsFirstRefused (f : NamedFile) (before after : History) (stored : List NamedFile)
     (refusal : Option Answered) : Type 0 where
-  pub fault : ShelfFault
+  pub fault : FileStoreFault
   pub is : IsStore {X = Unit {0}} before.failures f.bytes (Err fault)
   pub logged : HasPut {X = Unit {0}} before after f.name f.bytes (Err fault)
   pub none_stored : stored ≡ []
-  pub answer : IsAnsweredBy refusal (shelf_answer f.name fault)
+  pub answer : IsAnsweredBy refusal (file_store_answer f.name fault)
 
--- What storing files in turn comes to, where the shelf had this history before it and this one after it: the files that
--- were stored, and the answer to the one that was refused, if one was. Those behind it are not stored, and nothing is
--- loaded or read.
+-- What storing files in turn comes to, where the file store had this history before it and this one after it: the files
+-- that were stored, and the answer to the one that was refused, if one was. Those behind it are not stored, and nothing
+-- is loaded or read.
 abbrev pub store_steps : List NamedFile → History → History → List NamedFile → Option Answered → Type 0
 store_steps [] before after stored refusal = (after ≡ before) × (stored ≡ []) × (refusal ≡ None)
 store_steps (f ∷ fs) before after stored refusal =
@@ -57,7 +57,7 @@ abbrev pub IsStoredAs : Option (Bor (List ℕ)) → (List ℕ → Type 0) → Li
 IsStoredAs None P stored = ⊤
 IsStoredAs (Some name) P stored = (text : List ℕ) × P text × Contains stored (record { name = name.now; bytes = text })
 
--- a shelf holds the files of before and those that were stored in turn, where it tells them
+-- a file store holds the files of before and those that were stored in turn, where it tells them
 pub record HasStored (files files_after : Option Files) (listed listed_after : Option (List NamedFile))
     (stored : List NamedFile) : Type 0 where
   pub contents : files_after ≡ option_map (λ held. with_all held stored) files

@@ -7,7 +7,7 @@ use Rattle.pl94_counties.specs.CountyNames.{CountyName, named_list}
 use Rattle.grouping_table.specs.Table.{unnamed_counties as without_names, table_text}
 use Rattle.cli_words.specs.declared.words.CommonWords.{CommonWords}
 use Rattle.cli_words.specs.declared.words.ProblemWords.{ProblemWords}
-use Rattle.cli_shelves.specs.Files.{Files}
+use Rattle.cli_file_stores.specs.Files.{Files}
 use Rattle.cli_answers.specs.Answer.{Answered}
 use Rattle.cli_answers.specs.Refusals.{named_answer}
 use Rattle.field_lines.specs.Source.{Given}

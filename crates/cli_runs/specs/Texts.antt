@@ -6,7 +6,7 @@ use Rattle.cli_runs.specs.ListCourse as lists
 use Rattle.cli_runs.specs.JudgeCourse as audits
 use Rattle.cli_runs.specs.TableCourse as tables
 use Rattle.pl94_counties.specs.CountyNames.{county_name}
-use Rattle.cli_runs.specs.declared.desk_report.Solved.{Solved}
+use Rattle.cli_runs.specs.declared.solver_report.Solved.{Solved}
 use Rattle.cli_runs.specs.declared.audit_report.Audited.{Audited}
 use Rattle.list_groupings.specs.Walking.{sets_held}
 use Rattle.cli_runs.specs.declared.listing_report.Asked.{Asked}

@@ -56,7 +56,7 @@ fn table_if_asked(
 /// # Errors
 ///
 /// Returns `AllocError` if memory was refused.
-pub fn audit_and_say(
+pub fn audit_and_report(
     alloc: Global,
     problem: &Problem,
     grouping: &Grouping,

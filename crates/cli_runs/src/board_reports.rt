@@ -9,13 +9,13 @@ ghost use Rattle.board_report.specs.PieceText.{HasText};
 ghost use Rattle.board_report.specs.PieceAnswers.{IsAnswered, piece_budget};
 ghost use Rattle.board_report.specs.BoardOutcome.{IsShared};
 ghost use Rattle.cli_answers.specs.Answers.{answer_of};
-ghost use Rattle.cli_runs.specs.BoardCourse.{language_of, depth_of, longest as longest_of, limit_of_words};
+ghost use Rattle.cli_runs.specs.BoardCourse.{format_of, depth_of, longest as longest_of, limit_of_words};
 ghost use Rattle.cli_runs.specs.BoardCourse.{AnswersOnBoard};
 ghost use Rattle.cli_runs.specs.PieceCourse.{no_such_piece, piece_said, piece_status};
 
 use board_report::{BoardShape, Shared, piece_text, prove_waiting, share};
 use branch_bound::Piece;
-use certificate_data::Language;
+use certificate_data::Format;
 use cli_answers::RunAnswer;
 use cli_words::{PieceWords, RoundWords};
 use county_codes::{Group, Grouping};
@@ -44,13 +44,13 @@ pub struct PieceSaid {
     pub end: PieceEnd,
 }
 
-/// Returns the language of the rounds that `words` give.
-pub fn language_for(words: RoundWords) -> Language
-    ensures { result ≡ language_of words }
+/// Returns the format of the rounds that `words` give.
+pub fn format_for(words: RoundWords) -> Format
+    ensures { result ≡ format_of words }
 {
     match words {
-        RoundWords::Plain { .. } => Language::Plain,
-        RoundWords::Wide { .. } => Language::Wide,
+        RoundWords::Plain { .. } => Format::Plain,
+        RoundWords::Wide { .. } => Format::Wide,
     }
 }
 
@@ -65,11 +65,11 @@ fn longest(groups: &[Group]) -> u16
     most.min(65_535) as u16
 }
 
-/// Returns the language, the limit and the depth of the board's first round, as `words` give them. The depth of a wide
+/// Returns the format, the limit and the depth of the board's first round, as `words` give them. The depth of a wide
 /// round is 0. If `words` give it no limit, the limit is the number of counties of the longest group of `grouping`,
 /// from 1 to 65,535.
 fn shape_for(words: RoundWords, grouping: &Grouping) -> BoardShape
-    ensures language { result.language ≡ language_of words }
+    ensures format { result.format ≡ format_of words }
     ensures limit { result.limit ≡ limit_of_words grouping.now.groups.items words }
     ensures depth { result.depth ≡ depth_of words }
 {
@@ -79,7 +79,7 @@ fn shape_for(words: RoundWords, grouping: &Grouping) -> BoardShape
         RoundWords::Wide { limit: None } => (longest(&grouping.groups), 0),
     };
     BoardShape {
-        language: language_for(words),
+        format: format_for(words),
         limit,
         depth,
     }
@@ -129,18 +129,18 @@ fn status_of(piece: &Piece) -> u8
 }
 
 /// Returns what is said of `piece`, on a board of this number of `counties`.
-fn say_piece(
+fn report_piece(
     alloc: Global,
     words: PieceWords<'_>,
     counties: u16,
     piece: &Piece,
 ) -> Result<PieceSaid, AllocError>
     requires few { counties ≤ most }
-    requires text { HasText (language_of words.board.round) counties words.number piece.now }
+    requires text { HasText (format_of words.board.round) counties words.number piece.now }
     ensures { IfOk result (λ s. answer_of s.answer ≡ piece_said words.entry.round words.entry.number (Some piece.now)) }
 {
-    let language = language_for(words.board.round);
-    let text = piece_text(alloc, piece, words.round, words.number, language, counties)?;
+    let format = format_for(words.board.round);
+    let text = piece_text(alloc, piece, words.round, words.number, format, counties)?;
     Ok(PieceSaid {
         answer: RunAnswer {
             text,
@@ -151,7 +151,7 @@ fn say_piece(
 }
 
 /// Returns what is said if no piece of the number waits.
-fn say_none(alloc: Global) -> Result<PieceSaid, AllocError>
+fn report_none(alloc: Global) -> Result<PieceSaid, AllocError>
     ensures { IfOk result (λ s. answer_of s.answer ≡ no_such_piece) }
 {
     Ok(PieceSaid {
@@ -161,19 +161,19 @@ fn say_none(alloc: Global) -> Result<PieceSaid, AllocError>
 }
 
 /// Returns what is said of the piece whose number `words` give. `answer` is `None` if that piece doesn't wait.
-fn say_answer(
+fn report_answer(
     alloc: Global,
     words: PieceWords<'_>,
     counties: u16,
     answer: &Option<Piece>,
 ) -> Result<PieceSaid, AllocError>
     requires few { counties ≤ most }
-    requires text { IfSome answer.now (HasText (language_of words.board.round) counties words.number) }
+    requires text { IfSome answer.now (HasText (format_of words.board.round) counties words.number) }
     ensures { IfOk result (λ s. answer_of s.answer ≡ piece_said words.entry.round words.entry.number answer.now) }
 {
     match answer {
-        Some(piece) => say_piece(alloc, words, counties, piece),
-        None => say_none(alloc),
+        Some(piece) => report_piece(alloc, words, counties, piece),
+        None => report_none(alloc),
     }
 }
 
@@ -184,7 +184,7 @@ fn say_answer(
 /// # Errors
 ///
 /// Returns the first fault that stands if there is no such board. Returns `Memory` if memory was refused.
-pub fn piece_and_say(
+pub fn piece_and_report(
     alloc: Global,
     problem: &Problem,
     grouping: &Grouping,
@@ -211,7 +211,7 @@ pub fn piece_and_say(
         words.number,
         words.steps,
     ) {
-        Ok(answer) => match say_answer(alloc, words, counties, &answer) {
+        Ok(answer) => match report_answer(alloc, words, counties, &answer) {
             Ok(said) => Ok(said),
             Err(AllocError) => Err(BoardFault::Memory),
         },

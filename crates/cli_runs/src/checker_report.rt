@@ -42,7 +42,7 @@ fn without_table(answer: RunAnswer, fault: Option<(CheckFault, u64)>) -> Checked
 }
 
 /// Returns what is said of a `grouping` that is best, with its table if a table is asked for.
-fn say_best(alloc: Global, tabled: &Tabled, grouping: Grouping) -> Result<Checked, AllocError>
+fn report_best(alloc: Global, tabled: &Tabled, grouping: Grouping) -> Result<Checked, AllocError>
     requires { CheckIsRight (problem_of tabled.now.problem) (verdict.Best grouping) }
     ensures { IfOk result (λ c. reported_of c.reported
         ≡ record { answer = verdict_said tabled.now.problem (verdict.Best grouping); table = verdict_table (tabled_of tabled.now) (verdict.Best grouping) }) }
@@ -59,13 +59,13 @@ fn say_best(alloc: Global, tabled: &Tabled, grouping: Grouping) -> Result<Checke
 }
 
 /// Returns what is said of `verdict`.
-fn say(alloc: Global, tabled: &Tabled, verdict: Verdict) -> Result<Checked, AllocError>
+fn report_verdict(alloc: Global, tabled: &Tabled, verdict: Verdict) -> Result<Checked, AllocError>
     requires { CheckIsRight (problem_of tabled.now.problem) verdict }
     ensures { IfOk result (λ c. reported_of c.reported
         ≡ record { answer = verdict_said tabled.now.problem verdict; table = verdict_table (tabled_of tabled.now) verdict }) }
 {
     match verdict {
-        Verdict::Best(grouping) => say_best(alloc, tabled, grouping),
+        Verdict::Best(grouping) => report_best(alloc, tabled, grouping),
         Verdict::Impossible => {
             let text = report(alloc, &tabled.problem, &Outcome::Impossible)?;
             Ok(without_table(RunAnswer { text, status: 1 }, None))
@@ -85,7 +85,7 @@ fn say(alloc: Global, tabled: &Tabled, verdict: Verdict) -> Result<Checked, Allo
 /// # Errors
 ///
 /// Returns `ReadFault` if the source could not be read, and `Memory` if memory was refused.
-pub fn check_from_and_say<S: Source>(
+pub fn check_from_and_report<S: Source>(
     alloc: Global,
     tabled: &Tabled,
     source: &mut S,
@@ -99,7 +99,7 @@ pub fn check_from_and_say<S: Source>(
         Ok(verdict) => verdict,
         Err(stop) => return Err(stop),
     };
-    match say(alloc, tabled, verdict) {
+    match report_verdict(alloc, tabled, verdict) {
         Ok(checked) => Ok(checked),
         Err(AllocError) => Err(CheckStop::Memory),
     }

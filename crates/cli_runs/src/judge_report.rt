@@ -24,7 +24,7 @@ use std::cmp::Ordering;
 /// Why a certificate doesn't show that a lawful grouping is best, for whoever explains it to a person. No clause speaks
 /// of it.
 #[derive(Drop)]
-pub enum Unshown {
+pub enum BestNotShown {
     /// The text is no certificate: its first fault, and the line, which counts from 1.
     NoCertificate(CheckFault, u64),
     /// The text shows that no grouping is lawful. There is a lawful one, so this can't be.
@@ -42,7 +42,7 @@ pub struct Judged {
     /// The report, with status 0, and the grouping's table.
     pub reported: Reported,
     /// Why the report doesn't say `best`. `None` if it does, and if no certificate was given.
-    pub unshown: Option<Unshown>,
+    pub best_not_shown: Option<BestNotShown>,
 }
 
 /// Returns the report of a lawful `grouping`, with status 0, and its table if a table is asked for.
@@ -69,12 +69,12 @@ fn best_report(alloc: Global, tabled: &Tabled, grouping: Grouping) -> Result<Rep
     Ok(Reported { answer, table })
 }
 
-/// Returns what is said of a lawful `grouping` that isn't shown to be best. `unshown` tells why it isn't.
+/// Returns what is said of a lawful `grouping` that isn't shown to be best. `best_not_shown` tells why it isn't.
 fn left_lawful(
     alloc: Global,
     tabled: &Tabled,
     grouping: Grouping,
-    unshown: Option<Unshown>,
+    best_not_shown: Option<BestNotShown>,
 ) -> Result<Judged, AllocError>
     requires { Lawful (problem_of tabled.now.problem) grouping.groups.items }
     ensures said { IfOk result (λ j. answer_of j.reported.answer
@@ -82,7 +82,10 @@ fn left_lawful(
     ensures table { IfOk result (λ j. HasTable (tabled_of tabled.now) grouping.groups.items (reported_of j.reported)) }
 {
     let reported = lawful_report(alloc, tabled, grouping)?;
-    Ok(Judged { reported, unshown })
+    Ok(Judged {
+        reported,
+        best_not_shown,
+    })
 }
 
 /// Returns the counts of a lawful `grouping`. Judging it can fail only for want of memory.
@@ -98,7 +101,7 @@ fn counts_of(alloc: Global, problem: &Problem, grouping: &Grouping) -> Result<Co
 
 /// Returns what is said of a lawful `grouping` with the counts `own`, where the `target` of a certificate is best. If
 /// both have the same counts, the grouping is said to be best.
-fn say_beside_best(
+fn report_beside_best(
     alloc: Global,
     tabled: &Tabled,
     grouping: Grouping,
@@ -115,14 +118,19 @@ fn say_beside_best(
     match compare(&own, &best) {
         Ordering::Equal => Ok(Judged {
             reported: best_report(alloc, tabled, grouping)?,
-            unshown: None,
+            best_not_shown: None,
         }),
-        _ => left_lawful(alloc, tabled, grouping, Some(Unshown::Lesser(own, best))),
+        _ => left_lawful(
+            alloc,
+            tabled,
+            grouping,
+            Some(BestNotShown::Lesser(own, best)),
+        ),
     }
 }
 
 /// Returns what is said of a lawful `grouping` with the counts `own`, where a certificate has this `verdict`.
-fn say_beside(
+fn report_beside(
     alloc: Global,
     tabled: &Tabled,
     grouping: Grouping,
@@ -136,19 +144,19 @@ fn say_beside(
     ensures table { IfOk result (λ j. HasTable (tabled_of tabled.now) grouping.groups.items (reported_of j.reported)) }
 {
     match verdict {
-        Verdict::Best(target) => say_beside_best(alloc, tabled, grouping, own, target),
-        Verdict::Impossible => left_lawful(alloc, tabled, grouping, Some(Unshown::Impossible)),
+        Verdict::Best(target) => report_beside_best(alloc, tabled, grouping, own, target),
+        Verdict::Impossible => left_lawful(alloc, tabled, grouping, Some(BestNotShown::Impossible)),
         Verdict::No(fault, line) => {
-            let unshown = Unshown::NoCertificate(fault, line);
-            left_lawful(alloc, tabled, grouping, Some(unshown))
+            let best_not_shown = BestNotShown::NoCertificate(fault, line);
+            left_lawful(alloc, tabled, grouping, Some(best_not_shown))
         }
-        Verdict::Budget => left_lawful(alloc, tabled, grouping, Some(Unshown::Budget)),
+        Verdict::Budget => left_lawful(alloc, tabled, grouping, Some(BestNotShown::Budget)),
     }
 }
 
 /// Returns what is said of a lawful `grouping` with the counts `own`, by the `text` of a certificate. Its checker has
 /// this `budget`.
-fn say_by(
+fn report_by(
     alloc: Global,
     tabled: &Tabled,
     grouping: Grouping,
@@ -162,7 +170,7 @@ fn say_by(
     ensures table { IfOk result (λ j. HasTable (tabled_of tabled.now) grouping.groups.items (reported_of j.reported)) }
 {
     let verdict = check(alloc, &tabled.problem, text, budget)?;
-    say_beside(alloc, tabled, grouping, own, verdict)
+    report_beside(alloc, tabled, grouping, own, verdict)
 }
 
 /// Returns what `judge` says of a lawful `grouping` with the counts `own`. It says that the grouping is lawful, or that
@@ -171,7 +179,7 @@ fn say_by(
 /// # Errors
 ///
 /// Returns `AllocError` if memory was refused.
-pub fn judge_and_say(
+pub fn judge_and_report(
     alloc: Global,
     tabled: &Tabled,
     grouping: Grouping,
@@ -185,7 +193,7 @@ pub fn judge_and_say(
     ensures table { IfOk result (λ j. HasTable (tabled_of tabled.now) grouping.groups.items (reported_of j.reported)) }
 {
     match certificate {
-        Some(text) => say_by(alloc, tabled, grouping, own, text, budget),
+        Some(text) => report_by(alloc, tabled, grouping, own, text, budget),
         None => left_lawful(alloc, tabled, grouping, None),
     }
 }

@@ -12,18 +12,18 @@
 mod audit_report;
 mod board_reports;
 mod checker_report;
-mod desk_report;
 mod judge_report;
 mod laws;
 mod listing_report;
+mod solver_report;
 mod table_runs;
 mod which_grouping;
 
-pub use audit_report::{Audited, audit_and_say};
-pub use board_reports::{PieceEnd, PieceSaid, language_for, piece_and_say, share_events};
-pub use checker_report::{Checked, check_from_and_say};
-pub use desk_report::{Solved, solve_and_say};
-pub use judge_report::{Judged, Unshown, judge_and_say};
+pub use audit_report::{Audited, audit_and_report};
+pub use board_reports::{PieceEnd, PieceSaid, format_for, piece_and_report, share_events};
+pub use checker_report::{Checked, check_from_and_report};
+pub use judge_report::{BestNotShown, Judged, judge_and_report};
 pub use laws::{runs_agree, runs_are_of_their_loads, runs_tell};
-pub use listing_report::{Asked, ListEnd, Listed, list_and_say};
+pub use listing_report::{Asked, ListEnd, Listed, list_and_report};
+pub use solver_report::{Solved, solve_and_report};
 pub use table_runs::{Reported, Tabled};

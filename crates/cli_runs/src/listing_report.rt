@@ -172,7 +172,7 @@ fn end_of(status: u8, count: usize) -> ListEnd {
 }
 
 /// Returns the listing and the table, beside the `lines` of a grouping that is to be stored.
-fn say_listing(
+fn report_listing(
     alloc: Global,
     tabled: &Tabled,
     groupings: &[Grouping],
@@ -195,7 +195,7 @@ fn say_listing(
 }
 
 /// Returns what is said of all best `groupings`. `asked` may give the number of one to store.
-fn say_all(
+fn report_all(
     alloc: Global,
     tabled: &Tabled,
     groupings: &[Grouping],
@@ -206,7 +206,7 @@ fn say_all(
         ≡ listed_by_number (tabled_of tabled.now) (map sets_held groupings.now) (asked_of asked.now).which asked.now.number) }
 {
     match asked.number {
-        None => say_listing(alloc, tabled, groupings, &asked.which, None),
+        None => report_listing(alloc, tabled, groupings, &asked.which, None),
         Some(number) => match numbered(groupings, number) {
             None => Ok(alone(
                 RunAnswer::new(alloc, b"no such grouping\n", 4)?,
@@ -214,14 +214,14 @@ fn say_all(
             )),
             Some(grouping) => {
                 let lines = grouping_text(alloc, grouping)?;
-                say_listing(alloc, tabled, groupings, &asked.which, Some(lines))
+                report_listing(alloc, tabled, groupings, &asked.which, Some(lines))
             }
         },
     }
 }
 
 /// Returns what is said of `listing`.
-fn say(
+fn report_list(
     alloc: Global,
     tabled: &Tabled,
     asked: &Asked,
@@ -232,7 +232,7 @@ fn say(
     ensures { IfOk result (λ s. listed_of s ≡ listing_said (tabled_of tabled.now) (asked_of asked.now) listing) }
 {
     match listing {
-        Listing::All(groupings) => say_all(alloc, tabled, &groupings, asked),
+        Listing::All(groupings) => report_all(alloc, tabled, &groupings, asked),
         Listing::Open(gap, line) => {
             let answer = open_answer(alloc, gap, line)?;
             Ok(alone(answer, ListEnd::Open(gap, line)))
@@ -257,7 +257,7 @@ fn say(
 /// # Errors
 ///
 /// Returns `AllocError` if memory was refused.
-pub fn list_and_say(
+pub fn list_and_report(
     alloc: Global,
     tabled: &Tabled,
     text: &[u8],
@@ -267,5 +267,5 @@ pub fn list_and_say(
     ensures { IfOk result (λ s. IsListAnswer (tabled_of tabled.now) budget (asked_of asked.now) text.now (listed_of s)) }
 {
     let found = all_best(alloc, &tabled.problem, text, budget)?;
-    say(alloc, tabled, asked, found)
+    report_list(alloc, tabled, asked, found)
 }

@@ -242,8 +242,8 @@ abbrev pub IsUsage : WordsEnd → Type 0
 IsUsage (Usage text) = ⊤
 IsUsage _ = ⊥
 
--- words without a command end as their faults say; words that have none of clap's faults, but give options that don't go
--- together, end in usage
+-- words without a command end as their faults say; words that have none of clap's faults, but give options that don't
+-- go together, end in usage
 abbrev pub EndsFor : List Text → WordsEnd → Type 0
 EndsFor words end = EndsBy (faults_of words) end ⊎ ((faults_of words ≡ []) × HaveOptionsFault words × IsUsage end)
 

@@ -136,7 +136,7 @@ Exit status:
 
 /// What `share --help` ends with.
 const AFTER_SHARE: &str = "\
-A board cuts the proof that the grouping is the best one into pieces. Desks prove them with `piece`.
+A board cuts the proof that the grouping is the best one into pieces. Solvers prove them with `piece`.
 What `piece` prints, in any order, is the text of events. The answer has one line for each event.
 If no piece is left, their proofs are joined to one certificate, which `check` tests like any other.
 
@@ -492,7 +492,7 @@ fn share_command<'a>(alloc: Global) -> Result<Command<'a>, AllocError>
     ensures { IfOk result (λ c. HasShape c (subcommand (codes "share") share_options)) }
 {
     let share = Command::new(alloc, "share")
-        .about("Tests what several desks proved and joins one certificate")
+        .about("Tests what several solvers proved and joins one certificate")
         .after_help(AFTER_SHARE);
     let made = with_board_options(alloc, share);
     let events = file_option(alloc, "events", "The events, as `piece` prints them");

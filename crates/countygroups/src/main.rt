@@ -7,7 +7,7 @@ mod progress;
 use crate::progress::Progress;
 use cli::{End, run_program};
 use cli_explanations::{Ended, explain, explain_before};
-use cli_shelves::{FileShelf, Sink, Writing};
+use cli_file_stores::{DiskFileStore, Sink, Writing};
 use field_lines::Reading;
 use std::alloc::AllocError;
 use std::io::{ErrorKind, IsTerminal};
@@ -48,13 +48,13 @@ struct Ran {
 
 /// Runs `words` over the machine's files, or a case from standard input if there are no words.
 fn run(rt: &HostRuntime, words: &[&str], out: &mut impl Sink) -> Ran {
-    let mut shelf = FileShelf::new(rt);
+    let mut file_store = DiskFileStore::new(rt);
     let mut input = Reading::new(rt.reader());
     let mut progress = Progress::new(rt);
     let (status, end) = run_program(
         rt.alloc(),
         words,
-        &mut shelf,
+        &mut file_store,
         &mut input,
         out,
         &mut progress,
@@ -63,7 +63,7 @@ fn run(rt: &HostRuntime, words: &[&str], out: &mut impl Sink) -> Ran {
     Ran {
         status,
         end,
-        reason: shelf.reason(),
+        reason: file_store.reason(),
     }
 }
 

@@ -7,7 +7,7 @@ use Rattle.grouping_laws.specs.Sets.{indicator, sum_by}
 use Rattle.grouping_laws.specs.Problem.{Problem}
 use Rattle.grouping_laws.specs.Grouping.{counts}
 use Rattle.place_laws.proofs.Sums.{sum_by-append}
-use Rattle.certificate_data.specs.declared.language.Language.{Language}
+use Rattle.certificate_data.specs.declared.format.Format.{Format}
 use Rattle.certificate_laws.specs.State.{State, open_to}
 use Rattle.certificate_laws.specs.Regions.{listed}
 use Rattle.certificate_data.specs.Tree.{Allowance}
@@ -51,30 +51,30 @@ spelled_at [] i x d e l h = absurd (omega arith)
 spelled_at (a ∷ lines) zero x d e l h = subst AllowanceIsSpelled (allowance_again a ∙ sym e) h.0
 spelled_at (a ∷ lines) (suc i) x d e l h = spelled_at lines i x d e (omega arith) h.1
 
-module _ (language : Language) (p : Problem) (limit : ℕ) (s : State) (f : ℕ → ℕ) where
-  few_lines : (lines : List Allowance) (i used : ℕ) → Bounds language p limit s f i used lines → i + length lines ≤ limit + 1
+module _ (format : Format) (p : Problem) (limit : ℕ) (s : State) (f : ℕ → ℕ) where
+  few_lines : (lines : List Allowance) (i used : ℕ) → Bounds format p limit s f i used lines → i + length lines ≤ limit + 1
   few_lines [] i used b = omega (arith, b)
   few_lines (line ∷ lines) i used b = go (few_lines lines (i + 1) (used + i * allowance p s i used line)) b.1
     where
-      go : (Bounds language p limit s f (i + 1) (used + i * allowance p s i used line) lines → i + 1 + length lines ≤ limit + 1)
-          → ((counts s.closed i + allowance p s i used line ≡ f i) × Bounds language p limit s f (i + 1) (used + i * allowance p s i used line) lines) ⊎ ((i ≤ limit) × (counts s.closed i + allowance p s i used line < f i) × (lines ≡ []))
+      go : (Bounds format p limit s f (i + 1) (used + i * allowance p s i used line) lines → i + 1 + length lines ≤ limit + 1)
+          → ((counts s.closed i + allowance p s i used line ≡ f i) × Bounds format p limit s f (i + 1) (used + i * allowance p s i used line) lines) ⊎ ((i ≤ limit) × (counts s.closed i + allowance p s i used line < f i) × (lines ≡ []))
           → i + length (line ∷ lines) ≤ limit + 1
       go next (inl r) = omega (arith, next r.1)
       go next (inr r) = omega (arith, r.0, ap length r.2)
 
-  pub no_line : (lines : List Allowance) → limit ≡ 0 → Bounds language p limit s f 1 0 lines → false ≡ falls_short p s f 1 0 lines
+  pub no_line : (lines : List Allowance) → limit ≡ 0 → Bounds format p limit s f 1 0 lines → false ≡ falls_short p s f 1 0 lines
   no_line [] e b = refl
   no_line (line ∷ lines) e b = absurd (omega (arith, few_lines (line ∷ lines) 1 0 b))
 
-  pub fewer : (lines : List AllowanceHeld) → length lines < limit → Bounds language p limit s f 1 0 (map allowance_of lines) → true ≡ falls_short p s f 1 0 (map allowance_of lines)
-  fewer lines few b = sym (told.fewer language p limit s f (map allowance_of lines) b (omega (arith, few, length-map lines allowance_of)))
+  pub fewer : (lines : List AllowanceHeld) → length lines < limit → Bounds format p limit s f 1 0 (map allowance_of lines) → true ≡ falls_short p s f 1 0 (map allowance_of lines)
+  fewer lines few b = sym (told.fewer format p limit s f (map allowance_of lines) b (omega (arith, few, length-map lines allowance_of)))
 
   abbrev at : Allowance → ℕ → ℕ → Bool
   at line n m = nat_lt (counts s.closed m + allowance p s m (still_wanted s f n) line) (f m)
 
-  pub last_tells : (lines : List AllowanceHeld) (x : AllowanceHeld) → 1 ≤ limit → limit ≤ length lines → x ≡ get_or lines (limit - 1) x → Bounds language p limit s f 1 0 (map allowance_of lines)
+  pub last_tells : (lines : List AllowanceHeld) (x : AllowanceHeld) → 1 ≤ limit → limit ≤ length lines → x ≡ get_or lines (limit - 1) x → Bounds format p limit s f 1 0 (map allowance_of lines)
       → at (allowance_of x) (limit - 1) limit ≡ falls_short p s f 1 0 (map allowance_of lines)
-  last_tells lines x some enough is b = sym (ap (falls_short p s f 1 0) parted ∙ (told.last language p limit s f before (allowance_of x) (subst (Bounds language p limit s f 1 0) parted b) ∙ same))
+  last_tells lines x some enough is b = sym (ap (falls_short p s f 1 0) parted ∙ (told.last format p limit s f before (allowance_of x) (subst (Bounds format p limit s f 1 0) parted b) ∙ same))
     where
       size : length lines ≡ limit
       size = omega (arith, few_lines (map allowance_of lines) 1 0 b, length-map lines allowance_of)

@@ -138,9 +138,9 @@ pub covered : (p : Problem) (round : Round) (s : State) → IsState p round s �
 covered p round s state none c = omega (arith, state.once c, false_digit (s.rest c) (none c))
 
 -- bound lines, with the counts of the round's target
-pub bounds_of : (p : Problem) (round : Round) (s : State) (f : ℕ → ℕ) (lines : List Allowance) → ((i : ℕ) → f i ≡ wanted round.target i) → IsBound p round s lines → Bounds round.language p round.limit s f 1 0 lines
+pub bounds_of : (p : Problem) (round : Round) (s : State) (f : ℕ → ℕ) (lines : List Allowance) → ((i : ℕ) → f i ≡ wanted round.target i) → IsBound p round s lines → Bounds round.format p round.limit s f 1 0 lines
 bounds_of p round s f lines same b =
-    subst (λ (g : ℕ → ℕ). Bounds round.language p round.limit s g 1 0 lines) (ap wanted (sym b.1) ∙ sym (fun_ext same)) b.2
+    subst (λ (g : ℕ → ℕ). Bounds round.format p round.limit s g 1 0 lines) (ap wanted (sym b.1) ∙ sym (fun_ext same)) b.2
 
 pub short_of : (p : Problem) (round : Round) (s : State) (f : ℕ → ℕ) (lines : List Allowance) → ((i : ℕ) → f i ≡ wanted round.target i) → falls_short p s f 1 0 lines ≡ falls_short p s (wanted round.target) 1 0 lines
 short_of p round s f lines same = ap (λ (g : ℕ → ℕ). falls_short p s g 1 0 lines) (fun_ext same)

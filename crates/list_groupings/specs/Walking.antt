@@ -56,14 +56,14 @@ pub record IsWalkInput (g : WalkInput) : Type 0 where
 pub record IsProofAt (p : Problem) (round : Round) (s : State) (tree : Tree) : Type 0 where
   pub state : IsState p round s
   pub proves : Proves tree p round s
-  pub readable : IsReadable round.language tree
+  pub readable : IsReadable round.format tree
 
 -- takes of a branch at a state, each of a group that fits, with such trees
 pub record AreBranchTakes (p : Problem) (round : Round) (s : State) (takes : Takes) : Type 0 where
   pub state : IsState p round s
-  pub fit : (g : List ℕ) → Contains (groups_of takes) g → Fits round.language p s g × (length g ≤ round.limit)
+  pub fit : (g : List ℕ) → Contains (groups_of takes) g → Fits round.format p s g × (length g ≤ round.limit)
   pub proves : EachProves takes p round s
-  pub readable : AreReadable round.language takes
+  pub readable : AreReadable round.format takes
 
 -- the tree stands at the position
 abbrev pub IsTreeAt : WalkInput → State → Position → Tree → Type 0

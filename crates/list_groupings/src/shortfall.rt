@@ -5,7 +5,7 @@ ghost use Rattle.county_codes.specs.Limits.{most_counties};
 ghost use Rattle.grouping_laws.specs.Grouping.{counts};
 ghost use Rattle.grouping_laws.specs.Problem.{Problem as ProblemOf};
 ghost use Rattle.county_problem.specs.CountList.{count_at};
-ghost use Rattle.certificate_data.specs.declared.language.Language.{Language};
+ghost use Rattle.certificate_data.specs.declared.format.Format.{Format};
 ghost use Rattle.certificate_laws.specs.State.{State};
 ghost use Rattle.certificate_laws.specs.BoundLines.{allowance as allowance_at, Bounds};
 ghost use Rattle.certificate_data.specs.TreeValue.{allowance_of};
@@ -96,9 +96,9 @@ pub(crate) fn falls_short(
     requires few { length position.now.rest.items ≤ most_counties }
     requires small { limit ≤ most_counties }
     requires spelled { AllowancesAreSpelled (map allowance_of lines.now) }
-    ensures value { (language : Language) (p : ProblemOf) (s : State)
+    ensures value { (format : Format) (p : ProblemOf) (s : State)
         → IsPosition p s position.now
-        → Bounds language p limit s (count_at wanted.now) 1 0 (map allowance_of lines.now)
+        → Bounds format p limit s (count_at wanted.now) 1 0 (map allowance_of lines.now)
         → result ≡ is_short p s (count_at wanted.now) 1 0 (map allowance_of lines.now) }
 {
     if limit == 0 {

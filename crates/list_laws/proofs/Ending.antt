@@ -32,8 +32,8 @@ pub record IsEndAt (p : Problem) (s : State) (t : Grouping) (k : List (List ℕ)
   pub each : (g : Grouping) → Lawful p g → SameSets (sets_of g) k → Agrees s g × ((i : ℕ) → 1 ≤ i → counts (sets_of g) i ≡ counts (sets_of t) i)
 
 -- the bound lines, with the target's counts
-lines_of : (p : Problem) (round : Round) (s : State) (lines : List Allowance) → IsBound p round s lines → Bounds round.language p round.limit s (wanted round.target) 1 0 lines
-lines_of p round s lines v = subst (λ z. Bounds round.language p round.limit s (wanted z) 1 0 lines) (sym v.1) v.2
+lines_of : (p : Problem) (round : Round) (s : State) (lines : List Allowance) → IsBound p round s lines → Bounds round.format p round.limit s (wanted round.target) 1 0 lines
+lines_of p round s lines v = subst (λ z. Bounds round.format p round.limit s (wanted z) 1 0 lines) (sym v.1) v.2
 
 module _ (p : Problem) (round : Round) (t : Grouping) (is_target : round.target ≡ Some t) (fits : TargetFits p round.limit round.target) where
   pub small : (g : List ℕ) → Has (sets_of t) g → length g ≤ round.limit
@@ -51,7 +51,7 @@ module _ (p : Problem) (round : Round) (t : Grouping) (is_target : round.target 
       cases a b = grind arith
 
       within : i ≤ round.limit → counts s.closed i ≡ counts (sets_of t) i
-      within l = exact p s none_left round.language round.limit (wanted round.target) lines 1 0 (lines_of p round s lines v) (omega arith) enough i some l ∙ ap (λ z. wanted z i) is_target
+      within l = exact p s none_left round.format round.limit (wanted round.target) lines 1 0 (lines_of p round s lines v) (omega arith) enough i some l ∙ ap (λ z. wanted z i) is_target
 
       above : round.limit < i → counts s.closed i ≡ counts (sets_of t) i
       above l = none_above round.limit i s.closed (has_all (λ g. length g ≤ round.limit) s.closed state.small) l ∙ sym (none_above round.limit i (sets_of t) small l)
@@ -80,7 +80,7 @@ module _ (p : Problem) (round : Round) (t : Grouping) (is_target : round.target 
   lower_closed : (s : State) (x : List ℕ) (county limit : ℕ) (k : List (List ℕ)) → IsGroupAt p round s county limit x → IsEndAt p (close x s) t k → IsEndAt p s t k
   lower_closed s x county limit k at e = record {
     some = e.some;
-    each = λ g lawful same. let r = e.each g lawful same in ((branch_keeps_state).closed_agrees round.language p s x g at.fits r.0, r.1);
+    each = λ g lawful same. let r = e.each g lawful same in ((branch_keeps_state).closed_agrees round.format p s x g at.fits r.0, r.1);
   }
 
   lower_raised : (s : State) (county limit : ℕ) (k : List (List ℕ)) → CanBranch round s county limit → IsEndAt p (raise county limit s) t k → IsEndAt p s t k
@@ -126,7 +126,7 @@ module _ (p : Problem) (round : Round) (t : Grouping) (is_target : round.target 
         go : (b : Bool) → falls_short p s (wanted round.target) 1 0 lines ≡ b → Found (cond b [] (s.closed ∷ []))
         go true e =
             let rest = peeled p round s state g lawful agrees in
-            absurd (none_short round.language p s state.once rest.opens (peeled_completes p round s state g lawful agrees) round.limit (wanted round.target)
+            absurd (none_short round.format p s state.once rest.opens (peeled_completes p round s state g lawful agrees) round.limit (wanted round.target)
             (λ j some. rest.count j ∙ (same j some ∙ sym (ap (λ z. wanted z j) is_target)))
             lines 1 0 (lines_of p round s lines v) (omega arith) (sym (below_first (sets_of rest.opens))) e)
         go false e = let f : IsFilled p s = c e in (s.closed, inl refl, same_from_agrees p round s state f.none_left g lawful agrees)

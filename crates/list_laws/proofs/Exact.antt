@@ -5,7 +5,7 @@ use Rattle.grouping_laws.specs.Sets.{indicator}
 use Rattle.grouping_laws.specs.Problem.{Problem}
 use Rattle.grouping_laws.specs.Grouping.{counts}
 use Rattle.grouping_laws.proofs.Elements.{Has}
-use Rattle.certificate_data.specs.declared.language.Language.{Language}
+use Rattle.certificate_data.specs.declared.format.Format.{Format}
 use Rattle.certificate_laws.specs.State.{State, open_to}
 use Rattle.certificate_data.specs.Tree.{Allowance, room, weigh}
 use Rattle.certificate_laws.specs.BoundLines.{allowance, room_at, Bounds}
@@ -41,15 +41,15 @@ module _ (p : Problem) (s : State) (none_left : (c : ℕ) → s.rest c ≡ false
   no_allowance room i used some = no_room i used some
   no_allowance (weigh quota ws) i used some = omega (arith, no_room i used some)
 
-  pub exact : (language : Language) (limit : ℕ) (f : ℕ → ℕ) (lines : List Allowance) (i used : ℕ) → Bounds language p limit s f i used lines → 1 ≤ i → falls_short p s f i used lines ≡ false
+  pub exact : (format : Format) (limit : ℕ) (f : ℕ → ℕ) (lines : List Allowance) (i used : ℕ) → Bounds format p limit s f i used lines → 1 ≤ i → falls_short p s f i used lines ≡ false
       → (j : ℕ) → i ≤ j → j ≤ limit → counts s.closed j ≡ f j
-  exact language limit f [] i used b some enough j from to = absurd (omega (arith, b))
-  exact language limit f (line ∷ lines) i used b some enough j from to =
-      go (exact language limit f lines (i + 1) (used + i * allowance p s i used line)) (nat_lt (counts s.closed i + allowance p s i used line) (f i)) refl enough b.1 (cases_order i j)
+  exact format limit f [] i used b some enough j from to = absurd (omega (arith, b))
+  exact format limit f (line ∷ lines) i used b some enough j from to =
+      go (exact format limit f lines (i + 1) (used + i * allowance p s i used line)) (nat_lt (counts s.closed i + allowance p s i used line) (f i)) refl enough b.1 (cases_order i j)
     where
-      go : (Bounds language p limit s f (i + 1) (used + i * allowance p s i used line) lines → 1 ≤ i + 1 → falls_short p s f (i + 1) (used + i * allowance p s i used line) lines ≡ false → (j : ℕ) → i + 1 ≤ j → j ≤ limit → counts s.closed j ≡ f j)
+      go : (Bounds format p limit s f (i + 1) (used + i * allowance p s i used line) lines → 1 ≤ i + 1 → falls_short p s f (i + 1) (used + i * allowance p s i used line) lines ≡ false → (j : ℕ) → i + 1 ≤ j → j ≤ limit → counts s.closed j ≡ f j)
           → (x : Bool) → nat_lt (counts s.closed i + allowance p s i used line) (f i) ≡ x → (x || falls_short p s f (i + 1) (used + i * allowance p s i used line) lines) ≡ false
-          → ((counts s.closed i + allowance p s i used line ≡ f i) × Bounds language p limit s f (i + 1) (used + i * allowance p s i used line) lines) ⊎ ((i ≤ limit) × (counts s.closed i + allowance p s i used line < f i) × (lines ≡ []))
+          → ((counts s.closed i + allowance p s i used line ≡ f i) × Bounds format p limit s f (i + 1) (used + i * allowance p s i used line) lines) ⊎ ((i ≤ limit) × (counts s.closed i + allowance p s i used line < f i) × (lines ≡ []))
           → (i ≡ j) ⊎ ((i < j) ⊎ (j < i)) → counts s.closed j ≡ f j
       go next true l h r o = absurd (false≢true (sym h))
       go next false l h (inr r) o = absurd (false≢true (sym l ∙ lt-ltb (counts s.closed i + allowance p s i used line) (f i) r.1))

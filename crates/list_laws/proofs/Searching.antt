@@ -9,8 +9,8 @@ use Rattle.grouping_laws.proofs.Elements.{Has, has_all, contains_from_has}
 use Rattle.grouping_laws.proofs.Order.{SameUpTo, compared}
 use Rattle.grouping_laws.proofs.Ranges.{people_have_ranges}
 use Rattle.grouping_laws.proofs.Seated.{seated_sets}
-use Rattle.certificate_data.specs.declared.language.Language.{Language}
-use Rattle.certificate_data.specs.declared.language.Language.TheVariants.{Plain, Wide}
+use Rattle.certificate_data.specs.declared.format.Format.{Format}
+use Rattle.certificate_data.specs.declared.format.Format.TheVariants.{Plain, Wide}
 use Rattle.certificate_data.specs.Round.{Round}
 use Rattle.certificate_laws.specs.Regions.{listed}
 use Rattle.certificate_laws.specs.State.{State, IsState, open_to, close, raise}
@@ -47,36 +47,36 @@ none_weigh : (xs : List ℕ) → sum_by (weight_of []) xs ≡ 0
 none_weigh [] = refl
 none_weigh (x ∷ xs) = omega (arith, none_weigh xs)
 
-module _ (language : Language) (p : Problem) (limit : ℕ) (s : State) (f : ℕ → ℕ) where
+module _ (format : Format) (p : Problem) (limit : ℕ) (s : State) (f : ℕ → ℕ) where
   no_allowance : (i used : ℕ) → allowance p s i used (weigh 1 []) ≡ 0
   no_allowance i used = omega (arith, none_weigh (listed p (open_to s i)))
 
   -- if more groups are closed at the first size that differs, no line there is valid
-  none_bound : (d : ℕ) → d ≤ limit → f d < counts s.closed d → (lines : List Allowance) (i used : ℕ) → i ≤ d → ((j : ℕ) → i ≤ j → j < d → counts s.closed j ≡ f j) → Bounds language p limit s f i used lines → ⊥
+  none_bound : (d : ℕ) → d ≤ limit → f d < counts s.closed d → (lines : List Allowance) (i used : ℕ) → i ≤ d → ((j : ℕ) → i ≤ j → j < d → counts s.closed j ≡ f j) → Bounds format p limit s f i used lines → ⊥
   none_bound d under more [] i used from level b = omega (arith, b)
   none_bound d under more (line ∷ lines) i used from level b = go (none_bound d under more lines (i + 1) (used + i * allowance p s i used line)) (cases_lt i d) b.1
     where
       at : (d < i + 1) → i ≡ d
       at h = omega arith
 
-      go : (i + 1 ≤ d → ((j : ℕ) → i + 1 ≤ j → j < d → counts s.closed j ≡ f j) → Bounds language p limit s f (i + 1) (used + i * allowance p s i used line) lines → ⊥)
+      go : (i + 1 ≤ d → ((j : ℕ) → i + 1 ≤ j → j < d → counts s.closed j ≡ f j) → Bounds format p limit s f (i + 1) (used + i * allowance p s i used line) lines → ⊥)
           → (i < d) ⊎ (d ≤ i)
-          → ((counts s.closed i + allowance p s i used line ≡ f i) × Bounds language p limit s f (i + 1) (used + i * allowance p s i used line) lines) ⊎ ((i ≤ limit) × (counts s.closed i + allowance p s i used line < f i) × (lines ≡ []))
+          → ((counts s.closed i + allowance p s i used line ≡ f i) × Bounds format p limit s f (i + 1) (used + i * allowance p s i used line) lines) ⊎ ((i ≤ limit) × (counts s.closed i + allowance p s i used line < f i) × (lines ≡ []))
           → ⊥
       go next (inl before) (inl r) = next (omega arith) (λ j a b. level j (omega arith) b) r.1
       go next (inl before) (inr r) = omega (arith, r.1, level i (omega arith) before)
       go next (inr here) (inl r) = omega (arith, r.0, subst (λ z. f z < counts s.closed z) (sym (at (omega arith))) more)
       go next (inr here) (inr r) = omega (arith, r.1, subst (λ z. f z < counts s.closed z) (sym (at (omega arith))) more)
 
-  module _ (fair : (i : ℕ) → i ≤ limit → IsFair language p s i (weigh 1 [])) where
-    level_bounds : (n i used : ℕ) → n + i ≡ limit + 1 → ((j : ℕ) → i ≤ j → j ≤ limit → counts s.closed j ≡ f j) → Bounds language p limit s f i used (empties n)
+  module _ (fair : (i : ℕ) → i ≤ limit → IsFair format p s i (weigh 1 [])) where
+    level_bounds : (n i used : ℕ) → n + i ≡ limit + 1 → ((j : ℕ) → i ≤ j → j ≤ limit → counts s.closed j ≡ f j) → Bounds format p limit s f i used (empties n)
     level_bounds zero i used e level = omega (arith, e)
     level_bounds (suc n) i used e level = (
       fair i (omega (arith, e)),
       inl (omega (arith, no_allowance i used, level i (omega arith) (omega (arith, e))), level_bounds n (i + 1) (used + i * allowance p s i used (weigh 1 [])) (omega (arith, e)) (λ j a b. level j (omega arith) b)),
     )
 
-    short_bounds : (d : ℕ) → d ≤ limit → counts s.closed d < f d → (n i used : ℕ) → n + i ≡ d → ((j : ℕ) → i ≤ j → j < d → counts s.closed j ≡ f j) → Bounds language p limit s f i used (empties (suc n))
+    short_bounds : (d : ℕ) → d ≤ limit → counts s.closed d < f d → (n i used : ℕ) → n + i ≡ d → ((j : ℕ) → i ≤ j → j < d → counts s.closed j ≡ f j) → Bounds format p limit s f i used (empties (suc n))
     short_bounds d under fewer zero i used e level = (
       fair i (omega (arith, e)),
       inr (omega (arith, e), omega (arith, no_allowance i used, subst (λ z. counts s.closed z < f z) (same e) fewer), refl),
@@ -96,8 +96,8 @@ module _ (language : Language) (p : Problem) (limit : ℕ) (s : State) (f : ℕ 
       same h = omega (arith, h)
   short_falls d fewer (suc n) i used e = rw (short_falls d fewer n (i + 1) (used + i * allowance p s i used (weigh 1 [])) (omega (arith, e))) (or_yes (nat_lt (counts s.closed i + allowance p s i used (weigh 1 [])) (f i)))
 
--- how a branch of the language names its limit
-limit_named : (language : Language) (round : Round) (s : State) (c j : ℕ) → GoesInOrder language round s c j → (limit : Option ℕ) × NamesLimit language limit × (limit_of round limit ≡ j)
+-- how a branch of the format names its limit
+limit_named : (format : Format) (round : Round) (s : State) (c j : ℕ) → GoesInOrder format round s c j → (limit : Option ℕ) × NamesLimit format limit × (limit_of round limit ≡ j)
 limit_named Plain round s c j turn = (None, tt, sym turn.0)
 limit_named Wide round s c j turn = (Some j, tt, refl)
 
@@ -111,14 +111,14 @@ module _ (p : Problem) (round : Round) (t : Grouping) (is : IsProblem p) (is_tar
 
   -- no group fits, no part is stuck, and the seats are not off
   module _ (s : State) (state : IsState p round s) (no_stuck : (c : ℕ) → ¬ IsStuck p s c) (no_seats : ¬ IsOffSeats p s) (none : NoGroupFits p round s) where
-    fair : (i : ℕ) → i ≤ round.limit → IsFair round.language p s i (weigh 1 [])
+    fair : (i : ℕ) → i ≤ round.limit → IsFair round.format p s i (weigh 1 [])
     fair i under = (omega arith, λ k d h. absurd (omega arith), λ g f e. absurd (none g f (omega (arith, e, under))))
 
-    to_target : (lines : List Allowance) → Bounds round.language p round.limit s (wanted round.target) 1 0 lines → IsBound p round s lines
-    to_target lines b = (t, is_target, subst (λ z. Bounds round.language p round.limit s (wanted z) 1 0 lines) is_target b)
+    to_target : (lines : List Allowance) → Bounds round.format p round.limit s (wanted round.target) 1 0 lines → IsBound p round s lines
+    to_target lines b = (t, is_target, subst (λ z. Bounds round.format p round.limit s (wanted z) 1 0 lines) is_target b)
 
-    from_target : (lines : List Allowance) → IsBound p round s lines → Bounds round.language p round.limit s (wanted round.target) 1 0 lines
-    from_target lines v = subst (λ z. Bounds round.language p round.limit s (wanted z) 1 0 lines) (sym v.1) v.2
+    from_target : (lines : List Allowance) → IsBound p round s lines → Bounds round.format p round.limit s (wanted round.target) 1 0 lines
+    from_target lines v = subst (λ z. Bounds round.format p round.limit s (wanted z) 1 0 lines) (sym v.1) v.2
 
     closed_small : (d : ℕ) → 1 ≤ counts s.closed d → d ≤ round.limit
     closed_small d some = ⊎_elim (λ over. absurd (omega (arith, none_above round.limit d s.closed (has_all (λ g. length g ≤ round.limit) s.closed state.small) over))) (λ l. l) (cases_lt round.limit d)
@@ -131,7 +131,7 @@ module _ (p : Problem) (round : Round) (t : Grouping) (is : IsProblem p) (is_tar
         let no_leaf : HasNoLeaf p round round.limit s = record {
           no_stuck = no_stuck;
           no_seats = no_seats;
-          no_count = λ lines few are v. none_bound round.language p round.limit s (wanted round.target) more.size (closed_small more.size (omega (arith, more.more))) (omega (arith, target_at more.size, more.more))
+          no_count = λ lines few are v. none_bound round.format p round.limit s (wanted round.target) more.size (closed_small more.size (omega (arith, more.more))) (omega (arith, target_at more.size, more.more))
               lines 1 0 more.some_county (λ j a b. more.same_before j a b ∙ sym (target_at j)) (from_target lines v);
         } in
         let ps = parts_exist p is s.rest (rest_listed p s state.once) in
@@ -147,8 +147,8 @@ module _ (p : Problem) (round : Round) (t : Grouping) (is : IsProblem p) (is_tar
         let k = before n less.some_county in
         inl (
           leaf (bound (empties (suc k.0))),
-          to_target (empties (suc k.0)) (short_bounds round.language p round.limit s (wanted round.target) fair n under fewer k.0 1 0 (omega (arith, k.1)) (λ j a b. sym (less.same_before j a b) ∙ sym (target_at j))),
-          λ e. absurd (false≢true (sym e ∙ short_falls round.language p round.limit s (wanted round.target) n fewer k.0 1 0 (omega (arith, k.1)))),
+          to_target (empties (suc k.0)) (short_bounds round.format p round.limit s (wanted round.target) fair n under fewer k.0 1 0 (omega (arith, k.1)) (λ j a b. sym (less.same_before j a b) ∙ sym (target_at j))),
+          λ e. absurd (false≢true (sym e ∙ short_falls round.format p round.limit s (wanted round.target) n fewer k.0 1 0 (omega (arith, k.1)))),
         )
       where
         before : (n : ℕ) → 1 ≤ n → (k : ℕ) × (k + 1 ≡ n)
@@ -158,7 +158,7 @@ module _ (p : Problem) (round : Round) (t : Grouping) (is : IsProblem p) (is_tar
     level : SameUpTo round.limit (counts s.closed) (counts (sets_of t)) → CompleteOutcome p round s
     level same = inl (
       leaf (bound (empties round.limit)),
-      to_target (empties round.limit) (level_bounds round.language p round.limit s (wanted round.target) fair round.limit 1 0 (omega arith) (λ j a b. same j a b ∙ sym (target_at j))),
+      to_target (empties round.limit) (level_bounds round.format p round.limit s (wanted round.target) fair round.limit 1 0 (omega arith) (λ j a b. same j a b ∙ sym (target_at j))),
       λ e. filled p is round s state (none_left p round s t is is_target fits state same) no_seats,
     )
 
@@ -171,14 +171,14 @@ module _ (p : Problem) (round : Round) (t : Grouping) (is : IsProblem p) (is_tar
   each_take s c j next (g ∷ gs) from =
       ⊎_elim
       (λ t. ⊎_elim (λ ts. inl (take g t.0 ts.0, ap (λ z. g ∷ z) ts.1, (t.1, ts.2), (t.2, ts.3))) (λ h. inr h) (each_take s c j next gs (λ x h. from x (inr h))))
-      (λ h. inr (h.0, (h.1.0, (branch_keeps_state).closed_agrees round.language p s g h.0 (from g (inl refl)).fits h.1.1, h.1.2)))
+      (λ h. inr (h.0, (h.1.0, (branch_keeps_state).closed_agrees round.format p s g h.0 (from g (inl refl)).fits h.1.1, h.1.2)))
       (next g (from g (inl refl)))
 
   branching : (s : State) → IsState p round s → ((u : State) → steps_left p round.limit u < steps_left p round.limit s → IsState p round u → CompleteOutcome p round u) → (c j : ℕ) → CanBranch round s c j → CompleteOutcome p round s
   branching s state next c j can =
       let gs = groups s c j state can in
       let keep = branch_keeps_state in
-      let named = limit_named round.language round s c j can.in_turn in
+      let named = limit_named round.format round s c j can.in_turn in
       let back : j ≡ limit_of round named.0 = sym named.2 in
       ⊎_elim
       (λ ts. ⊎_elim

@@ -4,7 +4,7 @@ use Rattle.std.proofs.Math.Bool.{or-false}
 use Rattle.std.proofs.lemmas.Bool.{le-ltb}
 use Rattle.grouping_laws.specs.Problem.{Problem}
 use Rattle.grouping_laws.specs.Grouping.{counts}
-use Rattle.certificate_data.specs.declared.language.Language.{Language}
+use Rattle.certificate_data.specs.declared.format.Format.{Format}
 use Rattle.certificate_laws.specs.State.{State}
 use Rattle.certificate_data.specs.Tree.{Allowance}
 use Rattle.certificate_laws.specs.BoundLines.{allowance, Bounds}
@@ -19,13 +19,13 @@ some_end (first ∷ lines) line e = omega (arith, ap length e)
 none_more : (n : ℕ) → n + 0 ≡ n
 none_more n = omega arith
 
-module _ (language : Language) (p : Problem) (limit : ℕ) (s : State) (f : ℕ → ℕ) where
-  fewer_lines : (lines : List Allowance) (i used : ℕ) → Bounds language p limit s f i used lines → length lines + i ≤ limit → falls_short p s f i used lines ≡ true
+module _ (format : Format) (p : Problem) (limit : ℕ) (s : State) (f : ℕ → ℕ) where
+  fewer_lines : (lines : List Allowance) (i used : ℕ) → Bounds format p limit s f i used lines → length lines + i ≤ limit → falls_short p s f i used lines ≡ true
   fewer_lines [] i used b few = absurd (omega (arith, b))
   fewer_lines (line ∷ lines) i used b few = go (fewer_lines lines (i + 1) (used + i * allowance p s i used line)) b.1
     where
-      go : (Bounds language p limit s f (i + 1) (used + i * allowance p s i used line) lines → length lines + (i + 1) ≤ limit → falls_short p s f (i + 1) (used + i * allowance p s i used line) lines ≡ true)
-          → ((counts s.closed i + allowance p s i used line ≡ f i) × Bounds language p limit s f (i + 1) (used + i * allowance p s i used line) lines) ⊎ ((i ≤ limit) × (counts s.closed i + allowance p s i used line < f i) × (lines ≡ []))
+      go : (Bounds format p limit s f (i + 1) (used + i * allowance p s i used line) lines → length lines + (i + 1) ≤ limit → falls_short p s f (i + 1) (used + i * allowance p s i used line) lines ≡ true)
+          → ((counts s.closed i + allowance p s i used line ≡ f i) × Bounds format p limit s f (i + 1) (used + i * allowance p s i used line) lines) ⊎ ((i ≤ limit) × (counts s.closed i + allowance p s i used line < f i) × (lines ≡ []))
           → falls_short p s f i used (line ∷ lines) ≡ true
       go next (inl r) = short_behind p s f i used line lines (next r.1 (omega arith))
       go next (inr r) = short_here p s f i used line lines r.1
@@ -37,14 +37,14 @@ module _ (language : Language) (p : Problem) (limit : ℕ) (s : State) (f : ℕ 
   same_at line a b m n d e = ap (λ z. short_at line z m) d ∙ ap (short_at line b) e
 
   -- behind k lines
-  last_line : (lines : List Allowance) (line : Allowance) (k i used : ℕ) → i ≡ suc k → used ≡ still_wanted s f k → Bounds language p limit s f i used (lines ++ line ∷ [])
+  last_line : (lines : List Allowance) (line : Allowance) (k i used : ℕ) → i ≡ suc k → used ≡ still_wanted s f k → Bounds format p limit s f i used (lines ++ line ∷ [])
       → falls_short p s f i used (lines ++ line ∷ []) ≡ nat_lt (counts s.closed (length lines + suc k) + allowance p s (length lines + suc k) (still_wanted s f (length lines + k)) line) (f (length lines + suc k))
   last_line [] line k i used e u b = rw (e, u) (or-false (short_at line (suc k) k) ∙ same_at line (suc k) (length {A = Allowance} [] + suc k) k (length {A = Allowance} [] + k) (omega arith) (omega arith))
   last_line (first ∷ lines) line k i used e u b = go (last_line lines line (suc k) (i + 1) (used + i * allowance p s i used first)) b.1
     where
-      go : (i + 1 ≡ suc (suc k) → used + i * allowance p s i used first ≡ still_wanted s f (suc k) → Bounds language p limit s f (i + 1) (used + i * allowance p s i used first) (lines ++ line ∷ [])
+      go : (i + 1 ≡ suc (suc k) → used + i * allowance p s i used first ≡ still_wanted s f (suc k) → Bounds format p limit s f (i + 1) (used + i * allowance p s i used first) (lines ++ line ∷ [])
           → falls_short p s f (i + 1) (used + i * allowance p s i used first) (lines ++ line ∷ []) ≡ nat_lt (counts s.closed (length lines + suc (suc k)) + allowance p s (length lines + suc (suc k)) (still_wanted s f (length lines + suc k)) line) (f (length lines + suc (suc k))))
-          → ((counts s.closed i + allowance p s i used first ≡ f i) × Bounds language p limit s f (i + 1) (used + i * allowance p s i used first) (lines ++ line ∷ [])) ⊎ ((i ≤ limit) × (counts s.closed i + allowance p s i used first < f i) × (lines ++ line ∷ [] ≡ []))
+          → ((counts s.closed i + allowance p s i used first ≡ f i) × Bounds format p limit s f (i + 1) (used + i * allowance p s i used first) (lines ++ line ∷ [])) ⊎ ((i ≤ limit) × (counts s.closed i + allowance p s i used first < f i) × (lines ++ line ∷ [] ≡ []))
           → falls_short p s f i used (first ∷ lines ++ line ∷ []) ≡ nat_lt (counts s.closed (suc (length lines) + suc k) + allowance p s (suc (length lines) + suc k) (still_wanted s f (suc (length lines) + k)) line) (f (suc (length lines) + suc k))
       go next (inl r) =
           let left : allowance p s i used first ≡ f i - counts s.closed i = omega (arith, r.0) in
@@ -57,8 +57,8 @@ module _ (language : Language) (p : Problem) (limit : ℕ) (s : State) (f : ℕ 
 
 pub told : LeavesAreTold
 told = record {
-  fewer = λ language p limit s f lines b few. fewer_lines language p limit s f lines 1 0 b (omega arith);
-  last = λ language p limit s f lines line b.
-      last_line language p limit s f lines line 0 1 0 refl refl b
-      ∙ same_at language p limit s f line (length lines + 1) (length lines + 1) (length lines + 0) (length lines) refl (none_more (length lines));
+  fewer = λ format p limit s f lines b few. fewer_lines format p limit s f lines 1 0 b (omega arith);
+  last = λ format p limit s f lines line b.
+      last_line format p limit s f lines line 0 1 0 refl refl b
+      ∙ same_at format p limit s f line (length lines + 1) (length lines + 1) (length lines + 0) (length lines) refl (none_more (length lines));
 }

@@ -2,7 +2,7 @@
 use Rattle.std.specs.Prelude.{ℕ, zero, suc, ◌+◌, ◌-◌, ◌*◌, ◌≡◌, ◌<◌, true, nat_lt, List, [], ◌∷◌, ◌++◌, length}
 use Rattle.grouping_laws.specs.Problem.{Problem}
 use Rattle.grouping_laws.specs.Grouping.{counts}
-use Rattle.certificate_data.specs.declared.language.Language.{Language}
+use Rattle.certificate_data.specs.declared.format.Format.{Format}
 use Rattle.certificate_laws.specs.State.{State}
 use Rattle.certificate_data.specs.Tree.{Allowance}
 use Rattle.certificate_laws.specs.BoundLines.{allowance, Bounds}
@@ -16,11 +16,11 @@ still_wanted s f (suc n) = still_wanted s f n + suc n * (f (suc n) - counts s.cl
 -- If a valid bound leaf has fewer lines than the limit, it falls short. Any other falls short exactly if its last line
 -- gives too few groups, with the counties of the smaller groups that are still wanted used up.
 pub record LeavesAreTold : Type 0 where
-  pub fewer : (language : Language) (p : Problem) (limit : ℕ) (s : State) (f : ℕ → ℕ) (lines : List Allowance)
-      → Bounds language p limit s f 1 0 lines → length lines < limit → falls_short p s f 1 0 lines ≡ true
-  pub last : (language : Language) (p : Problem) (limit : ℕ) (s : State) (f : ℕ
+  pub fewer : (format : Format) (p : Problem) (limit : ℕ) (s : State) (f : ℕ → ℕ) (lines : List Allowance)
+      → Bounds format p limit s f 1 0 lines → length lines < limit → falls_short p s f 1 0 lines ≡ true
+  pub last : (format : Format) (p : Problem) (limit : ℕ) (s : State) (f : ℕ
       → ℕ) (lines : List Allowance) (line : Allowance)
-      → Bounds language p limit s f 1 0 (lines ++ line ∷ [])
+      → Bounds format p limit s f 1 0 (lines ++ line ∷ [])
       → falls_short p s f 1 0 (lines ++ line ∷ [])
       ≡ nat_lt (counts s.closed (length lines + 1)
       + allowance p s (length lines + 1) (still_wanted s f (length lines)) line) (f (length lines + 1))

@@ -6,7 +6,7 @@ use Rattle.grouping_laws.specs.Sets.{sum_by, contains}
 use Rattle.grouping_laws.specs.Problem.{Problem}
 use Rattle.grouping_laws.specs.Grouping.{counts}
 use Rattle.grouping_laws.proofs.Elements.{all_from_has}
-use Rattle.certificate_data.specs.declared.language.Language.{Language}
+use Rattle.certificate_data.specs.declared.format.Format.{Format}
 use Rattle.certificate_laws.specs.Regions.{listed}
 use Rattle.certificate_laws.specs.State.{State, open_to}
 use Rattle.certificate_laws.specs.Fitting.{Fits}
@@ -48,9 +48,9 @@ empty_allows p s i room l = ap (λ n. n / i) (less_none (length (listed p (open_
 empty_allows p s i (weigh quota ws) e = none_shared (room_at p s i 0 / i) quota (listed p (open_to s i)) ws e.1
 
 -- and is fair where no group fits
-pub empty_fair : (language : Language) (p : Problem) (s : State) (i : ℕ) (line : Allowance) → IsEmptyLine p s i line → ((g : List ℕ) → Fits language p s g → length g ≡ i → ⊥) → IsFair language p s i line
-empty_fair language p s i room l none = tt
-empty_fair language p s i (weigh quota ws) e none = (
+pub empty_fair : (format : Format) (p : Problem) (s : State) (i : ℕ) (line : Allowance) → IsEmptyLine p s i line → ((g : List ℕ) → Fits format p s g → length g ≡ i → ⊥) → IsFair format p s i line
+empty_fair format p s i room l none = tt
+empty_fair format p s i (weigh quota ws) e none = (
   omega (arith, e.0),
   subst (All (λ (w : Weight). contains p.counties w.county ≡ true)) (sym e.1) (all_from_has (λ (w : Weight). contains p.counties w.county ≡ true) [] (λ w h. absurd h)),
   λ g fits size. absurd (none g fits size),
@@ -63,13 +63,13 @@ none_used i a e = sym (ap (λ n. 0 + i * n) e ∙ times_none i)
     times_none : (i : ℕ) → 0 + i * 0 ≡ 0
     times_none i = omega arith
 
-module _ (language : Language) (p : Problem) (limit : ℕ) (s : State) (wanted : ℕ → ℕ) where
+module _ (format : Format) (p : Problem) (limit : ℕ) (s : State) (wanted : ℕ → ℕ) where
   abbrev pub BoundFrom : ℕ → List Allowance → Type 0
-  BoundFrom i lines = Bounds language p limit s wanted i 0 lines
+  BoundFrom i lines = Bounds format p limit s wanted i 0 lines
 
   -- no group of fewer counties fits
   abbrev pub NoneBelow : ℕ → Type 0
-  NoneBelow n = (g : List ℕ) → Fits language p s g → length g < n → ⊥
+  NoneBelow n = (g : List ℕ) → Fits format p s g → length g < n → ⊥
 
   -- of the sizes from i below n there are as many closed groups as are wanted
   abbrev pub IsLevelFrom : ℕ → ℕ → Type 0
@@ -78,8 +78,8 @@ module _ (language : Language) (p : Problem) (limit : ℕ) (s : State) (wanted :
   one_empty : (i : ℕ) (x : Allowance) (xs : List Allowance) → IsEmptyLine p s i x → NoneBelow (i + 1) → counts s.closed i ≡ wanted i → BoundFrom (i + 1) xs → BoundFrom i (x ∷ xs)
   one_empty i x xs is none even b =
       let nothing = empty_allows p s i x is in (
-        empty_fair language p s i x is (λ g fits e. none g fits (omega (arith, e))),
-        inl (omega (arith, nothing, even), subst (λ n. Bounds language p limit s wanted (i + 1) n xs) (none_used i (allowance p s i 0 x) nothing) b),
+        empty_fair format p s i x is (λ g fits e. none g fits (omega (arith, e))),
+        inl (omega (arith, nothing, even), subst (λ n. Bounds format p limit s wanted (i + 1) n xs) (none_used i (allowance p s i 0 x) nothing) b),
       )
 
   -- where the counts are those wanted, lines behind empty ones bound as from their size on
@@ -94,7 +94,7 @@ module _ (language : Language) (p : Problem) (limit : ℕ) (s : State) (wanted :
   empty_loss i [] are last e some none level small less = absurd (omega (arith, e, some))
   empty_loss i (x ∷ []) are last e some none level small less =
       let same : last ≡ i = omega (arith, e) in (
-        empty_fair language p s i x are.0 (λ g fits k. none g fits (omega (arith, k, same))),
+        empty_fair format p s i x are.0 (λ g fits k. none g fits (omega (arith, k, same))),
         inr (omega (arith, same, small), fewer (empty_allows p s i x are.0) (subst (λ n. counts s.closed n < wanted n) same less), refl),
       )
     where

@@ -55,7 +55,7 @@ module _ (p : Problem) (round : Round) (s : State) where
       go (inr l) = inr (ends.0, ends.1, subst (IsLevel (counts (sets_of ends.0)) s) l.0 l.1)
 
   -- such lines below a size, and a line that allows fewer groups than are missing
-  pub complete_end : (size k : ℕ) (line : AllowanceHeld) (leaf : Leaf) → IsMissing round s size k → AllowsFewer round.language p s size k line → EndsWith p s size (allowance_of line) leaf → IsCompleteLeaf leaf p round s
+  pub complete_end : (size k : ℕ) (line : AllowanceHeld) (leaf : Leaf) → IsMissing round s size k → AllowsFewer round.format p s size k line → EndsWith p s size (allowance_of line) leaf → IsCompleteLeaf leaf p round s
   complete_end size k line leaf missing fewer ends =
       let t = missing.1.0 in
       subst (λ (l : Leaf). IsCompleteLeaf l p round s) (sym ends.is)

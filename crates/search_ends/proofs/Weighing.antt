@@ -31,12 +31,12 @@ use Rattle.certificate_text.proofs.ShortLines.{weights_fit}
 
 -- where each group that is known weighs so much, each one that fits does
 known_heavy : (p : Problem) (round : Round) (s : State) (i quota : ℕ) (w : ℕ → ℕ) (groups : List (List ℕ)) → IsOrder p round.order → IsKnown p round s i groups → All (λ g. quota ≤ sum_by w g) groups
-    → (g : List ℕ) → Fits round.language p s g → length g ≡ i → quota ≤ sum_by w g
+    → (g : List ℕ) → Fits round.format p s g → length g ≡ i → quota ≤ sum_by w g
 known_heavy p round s i quota w groups whole known heavy g fits e =
     let k = filter (contains g) round.order in
     let same : Alike g k = in_order_alike round.order p.counties g whole fits.lawful.once fits.lawful.listed in
     let there : Has groups k = has_from_contains groups k (known.all k (record {
-      fits = fits_alike round.language p s g k same fits;
+      fits = fits_alike round.format p s g k same fits;
       in_order = filter_agree (contains k) (contains g) (λ x. sym (member_same g k same x)) round.order;
       size = omega (arith, e, length_alike g k same);
     })) in
@@ -58,7 +58,7 @@ module _ (C : Type 0) (test : C → ℕ → Bool) (p : Problem) (law : IsProblem
   -- a line of the table's weights, with a quota that no group weighs less than, where the open places share them between fewer groups than so many
   pub weighed_fewer : (round : Round) (s t : State) (i k quota : ℕ) (table : List ℕ) (ws : List WeightHeld) (sets : List C) (region : ℕ → Bool) → order ≡ round.order → IsStateAt order s t → length table ≡ length order → AreTableWeights order p.counties table ws
       → IsKnown p round s i (codes_of_sets order test sets) → All (λ g. quota ≤ sum_by (λ x. get_or table x 0) (places_of (length table) (test g))) sets → 1 ≤ quota → quota ≤ 256000000
-      → ((x : ℕ) → region x ≡ open_to t i x) → sum_by (λ x. get_or table x 0) (places_of (length table) region) / quota < k → AllowsFewer round.language p s i k (Weigh quota ws)
+      → ((x : ℕ) → region x ≡ open_to t i x) → sum_by (λ x. get_or table x 0) (places_of (length table) region) / quota < k → AllowsFewer round.format p s i k (Weigh quota ws)
   weighed_fewer round s t i k quota table ws sets region same at number are known heavy from to covers less = record {
     fair = (from, known_counties p (placed_weight order table) ws are.are, known_heavy p round s i quota w (codes_of_sets order test sets) (subst (IsOrder p) same whole) known (all_heavy C test order table w table_is quota sets heavy));
     fewer = less_shared (room_at p s i 0 / i) (sum_by (λ x. get_or table x 0) (places_of (length table) region)) (sum_by w (listed p (open_to s i))) quota k (open_sum w p order table s t i region law whole at table_is covers) less;

@@ -12,4 +12,4 @@ use Rattle.certificate_text.specs.TreeItems.{FitsInTree}
 -- the leaf is valid at the state, and its numbers are in the ranges of its lines
 pub record IsGivenLeaf (p : Problem) (round : Round) (s : State) (leaf : Leaf) : Type 0 where
   pub valid : IsValidLeaf p round s (leaf_of leaf)
-  pub lines : AllByRecursion (FitsInTree round.language) (leaf_items (leaf_of leaf))
+  pub lines : AllByRecursion (FitsInTree round.format) (leaf_items (leaf_of leaf))

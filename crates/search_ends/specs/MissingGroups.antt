@@ -2,7 +2,7 @@
 use Rattle.std.specs.Prelude.{ℕ, ◌+◌, ◌-◌, ◌≡◌, ◌≤◌, ◌<◌, Some, ◌⊎◌}
 use Rattle.grouping_laws.specs.Problem.{Problem}
 use Rattle.grouping_laws.specs.Grouping.{Grouping, counts, sets_of}
-use Rattle.certificate_data.specs.declared.language.Language.{Language}
+use Rattle.certificate_data.specs.declared.format.Format.{Format}
 use Rattle.certificate_data.specs.Round.{Round}
 use Rattle.certificate_laws.specs.State.{State}
 use Rattle.certificate_laws.specs.BoundLines.{allowance, IsFair}
@@ -42,7 +42,7 @@ StandsLevel round s = (t : Grouping) × (round.target ≡ Some t) × IsLevel (co
 
 -- a line that allows fewer than k groups of i counties, where no smaller group uses a county up, and is fair; its
 -- numbers are in their ranges
-pub record AllowsFewer (language : Language) (p : Problem) (s : State) (i k : ℕ) (line : Allowance) : Type 0 where
-  pub fair : IsFair language p s i (allowance_of line)
+pub record AllowsFewer (format : Format) (p : Problem) (s : State) (i k : ℕ) (line : Allowance) : Type 0 where
+  pub fair : IsFair format p s i (allowance_of line)
   pub fewer : allowance p s i 0 (allowance_of line) < k
-  pub spelled : FitsInTree language (Allows line)
+  pub spelled : FitsInTree format (Allows line)

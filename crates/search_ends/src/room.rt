@@ -38,7 +38,7 @@ pub fn room_leaf<C: CountySet>(
     requires size { 1 ≤ size }
     requires small { size ≤ round.now.limit }
     requires none { (g : List ℕ)
-        → Fits round.now.language (problem_of ordered.now.problem) (state_at ordered.now.order C.test state.now) g
+        → Fits round.now.format (problem_of ordered.now.problem) (state_at ordered.now.order C.test state.now) g
         → length g < size
         → ⊥ }
     ensures leaf { IfOk

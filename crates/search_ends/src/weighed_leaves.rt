@@ -140,7 +140,7 @@ fn weighed_line<C: CountySet>(
         (λ found. MatchOption
         found
         ⊤
-        (λ line. AllowsFewer round.now.language (problem_of ordered.now.problem) (state_at ordered.now.order C.test state.now) size wanted line)) }
+        (λ line. AllowsFewer round.now.format (problem_of ordered.now.problem) (state_at ordered.now.order C.test state.now) size wanted line)) }
 {
     let _places = ordered.places();
     let _problem = ordered.problem();

@@ -6,7 +6,7 @@ use Rattle.grouping_laws.specs.Problem.{Problem, IsProblem}
 use Rattle.grouping_laws.specs.GroupsFrom.{IsOrder, IsBefore}
 use Rattle.grouping_laws.proofs.Alike.{Alike, length_alike, in_order_alike, member_same}
 use Rattle.grouping_laws.proofs.Elements.{has_from_contains}
-use Rattle.certificate_data.specs.declared.language.Language.TheVariants.{Wide}
+use Rattle.certificate_data.specs.declared.format.Format.TheVariants.{Wide}
 use Rattle.certificate_data.specs.Round.{Round}
 use Rattle.certificate_laws.specs.State.{State, IsState, open_to, close, raise}
 use Rattle.certificate_laws.specs.Fitting.{Fits, IsLive, IsKept}
@@ -32,12 +32,12 @@ first p round s = record {
 }
 
 -- a group that fits, in the order of places
-in_places : (p : Problem) (round : Round) (s : State) (i : ℕ) → IsOrder p round.order → (g : List ℕ) → Fits round.language p s g → length g ≡ i → IsGroupOf p round s i (filter (contains g) round.order)
+in_places : (p : Problem) (round : Round) (s : State) (i : ℕ) → IsOrder p round.order → (g : List ℕ) → Fits round.format p s g → length g ≡ i → IsGroupOf p round s i (filter (contains g) round.order)
 in_places p round s i order g fits e =
     let k = filter (contains g) round.order in
     let same : Alike g k = in_order_alike round.order p.counties g order fits.lawful.once fits.lawful.listed in
     record {
-      fits = fits_alike round.language p s g k same fits;
+      fits = fits_alike round.format p s g k same fits;
       in_order = filter_same (contains k) (contains g) (λ x. sym (member_same g k same x)) round.order;
       size = omega (arith, e, length_alike g k same);
     }
@@ -47,7 +47,7 @@ in_places p round s i order g fits e =
     filter_same q r h (x ∷ xs) = ap (λ b. cond b (x ∷ filter q xs) (filter q xs)) (h x) ∙ ap (λ z. cond (r x) (x ∷ z) z) (filter_same q r h xs)
 
 -- the groups that fit are known
-exact : (p : Problem) (round : Round) (s : State) (i : ℕ) (groups : List (List ℕ)) → ((g : List ℕ) → Fits round.language p s g → length g < i → ⊥) → AreGroupsOf p round s i groups → IsKnown p round s i groups
+exact : (p : Problem) (round : Round) (s : State) (i : ℕ) (groups : List (List ℕ)) → ((g : List ℕ) → Fits round.format p s g → length g < i → ⊥) → AreGroupsOf p round s i groups → IsKnown p round s i groups
 exact p round s i groups none are = record {
   none_below = none;
   each = λ g h. let f = (are.each g).0 h in record { lawful = f.fits.lawful; inside = subst (λ n. Inside (open_to s n) g) f.size f.fits.inside; in_order = f.in_order; size = f.size };
@@ -56,7 +56,7 @@ exact p round s i groups none are = record {
 }
 
 -- where no candidate of a size is left, no group of at most that size fits
-pub none_left : (p : Problem) (round : Round) (s : State) (i : ℕ) → IsOrder p round.order → IsKnown p round s i [] → (g : List ℕ) → Fits round.language p s g → length g ≤ i → ⊥
+pub none_left : (p : Problem) (round : Round) (s : State) (i : ℕ) → IsOrder p round.order → IsKnown p round s i [] → (g : List ℕ) → Fits round.format p s g → length g ≤ i → ⊥
 none_left p round s i order known g fits l = ⊎_elim
     (λ less. known.none_below g fits less)
     (λ most. let k = filter (contains g) round.order in nothing k (known.all k (in_places p round s i order g fits (omega (arith, l, most)))))
@@ -66,7 +66,7 @@ next : (p : Problem) (round : Round) (s : State) (i : ℕ) (groups : List (List 
 next p round s i groups order known are = exact p round s (i + 1) groups (λ g fits l. none_left p round s i order known g fits (omega (arith, l))) are
 
 -- some of what is known, at a state into which no other groups fit
-narrower : (p : Problem) (round : Round) (s t : State) (i : ℕ) (Is : List ℕ → Type 0) (groups those : List (List ℕ)) → ((g : List ℕ) → Fits round.language p t g → Fits round.language p s g)
+narrower : (p : Problem) (round : Round) (s t : State) (i : ℕ) (Is : List ℕ → Type 0) (groups those : List (List ℕ)) → ((g : List ℕ) → Fits round.format p t g → Fits round.format p s g)
     → ((g : List ℕ) → Inside (open_to s i) g → Is g → Inside (open_to t i) g) → ((g : List ℕ) → Inside (open_to t i) g → Is g) → IsKnown p round s i groups → AreThose round.order Is groups those → IsKnown p round t i those
 narrower p round s t i Is groups those narrows stays keeps known are = record {
   none_below = λ g fits l. known.none_below g (narrows g fits) l;
@@ -101,7 +101,7 @@ module _ (s : State) (i : ℕ) where
   raised_shut : (j : ℕ) → open_to (raise j i s) i j ≡ true → ⊥
   raised_shut j e = omega (arith, open_least (raise j i s) i j e, ap (λ b. cond b (i + 1) (s.least j)) (eq-eqb j j refl))
 
-closed : (p : Problem) (round : Round) (s : State) (i : ℕ) (k : List ℕ) (groups those : List (List ℕ)) → IsProblem p → IsState p round s → Fits round.language p s k → IsKnown p round s i groups → AreThose round.order (IsApart k) groups those
+closed : (p : Problem) (round : Round) (s : State) (i : ℕ) (k : List ℕ) (groups those : List (List ℕ)) → IsProblem p → IsState p round s → Fits round.format p s k → IsKnown p round s i groups → AreThose round.order (IsApart k) groups those
     → IsKnown p round (close k s) i those
 closed p round s i k groups those law state fits =
     narrower p round s (close k s) i (IsApart k) groups those (branch_keeps_state.closed_narrows p round s k law state fits)
@@ -110,7 +110,7 @@ closed p round s i k groups those law state fits =
 
 raised : (p : Problem) (round : Round) (s : State) (i c : ℕ) (groups those : List (List ℕ)) → s.least c ≤ i + 1 → IsKnown p round s i groups → AreThose round.order (Lacks c) groups those → IsKnown p round (raise c i s) i those
 raised p round s i c groups those low =
-    narrower p round s (raise c i s) i (Lacks c) groups those (branch_keeps_state.raised_narrows round.language p s c i low) stays keeps
+    narrower p round s (raise c i s) i (Lacks c) groups those (branch_keeps_state.raised_narrows round.format p s c i low) stays keeps
   where
     stays : (g : List ℕ) → Inside (open_to s i) g → Lacks c g → Inside (open_to (raise c i s) i) g
     stays g inside e x m = go (x == c) refl
@@ -126,7 +126,7 @@ raised p round s i c groups those low =
         go true m = absurd (raised_shut s i c (inside c m))
         go false m = refl
 
-live : (p : Problem) (round : Round) (s : State) (i : ℕ) (groups those : List (List ℕ)) → round.language ≡ Wide → IsKnown p round s i groups → AreThose round.order (IsLive p s) groups those → AreGroupsOf p round s i those × IsKnown p round s i those
+live : (p : Problem) (round : Round) (s : State) (i : ℕ) (groups those : List (List ℕ)) → round.format ≡ Wide → IsKnown p round s i groups → AreThose round.order (IsLive p s) groups those → AreGroupsOf p round s i those × IsKnown p round s i those
 live p round s i groups those widely known those_live = (are, exact p round s i those known.none_below are)
   where
     are : AreGroupsOf p round s i those
@@ -141,7 +141,7 @@ live p round s i groups those widely known those_live = (are, exact p round s i 
       sorted = those_live.in_turn known.sorted;
     }
 
-takes : (p : Problem) (round : Round) (s : State) (i c : ℕ) (groups those found : List (List ℕ)) → round.language ≡ Wide → IsKnown p round s i groups → AreThose round.order (Has c) groups those → AreThose round.order (IsLive p s) those found → AreGroupsAt p round s c i found
+takes : (p : Problem) (round : Round) (s : State) (i c : ℕ) (groups those found : List (List ℕ)) → round.format ≡ Wide → IsKnown p round s i groups → AreThose round.order (Has c) groups those → AreThose round.order (IsLive p s) those found → AreGroupsAt p round s c i found
 takes p round s i c groups those found widely known having lives = record {
   each = λ g. (
     λ h.
@@ -157,7 +157,7 @@ takes p round s i c groups those found widely known having lives = record {
   sorted = lives.in_turn (having.in_turn known.sorted);
 }
 
-can : (p : Problem) (round : Round) (s : State) (i c : ℕ) (g : List ℕ) → round.language ≡ Wide → i ≤ round.limit → IsCandidateGroup p round s i g → contains g c ≡ true → CanBranch round s c i
+can : (p : Problem) (round : Round) (s : State) (i c : ℕ) (g : List ℕ) → round.format ≡ Wide → i ≤ round.limit → IsCandidateGroup p round s i g → contains g c ≡ true → CanBranch round s c i
 can p round s i c g widely small is m = record { small = small; is_open = is.inside c m; in_turn = subst (λ l. GoesInOrder l round s c i) (sym widely) tt }
 
 -- candidates of any size serve in the same way, whatever smaller groups fit
@@ -169,7 +169,7 @@ candidates_listed p round s i groups are = record {
 }
 
 -- where a group is closed, the candidates apart from it stay
-pub candidates_closed : (p : Problem) (round : Round) (s : State) (i : ℕ) (k : List ℕ) (groups those : List (List ℕ)) → IsProblem p → IsState p round s → Fits round.language p s k → AreCandidates p round s i groups
+pub candidates_closed : (p : Problem) (round : Round) (s : State) (i : ℕ) (k : List ℕ) (groups those : List (List ℕ)) → IsProblem p → IsState p round s → Fits round.format p s k → AreCandidates p round s i groups
     → AreThose round.order (IsApart k) groups those → AreCandidates p round (close k s) i those
 candidates_closed p round s i k groups those law state fits known are = record {
   each = λ g h.
@@ -186,7 +186,7 @@ candidates_closed p round s i k groups those law state fits known are = record {
 pub candidates_raised : (p : Problem) (round : Round) (s : State) (i c : ℕ) (groups : List (List ℕ)) → s.least c ≤ i + 1 → AreCandidates p round s (i + 1) groups → AreCandidates p round (raise c i s) (i + 1) groups
 candidates_raised p round s i c groups low known = record {
   each = λ g h. let is = known.each g h in record { lawful = is.lawful; inside = λ x m. still x (is.inside x m); in_order = is.in_order; size = is.size };
-  all = λ g f. known.all g (record { fits = (branch_keeps_state).raised_narrows round.language p s c i low g f.fits; in_order = f.in_order; size = f.size });
+  all = λ g f. known.all g (record { fits = (branch_keeps_state).raised_narrows round.format p s c i low g f.fits; in_order = f.in_order; size = f.size });
   sorted = known.sorted;
 }
   where
@@ -198,7 +198,7 @@ candidates_raised p round s i c groups low known = record {
     still x e = is_open (raise c i s) (i + 1) x (open_rest s (i + 1) x e) (least (x == c) (s.least x) (open_least s (i + 1) x e))
 
 -- in a wide round the live ones are the groups that fit
-pub candidates_fit : (p : Problem) (round : Round) (s : State) (i : ℕ) (groups those : List (List ℕ)) → round.language ≡ Wide → AreCandidates p round s i groups → AreThose round.order (IsLive p s) groups those → AreGroupsOf p round s i those
+pub candidates_fit : (p : Problem) (round : Round) (s : State) (i : ℕ) (groups those : List (List ℕ)) → round.format ≡ Wide → AreCandidates p round s i groups → AreThose round.order (IsLive p s) groups those → AreGroupsOf p round s i those
 candidates_fit p round s i groups those widely known lives = record {
   each = λ g. (
     λ h.

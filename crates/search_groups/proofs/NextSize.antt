@@ -7,8 +7,8 @@ use Rattle.grouping_laws.specs.GroupsFrom.{IsOrder}
 use Rattle.grouping_laws.specs.Places.{codes_at}
 use Rattle.grouping_laws.specs.PlaceProblem.{code_at, at_places}
 use Rattle.grouping_laws.proofs.Seated.{first_code}
-use Rattle.certificate_data.specs.declared.language.Language.{Language}
-use Rattle.certificate_data.specs.declared.language.Language.TheVariants.{Wide}
+use Rattle.certificate_data.specs.declared.format.Format.{Format}
+use Rattle.certificate_data.specs.declared.format.Format.TheVariants.{Wide}
 use Rattle.certificate_data.specs.Round.{Round}
 use Rattle.certificate_laws.specs.State.{State}
 use Rattle.certificate_laws.specs.Fitting.{Fits}
@@ -18,13 +18,13 @@ use Rattle.certificate_laws.proofs.Places.{places_serve}
 use Rattle.certificate_laws.proofs.StateLemmas.{all_below}
 use Rattle.search_groups.specs.PartGroups.{IsSizeToList}
 
--- a round in the wide language
+-- a round in the wide format
 abbrev by_order : List ℕ → Round
-by_order order = record { order = order; limit = 0; target = None; language = Wide; window = None }
+by_order order = record { order = order; limit = 0; target = None; format = Wide; window = None }
 
-pub next_by_places : (p : Problem) (order : List ℕ) (s t : State) (size : ℕ) (language : Language) → language ≡ Wide → IsOrder p order → IsStateAt order s t
-    → ((g : List ℕ) → Fits language p s g → length g < size → ⊥) → ((c : ℕ) → IsStuck p s c → ⊥) → ((c : ℕ) → t.rest c ≡ true → t.least c ≤ size) → IsSizeToList (at_places p order) t size
-next_by_places p order s t size language wide whole at none free low = record {
+pub next_by_places : (p : Problem) (order : List ℕ) (s t : State) (size : ℕ) (format : Format) → format ≡ Wide → IsOrder p order → IsStateAt order s t
+    → ((g : List ℕ) → Fits format p s g → length g < size → ⊥) → ((c : ℕ) → IsStuck p s c → ⊥) → ((c : ℕ) → t.rest c ≡ true → t.least c ≤ size) → IsSizeToList (at_places p order) t size
+next_by_places p order s t size format wide whole at none free low = record {
   listed = λ c e. sym (all_below (length order) c) ∙ lt-ltb c (length order) (at.rest.below c e);
   none = smaller;
   no_stuck = stuck;

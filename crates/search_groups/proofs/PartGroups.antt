@@ -18,7 +18,7 @@ use Rattle.grouping_laws.proofs.Seated.{first_code}
 use Rattle.connected_laws.specs.Growing.{sort_key}
 use Rattle.connected_laws.specs.Listing.{AreBelow, lists_of}
 use Rattle.connected_laws.proofs.Distinct.{distinct_append, distinct_pairs, distinct_from_pairs}
-use Rattle.certificate_data.specs.declared.language.Language.TheVariants.{Wide}
+use Rattle.certificate_data.specs.declared.format.Format.TheVariants.{Wide}
 use Rattle.certificate_data.specs.Round.{Round}
 use Rattle.certificate_laws.specs.State.{State}
 use Rattle.certificate_laws.specs.Fitting.{Fits}
@@ -49,9 +49,9 @@ stands_some c [] g h e = absurd h
 stands_some c (x ∷ xs) g (inl k) e = omega (arith, often_some c x (subst (λ z. contains z c ≡ true) (sym k) e))
 stands_some c (x ∷ xs) g (inr h) e = omega (arith, stands_some c xs g h e)
 
--- a round by places in the wide language
+-- a round by places in the wide format
 abbrev wide_round : ℕ → Round
-wide_round n = record { order = places_below n; limit = 0; target = None; language = Wide; window = None }
+wide_round n = record { order = places_below n; limit = 0; target = None; format = Wide; window = None }
 
 pub none_found : (C : Type 0) (test : C → ℕ → Bool) (p : Problem) (n size : ℕ) → ArePartGroups test p n size [] []
 none_found C test p n size = record {
@@ -174,9 +174,9 @@ all_found C test p n size parts groups i over are = subst (λ z. ArePartGroups t
 
 -- the groups of all parts, sorted, are those that fit a state of which the size is next
 pub found_groups : (C : Type 0) (test : C → ℕ → Bool) (p : Problem) (n size : ℕ) (s : State) (parts found groups : List C) → IsProblem p → IsSizeToList p s size → AreParts p s.rest (lists_of n test parts) → ArePartGroups test p n size parts found
-    → IsPermutation found groups → IsSortedBy (λ g h. is_lt (slice_cmp nat_cmp (sort_key g) (sort_key h))) (lists_of n test groups) → (round : Round) → round.order ≡ places_below n → round.language ≡ Wide
+    → IsPermutation found groups → IsSortedBy (λ g h. is_lt (slice_cmp nat_cmp (sort_key g) (sort_key h))) (lists_of n test groups) → (round : Round) → round.order ≡ places_below n → round.format ≡ Wide
     → AreGroupsOf p round s size (lists_of n test groups)
-found_groups C test p n size s parts found groups is next are_parts are moved sorted round order language = record {
+found_groups C test p n size s parts found groups is next are_parts are moved sorted round order format = record {
   each = λ g. (there g, again g);
   sorted = subst (λ z. AllPairs (IsBefore z) (lists_of n test groups)) (sym order) (keys_before n (lists_of n test found) (lists_of n test groups) are.once permuted sorted (λ g h. (among g h).in_order));
 }
@@ -191,14 +191,14 @@ found_groups C test p n size s parts found groups is next are_parts are moved so
     there g h =
         let f = among g h in
         record {
-          fits = subst (λ l. Fits l p s g) (sym language) ((parts_serve p s size (lists_of n test parts) is next are_parts g f.size_is).1 f.fits);
+          fits = subst (λ l. Fits l p s g) (sym format) ((parts_serve p s size (lists_of n test parts) is next are_parts g f.size_is).1 f.fits);
           in_order = subst (λ z. filter (contains g) z ≡ g) (sym order) f.in_order;
           size = f.size_is;
         }
 
     again : (g : List ℕ) → IsGroupOf p round s size g → Contains (lists_of n test groups) g
     again g f = Contains-permutation (lists_of n test found) (lists_of n test groups) g permuted ((are.each g).1 (record {
-      fits = (parts_serve p s size (lists_of n test parts) is next are_parts g f.size).0 (subst (λ l. Fits l p s g) language f.fits);
+      fits = (parts_serve p s size (lists_of n test parts) is next are_parts g f.size).0 (subst (λ l. Fits l p s g) format f.fits);
       in_order = subst (λ z. filter (contains g) z ≡ g) order f.in_order;
       size_is = f.size;
     }))

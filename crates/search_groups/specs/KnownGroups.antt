@@ -5,7 +5,7 @@ use Rattle.std.specs.Prelude.{Contains, AllPairs, ◌↔◌}
 use Rattle.grouping_laws.specs.Sets.{contains, Inside}
 use Rattle.grouping_laws.specs.Problem.{Problem, IsProblem, LawfulGroup}
 use Rattle.grouping_laws.specs.GroupsFrom.{IsOrder, IsBefore}
-use Rattle.certificate_data.specs.declared.language.Language.TheVariants.{Wide}
+use Rattle.certificate_data.specs.declared.format.Format.TheVariants.{Wide}
 use Rattle.certificate_data.specs.Round.{Round}
 use Rattle.certificate_laws.specs.State.{State, IsState, open_to, close, raise}
 use Rattle.certificate_laws.specs.Fitting.{Fits, IsLive}
@@ -30,7 +30,7 @@ pub record AreCandidates (p : Problem) (round : Round) (s : State) (i : ℕ) (gr
 -- no group of fewer than i counties fits, and these are candidates of i counties, among them all that fit, sorted by
 -- lists of places
 pub record IsKnown (p : Problem) (round : Round) (s : State) (i : ℕ) (groups : List (List ℕ)) : Type 0 where
-  pub none_below : (g : List ℕ) → Fits round.language p s g → length g < i → ⊥
+  pub none_below : (g : List ℕ) → Fits round.format p s g → length g < i → ⊥
   pub each : (g : List ℕ) → Contains groups g → IsCandidateGroup p round s i g
   pub all : (g : List ℕ) → IsGroupOf p round s i g → Contains groups g
   pub sorted : AllPairs (IsBefore round.order) groups
@@ -65,19 +65,19 @@ pub record KnownServes : Type 0 where
       → IsKnown p round s i [] → AreGroupsOf p round s (i + 1) groups → IsKnown p round s (i + 1) groups
   -- where a group is closed, the candidates apart from it stay
   pub closed : (p : Problem) (round : Round) (s : State) (i : ℕ) (k : List ℕ) (groups those : List (List ℕ))
-      → IsProblem p → IsState p round s → Fits round.language p s k → IsKnown p round s i groups
+      → IsProblem p → IsState p round s → Fits round.format p s k → IsKnown p round s i groups
       → AreThose round.order (IsApart k) groups those → IsKnown p round (close k s) i those
   -- where a county is raised past the size, those that lack it stay
   pub raised : (p : Problem) (round : Round) (s : State) (i c : ℕ) (groups those : List (List ℕ)) → s.least c ≤ i + 1
       → IsKnown p round s i groups → AreThose round.order (Lacks c) groups those → IsKnown p round (raise c i s) i those
   -- in a wide round the live ones are the groups of the size that fit, and they are known too
-  pub live : (p : Problem) (round : Round) (s : State) (i : ℕ) (groups those : List (List ℕ)) → round.language ≡ Wide
+  pub live : (p : Problem) (round : Round) (s : State) (i : ℕ) (groups those : List (List ℕ)) → round.format ≡ Wide
       → IsKnown p round s i groups → AreThose round.order (IsLive p s) groups those
       → AreGroupsOf p round s i those × IsKnown p round s i those
   -- the live ones of those that have a county are the takes of a branch at it
   pub takes : (p : Problem) (round : Round) (s : State) (i c : ℕ) (groups those found : List (List ℕ))
-      → round.language ≡ Wide → IsKnown p round s i groups → AreThose round.order (Has c) groups those
+      → round.format ≡ Wide → IsKnown p round s i groups → AreThose round.order (Has c) groups those
       → AreThose round.order (IsLive p s) those found → AreGroupsAt p round s c i found
   -- in a wide round one may branch at each county of a candidate
-  pub can : (p : Problem) (round : Round) (s : State) (i c : ℕ) (g : List ℕ) → round.language ≡ Wide → i ≤ round.limit
+  pub can : (p : Problem) (round : Round) (s : State) (i c : ℕ) (g : List ℕ) → round.format ≡ Wide → i ≤ round.limit
       → IsCandidateGroup p round s i g → contains g c ≡ true → CanBranch round s c i

@@ -4,7 +4,7 @@ use Rattle.grouping_laws.specs.Sets.{contains}
 use Rattle.grouping_laws.specs.Problem.{Problem}
 use Rattle.grouping_laws.specs.Places.{places_below}
 use Rattle.connected_laws.specs.Listing.{AreBelow, lists_of}
-use Rattle.certificate_data.specs.declared.language.Language.TheVariants.{Wide}
+use Rattle.certificate_data.specs.declared.format.Format.TheVariants.{Wide}
 use Rattle.certificate_data.specs.Round.{Round}
 use Rattle.certificate_laws.specs.State.{State}
 use Rattle.certificate_laws.specs.Groups.{AreGroupsOf}
@@ -12,11 +12,11 @@ use Rattle.search_groups.specs.PartGroups.{alone, IsSizeToList, FitsPart}
 use Rattle.search_groups.specs.declared.part_lists.PartList.{PartList}
 use Rattle.search_groups.specs.declared.part_lists.PartLists.{PartLists}
 
--- All groups of the size that fit the region by itself in a wide language, sorted by lists of places. They name nothing
+-- All groups of the size that fit the region by itself in a wide format, sorted by lists of places. They name nothing
 -- of a round but its order.
 abbrev pub AreGroupsAlone : Problem → ℕ → (ℕ → Bool) → ℕ → List (List ℕ) → Type 0
 AreGroupsAlone p n region size groups =
-    (round : Round) → round.order ≡ places_below n → round.language ≡ Wide
+    (round : Round) → round.order ≡ places_below n → round.format ≡ Wide
     → AreGroupsOf p round (alone region size) size groups
 
 -- the list has all groups of its size that fit its part by itself
@@ -55,7 +55,7 @@ pub record ArePartGroups {C : Type 0} (test : C → ℕ → Bool) (p : Problem) 
 abbrev pub AreNextGroups : {C : Type 0} → (C → ℕ → Bool) → Problem → ℕ → (ℕ → Bool) → ℕ → List C → Type 0
 AreNextGroups test p n region size groups =
     (s : State) → s.rest ≡ region → IsSizeToList p s size
-    → (round : Round) → round.order ≡ places_below n → round.language ≡ Wide
+    → (round : Round) → round.order ≡ places_below n → round.format ≡ Wide
     → AreGroupsOf p round s size (lists_of n test groups)
 
 -- each list that is kept is one of its part and its size

@@ -24,4 +24,4 @@ StandsAhead round s = (t : Grouping) → round.target ≡ Some t → IsAhead (co
 
 -- no group of at most so many counties fits
 abbrev pub NoneUpTo : Problem → Round → State → ℕ → Type 0
-NoneUpTo p round s n = (g : List ℕ) → Fits round.language p s g → length g ≤ n → ⊥
+NoneUpTo p round s n = (g : List ℕ) → Fits round.format p s g → length g ≤ n → ⊥

@@ -10,7 +10,7 @@ ghost use Rattle.connected_sets.specs.declared.stop.Stop.{Stop};
 ghost use Rattle.search_groups.specs.PartGroups.{alone};
 ghost use Rattle.search_groups.specs.PartLists.{IsPartList, IsListFor, ArePut, AreListsOf};
 
-use certificate_data::Language;
+use certificate_data::Format;
 use connected_sets::{CountyGraph, Stop};
 use county_problem::Steps;
 use place_sets::CountySet;
@@ -151,7 +151,7 @@ fn list_part<C: CountySet>(
     ensures stopped { IsErrOf result Stop.StepLimit → steps.new.used ≡ steps.new.limit }
 {
     let state = state_alone(graph.alloc, graph.ordered.places(), part, size)?;
-    let groups = groups_of(graph, Language::Wide, &state, size, steps)?;
+    let groups = groups_of(graph, Format::Wide, &state, size, steps)?;
     Ok(PartList {
         part: part.copy(graph.alloc)?,
         size,

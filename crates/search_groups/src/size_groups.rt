@@ -4,7 +4,7 @@ ghost use Rattle.std.specs.Prelude.{◌≡◌, ℕ, ◌*◌, ◌≤◌, ◌<◌,
 ghost use Rattle.grouping_laws.specs.Sets.{count_in};
 ghost use Rattle.connected_sets.specs.Graphs.{graph_problem, graph_order, graph_places, place_problem, IsGraph};
 ghost use Rattle.connected_laws.specs.Listing.{AreBelow, lists_of};
-ghost use Rattle.certificate_data.specs.declared.language.Language.TheVariants.{Wide};
+ghost use Rattle.certificate_data.specs.declared.format.Format.TheVariants.{Wide};
 ghost use Rattle.certificate_data.specs.RoundValue.{round_of};
 ghost use Rattle.certificate_laws.specs.State.{IsState};
 ghost use Rattle.state_groups.specs.StateValue.{state_of};
@@ -115,10 +115,10 @@ pub fn groups_of_size<C: CountySet>(
     requires placed { IsPlaced (graph_places graph.now) C.test state.now }
     requires order { graph_order graph.now ≡ round.now.order }
     requires size { 1 ≤ size }
-    requires wide { round.now.language ≡ Wide }
+    requires wide { round.now.format ≡ Wide }
     requires state { IsState (graph_problem graph.now) (round_of round.now) (state_at (graph_order graph.now) C.test state.now) }
     requires none { (g : List ℕ)
-        → Fits round.now.language (graph_problem graph.now) (state_at (graph_order graph.now) C.test state.now) g
+        → Fits round.now.format (graph_problem graph.now) (state_at (graph_order graph.now) C.test state.now) g
         → length g < size → ⊥ }
     requires no_stuck { (c : ℕ)
         → ¬ IsStuck (graph_problem graph.now) (state_at (graph_order graph.now) C.test state.now) c }

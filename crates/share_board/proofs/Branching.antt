@@ -5,8 +5,8 @@ use Rattle.grouping_laws.specs.Problem.{Problem}
 use Rattle.certificate_data.specs.TreeValue.{take_onto, list_of_takes}
 use Rattle.certificate_data.specs.declared.tree.Take.{Take}
 use Rattle.certificate_data.proofs.CopyLaws.{takes_onto}
-use Rattle.certificate_data.specs.declared.language.Language.{Language}
-use Rattle.certificate_data.specs.declared.language.Language.TheVariants.{Plain, Wide}
+use Rattle.certificate_data.specs.declared.format.Format.{Format}
+use Rattle.certificate_data.specs.declared.format.Format.TheVariants.{Plain, Wide}
 use Rattle.certificate_data.specs.Round.{Round}
 use Rattle.certificate_laws.specs.State.{State, empty_state, close, raise}
 use Rattle.state_groups.specs.declared.state.State.{State as StateHeld}
@@ -27,7 +27,7 @@ use Rattle.share_board.proofs.Openings.{opened_kept, piece_opened, none_opened, 
 use Rattle.share_board.proofs.NewPieces.{state_pushed, state_last}
 
 -- a branch of a plain round names no limit
-pub plain_names : (language : Language) → language ≡ Plain → NamesLimit language None
+pub plain_names : (format : Format) → format ≡ Plain → NamesLimit format None
 plain_names Plain e = tt
 plain_names Wide e = absurd (cc)
 
@@ -50,7 +50,7 @@ placed test p round order depth states news x tree same is why e seat =
     (piece_opened test p round depth (state_at order test x) seats (length states) news why kept))
 
 -- why the opening stopped at a take, at the takes of a branch, and behind them
-module _ (p : Problem) (round : Round) (plain : round.language ≡ Plain) (share depth : ℕ) (s : State) where
+module _ (p : Problem) (round : Round) (plain : round.format ≡ Plain) (share depth : ℕ) (s : State) where
   pub take_halted : (g : List ℕ) (rest groups : List (List ℕ)) (first here : ℕ) (at : OpeningStop) → IsHalted p round share depth (close g s) here at → (EachOpensWithMore p round depth s (g ∷ rest) here → EachOpensWithMore p round depth s groups first)
       → AreHalted p round share depth s groups first at
   take_halted g rest groups first here stop.TooManyPieces h more = more (group_more p round plain depth s g rest here h)
@@ -59,14 +59,14 @@ module _ (p : Problem) (round : Round) (plain : round.language ≡ Plain) (share
 
   module _ (county : ℕ) (groups : List (List ℕ)) (first : ℕ) (some : 1 ≤ depth) (can : CanBranch round s county round.limit) (are : AreGroupsAt p round s county round.limit groups) where
     pub takes_halted : (at : OpeningStop) → AreHalted p round share (depth - 1) s groups first at → IsHalted p round share depth s first at
-    takes_halted stop.TooManyPieces h = takes_have_more p round plain depth s county groups first some (plain_names round.language plain) can are h
+    takes_halted stop.TooManyPieces h = takes_have_more p round plain depth s county groups first some (plain_names round.format plain) can are h
     takes_halted stop.Budget h = (some, h)
     takes_halted stop.Memory h = tt
 
     pub raised_halted : {C : Type 0} (test : C → ℕ → Bool) (takes : Takes) (between : ℕ) (states : List (StateHeld C)) (at : OpeningStop) → AreOpened test p round (depth - 1) s groups takes first between states
         → IsHalted p round share (depth - 1) (raise county round.limit s) between at → IsHalted p round share depth s first at
     raised_halted test takes between states stop.TooManyPieces a h =
-        raised_more p round plain depth s county groups first between a.parts some (plain_names round.language plain) can are a.groups_are a.opens h
+        raised_more p round plain depth s county groups first between a.parts some (plain_names round.format plain) can are a.groups_are a.opens h
     raised_halted test takes between states stop.Budget a h = (some, h.1)
     raised_halted test takes between states stop.Memory a h = tt
 
@@ -93,7 +93,7 @@ module _ {C : Type 0} (test : C → ℕ → Bool) (p : Problem) (round : Round) 
       let whole = on (take g tree others) next last (λ k u h. still k u (kept k u h)) (more_opened test p round depth s g rest tree others (length states) (length later) next last (opened_kept test p round depth (close g s) tree (length states) (length later) later last o still) a) in
       subst (λ z. AreOpened test p round depth s all z first next last) (ap (takes_onto takes) (sym (made others)) ∙ sym (takes_more takes t others) ∙ ap (λ (l : List Take). takes_onto l others) (sym pushed)) whole
 
-  pub more_more : (plain : round.language ≡ Plain) (g : List ℕ) (rest : List (List ℕ)) (tree : Tree) (states later : List (StateHeld C)) → IsOpened test p round depth (close g s) tree (length states) (length later) later
+  pub more_more : (plain : round.format ≡ Plain) (g : List ℕ) (rest : List (List ℕ)) (tree : Tree) (states later : List (StateHeld C)) → IsOpened test p round depth (close g s) tree (length states) (length later) later
       → MoreOn p round depth s first all (g ∷ rest) (length states) → MoreOn p round depth s first all rest (length later)
   more_more plain g rest tree states later o on more = on (others_more p round plain depth s g rest (length states) (length later) o.skeleton o.opens more)
 

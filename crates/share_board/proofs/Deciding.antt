@@ -18,8 +18,8 @@ use Rattle.grouping_laws.proofs.PlaceProblem.{order_once}
 use Rattle.grouping_laws.proofs.Fill.{member_cases}
 use Rattle.grouping_laws.proofs.ConnectedLemmas.{same_length}
 use Rattle.grouping_laws.proofs.WindowLemmas.{window_law}
-use Rattle.certificate_data.specs.declared.language.Language.{Language}
-use Rattle.certificate_data.specs.declared.language.Language.TheVariants.{Plain, Wide}
+use Rattle.certificate_data.specs.declared.format.Format.{Format}
+use Rattle.certificate_data.specs.declared.format.Format.TheVariants.{Plain, Wide}
 use Rattle.certificate_data.specs.Round.{Round}
 use Rattle.certificate_laws.specs.State.{State, open_to}
 use Rattle.certificate_laws.specs.Fitting.{IsKept, Fits}
@@ -94,11 +94,11 @@ part_once q (x ∷ xs) c = go (q x) (part_once q xs c)
     go true l = omega (arith, l)
     go false l = omega (arith, l)
 
-kept_plain : (language : Language) (p : Problem) (s : State) (g : List ℕ) → language ≡ Plain → IsKept language p s g
+kept_plain : (format : Format) (p : Problem) (s : State) (g : List ℕ) → format ≡ Plain → IsKept format p s g
 kept_plain Plain p s g e = tt
 kept_plain Wide p s g e = absurd (cc)
 
-module _ (p : Problem) (round : Round) (s : State) (is : IsProblem p) (order : IsOrder p round.order) (plain : round.language ≡ Plain) where
+module _ (p : Problem) (round : Round) (s : State) (is : IsProblem p) (order : IsOrder p round.order) (plain : round.format ≡ Plain) where
   placed_once : (g : List ℕ) → filter (contains g) round.order ≡ g → (c : ℕ) → count c g ≤ 1
   placed_once g placed c = omega (arith, part_once (contains g) round.order c, order_once p round.order order c, ap (count c) placed)
 
@@ -115,7 +115,7 @@ module _ (p : Problem) (round : Round) (s : State) (is : IsProblem p) (order : I
       (λ small. ⊎_elim
       (λ inside. ⊎_elim
       (λ lawful.
-      let fits : Fits round.language p s g = record { lawful = lawful; inside = inside; kept = kept_plain round.language p s g plain } in
+      let fits : Fits round.format p s g = record { lawful = lawful; inside = inside; kept = kept_plain round.format p s g plain } in
       inl (record { fits = fits; in_order = placed; has = has; small = small }))
       (λ n. inr (λ f. n f.fits.lawful)) (lawful_or p is g (placed_once g placed) (placed_known g placed)))
       (λ n. inr (λ f. n f.fits.inside)) (inside_or (open_to s (length g)) g))

@@ -2,8 +2,8 @@
 use Rattle.std.proofs.Common.{◌≡◌, ℕ, ◌-◌, ◌<◌, ◌≤◌, true, List, ◌∷◌, filter, refl, sym, ap, ◌∙◌, subst, arith, inl, inr, Option, Some, None}
 use Rattle.grouping_laws.specs.Problem.{Problem}
 use Rattle.grouping_laws.specs.GroupsFrom.{BeginsWith}
-use Rattle.certificate_data.specs.declared.language.Language.{Language}
-use Rattle.certificate_data.specs.declared.language.Language.TheVariants.{Plain, Wide}
+use Rattle.certificate_data.specs.declared.format.Format.{Format}
+use Rattle.certificate_data.specs.declared.format.Format.TheVariants.{Plain, Wide}
 use Rattle.certificate_data.specs.Round.{Round}
 use Rattle.certificate_laws.specs.State.{State, open_to, close, raise}
 use Rattle.certificate_laws.specs.Groups.{AreGroupsAt}
@@ -26,30 +26,30 @@ mutual
       omega (arith, opens_up depth skeleton p round (close codes s) first o.0 o.1, opens_up_in depth others p round s o.0 next o.2)
 
 -- in a plain round a branch names no limit, and its county is the first that is open
-pub names_none : (language : Language) (limit : Option ℕ) → language ≡ Plain → NamesLimit language limit → limit ≡ None
+pub names_none : (format : Format) (limit : Option ℕ) → format ≡ Plain → NamesLimit format limit → limit ≡ None
 names_none Plain None e n = refl
 names_none Plain (Some limit) e n = absurd n
 names_none Wide limit e n = absurd (cc)
 
-goes_first : (language : Language) (round : Round) (s : State) (county limit : ℕ) → language ≡ Plain → GoesInOrder language round s county limit → BeginsWith county (filter (open_to s limit) round.order)
+goes_first : (format : Format) (round : Round) (s : State) (county limit : ℕ) → format ≡ Plain → GoesInOrder format round s county limit → BeginsWith county (filter (open_to s limit) round.order)
 goes_first Plain round s county limit e g = g.1
 goes_first Wide round s county limit e g = absurd (cc)
 
 one_first : (c d : ℕ) (xs : List ℕ) → BeginsWith c xs → BeginsWith d xs → c ≡ d
 one_first c d xs a b = let same : c ∷ a.0 ≡ d ∷ b.0 = sym a.1 ∙ b.1 in cc
 
-module _ (p : Problem) (round : Round) (plain : round.language ≡ Plain) where
+module _ (p : Problem) (round : Round) (plain : round.format ≡ Plain) where
   -- what a branch without a limit is
-  pub at_limit : (s : State) (county : ℕ) (limit : Option ℕ) → NamesLimit round.language limit → limit_of round limit ≡ round.limit
-  at_limit s county limit names = ap (limit_of round) (names_none round.language limit plain names)
+  pub at_limit : (s : State) (county : ℕ) (limit : Option ℕ) → NamesLimit round.format limit → limit_of round limit ≡ round.limit
+  at_limit s county limit names = ap (limit_of round) (names_none round.format limit plain names)
 
-  pub one_county : (s : State) (c d : ℕ) (l k : Option ℕ) → NamesLimit round.language l → NamesLimit round.language k → CanBranch round s c (limit_of round l) → CanBranch round s d (limit_of round k) → c ≡ d
+  pub one_county : (s : State) (c d : ℕ) (l k : Option ℕ) → NamesLimit round.format l → NamesLimit round.format k → CanBranch round s c (limit_of round l) → CanBranch round s d (limit_of round k) → c ≡ d
   one_county s c d l k n m a b =
       one_first c d (filter (open_to s round.limit) round.order)
-      (goes_first round.language round s c round.limit plain (subst (CanBranch round s c) (at_limit s c l n) a).in_turn)
-      (goes_first round.language round s d round.limit plain (subst (CanBranch round s d) (at_limit s d k m) b).in_turn)
+      (goes_first round.format round s c round.limit plain (subst (CanBranch round s c) (at_limit s c l n) a).in_turn)
+      (goes_first round.format round s d round.limit plain (subst (CanBranch round s d) (at_limit s d k m) b).in_turn)
 
-  pub none_apart : (s : State) (c : ℕ) (l : Option ℕ) → NamesLimit round.language l → CanBranch round s c (limit_of round l) → open_to s round.limit c ≡ true
+  pub none_apart : (s : State) (c : ℕ) (l : Option ℕ) → NamesLimit round.format l → CanBranch round s c (limit_of round l) → open_to s round.limit c ≡ true
   none_apart s c l n a = (subst (CanBranch round s c) (at_limit s c l n) a).is_open
 
   mutual

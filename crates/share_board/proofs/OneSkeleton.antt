@@ -1,7 +1,7 @@
 -- A plain round opens in one way: there is one skeleton.
 use Rattle.std.proofs.Common.{◌≡◌, ℕ, ◌-◌, sym, ap, ◌∙◌, subst, arith, inl, inr}
 use Rattle.grouping_laws.specs.Problem.{Problem}
-use Rattle.certificate_data.specs.declared.language.Language.TheVariants.{Plain}
+use Rattle.certificate_data.specs.declared.format.Format.TheVariants.{Plain}
 use Rattle.certificate_data.specs.Round.{Round}
 use Rattle.certificate_laws.specs.State.{State, close, raise}
 use Rattle.certificate_laws.specs.Groups.{AreGroupsAt}
@@ -11,7 +11,7 @@ use Rattle.board_laws.specs.Skeleton.{Skeleton, waits, proved, split, Parts, no_
 use Rattle.board_laws.specs.Content.{Opens, EachOpens}
 use Rattle.share_board.proofs.OneOpening.{names_none, one_county, none_apart, opens_one, opens_one_in}
 
-module _ (p : Problem) (round : Round) (plain : round.language ≡ Plain) where
+module _ (p : Problem) (round : Round) (plain : round.format ≡ Plain) where
   mutual
     pub same_skeleton : (depth : ℕ) (a b : Skeleton) (s : State) (first n m : ℕ) → Opens depth a p round s first n → Opens depth b p round s first m
         → a ≡ b
@@ -26,7 +26,7 @@ module _ (p : Problem) (round : Round) (plain : round.language ≡ Plain) where
     same_skeleton depth (split x c l parts raised) (split y d k others later) s first n m o q =
         let county : c ≡ d = one_county p round plain s c d l k o.2 q.2 o.3 q.3 in
         let piece : x ≡ y = o.0 ∙ sym q.0 in
-        let named : l ≡ k = names_none round.language l plain o.2 ∙ sym (names_none round.language k plain q.2) in
+        let named : l ≡ k = names_none round.format l plain o.2 ∙ sym (names_none round.format k plain q.2) in
         let own = subst (λ z. AreGroupsAt p round s d (limit_of round z) (groups_in parts)) named
         (subst (λ z. AreGroupsAt p round s z (limit_of round l) (groups_in parts)) county o.4) in
         let groups = (leaves_are_decided).groups_at p round s d (limit_of round k) (groups_in parts) (groups_in others) own q.4 in

@@ -1,7 +1,7 @@
 -- How the branches above the pieces are put together, from the pieces up.
 use Rattle.std.proofs.Common.{◌≡◌, ◌≢◌, ℕ, ◌+◌, ◌-◌, ◌≤◌, ◌⊎◌, inl, inr, Bool, true, List, [], ◌∷◌, refl, sym, ap, ◌∙◌, subst, arith, Some, None}
 use Rattle.grouping_laws.specs.Problem.{Problem}
-use Rattle.certificate_data.specs.declared.language.Language.TheVariants.{Plain}
+use Rattle.certificate_data.specs.declared.format.Format.TheVariants.{Plain}
 use Rattle.certificate_data.specs.Round.{Round}
 use Rattle.certificate_laws.specs.State.{State, open_to, close, raise}
 use Rattle.state_groups.specs.declared.state.State.{State as StateHeld}
@@ -63,7 +63,7 @@ module _ {C : Type 0} (test : C → ℕ → Bool) (p : Problem) (round : Round) 
       stand k t (inr h) = a.stand k t h
 
   -- a branch
-  pub branch_opened : (depth : ℕ) (s : State) (county : ℕ) (groups : List (List ℕ)) (takes : Takes) (raised : Tree) (first between next : ℕ) (states : List (StateHeld C)) → 1 ≤ depth → NamesLimit round.language None
+  pub branch_opened : (depth : ℕ) (s : State) (county : ℕ) (groups : List (List ℕ)) (takes : Takes) (raised : Tree) (first between next : ℕ) (states : List (StateHeld C)) → 1 ≤ depth → NamesLimit round.format None
       → CanBranch round s county round.limit → AreGroupsAt p round s county round.limit groups → AreOpened test p round (depth - 1) s groups takes first between states
       → IsOpened test p round (depth - 1) (raise county round.limit s) raised between next states → IsOpened test p round depth s (branch county None takes raised) first next states
   branch_opened depth s county groups takes raised first between next states some names can are a o =
@@ -85,7 +85,7 @@ module _ {C : Type 0} (test : C → ℕ → Bool) (p : Problem) (round : Round) 
 pub piece_more : (p : Problem) (round : Round) (depth : ℕ) (s : State) (first : ℕ) → most_opening ≤ first → OpensWithMore p round depth s first
 piece_more p round depth s first full skeleton next o = omega (arith, full, opens_up depth skeleton p round s (first + 1) next o)
 
-module _ (p : Problem) (round : Round) (plain : round.language ≡ Plain) where
+module _ (p : Problem) (round : Round) (plain : round.format ≡ Plain) where
   pub group_more : (depth : ℕ) (s : State) (g : List ℕ) (groups : List (List ℕ)) (first : ℕ) → OpensWithMore p round depth (close g s) first → EachOpensWithMore p round depth s (g ∷ groups) first
   group_more depth s g groups first more no_part next same o = absurd (cc)
   group_more depth s g groups first more (part d skeleton others) next same o =
@@ -110,7 +110,7 @@ module _ (p : Problem) (round : Round) (plain : round.language ≡ Plain) where
     pub each : EachOpens (depth - 1) parts p round s (first + 1) between
     pub rest : Opens (depth - 1) later p round (raise county round.limit s) between next
 
-  pub branches_so : (depth : ℕ) (s : State) (county : ℕ) (groups : List (List ℕ)) (first next : ℕ) (skeleton : Skeleton) → 1 ≤ depth → NamesLimit round.language None → CanBranch round s county round.limit
+  pub branches_so : (depth : ℕ) (s : State) (county : ℕ) (groups : List (List ℕ)) (first next : ℕ) (skeleton : Skeleton) → 1 ≤ depth → NamesLimit round.format None → CanBranch round s county round.limit
       → AreGroupsAt p round s county round.limit groups → Opens depth skeleton p round s (first + 1) next → BranchesSo depth s county groups first next
   branches_so depth s county groups first next (waits n) some names can are (e, k, inl zero) = absurd (omega (arith, zero, some))
   branches_so depth s county groups first next (waits n) some names can are (e, k, inr none) = absurd (none county can.is_open)
@@ -128,13 +128,13 @@ module _ (p : Problem) (round : Round) (plain : round.language ≡ Plain) where
         rest = subst (λ z. Opens (depth - 1) later p round (raise county z s) o.5.0 next) limit (subst (λ z. Opens (depth - 1) later p round (raise z (limit_of round l) s) o.5.0 next) same o.5.2);
       }
 
-  pub takes_more : (depth : ℕ) (s : State) (county : ℕ) (groups : List (List ℕ)) (first : ℕ) → 1 ≤ depth → NamesLimit round.language None → CanBranch round s county round.limit → AreGroupsAt p round s county round.limit groups
+  pub takes_more : (depth : ℕ) (s : State) (county : ℕ) (groups : List (List ℕ)) (first : ℕ) → 1 ≤ depth → NamesLimit round.format None → CanBranch round s county round.limit → AreGroupsAt p round s county round.limit groups
       → EachOpensWithMore p round (depth - 1) s groups first → OpensWithMore p round depth s first
   takes_more depth s county groups first some names can are more skeleton next o =
       let b = branches_so depth s county groups first next skeleton some names can are o in
       omega (arith, more b.parts b.between b.groups_are b.each, opens_up (depth - 1) b.later p round (raise county round.limit s) b.between next b.rest)
 
-  pub raised_more : (depth : ℕ) (s : State) (county : ℕ) (groups : List (List ℕ)) (first between : ℕ) (own : Parts) → 1 ≤ depth → NamesLimit round.language None → CanBranch round s county round.limit
+  pub raised_more : (depth : ℕ) (s : State) (county : ℕ) (groups : List (List ℕ)) (first between : ℕ) (own : Parts) → 1 ≤ depth → NamesLimit round.format None → CanBranch round s county round.limit
       → AreGroupsAt p round s county round.limit groups → groups_in own ≡ groups → EachOpens (depth - 1) own p round s (first + 1) (between + 1)
       → OpensWithMore p round (depth - 1) (raise county round.limit s) between → OpensWithMore p round depth s first
   raised_more depth s county groups first between own some names can are same opens more skeleton next o =

@@ -4,8 +4,8 @@ use Rattle.std.proofs.lemmas.Bool.{cases_lt}
 use Rattle.grouping_laws.specs.Problem.{Problem, IsProblem}
 use Rattle.grouping_laws.specs.Grouping.{Grouping}
 use Rattle.grouping_laws.specs.GroupsFrom.{IsOrder}
-use Rattle.certificate_data.specs.declared.language.Language.{Language}
-use Rattle.certificate_data.specs.declared.language.Language.TheVariants.{Plain, Wide}
+use Rattle.certificate_data.specs.declared.format.Format.{Format}
+use Rattle.certificate_data.specs.declared.format.Format.TheVariants.{Plain, Wide}
 use Rattle.certificate_data.specs.Round.{Round}
 use Rattle.certificate_laws.specs.State.{State, IsState, empty_state}
 use Rattle.certificate_laws.proofs.Completion.{rest_listed}
@@ -66,14 +66,14 @@ module _ (p : Problem) (round : Round) (depth : ℕ) (s : State) (first : ℕ) (
   with_more : OpensWithMore p round depth s first → (a : AnOpening p round depth s (first + 1)) × (most_opening + 1 < a.next)
   with_more more = (at_state, more at_state.skeleton at_state.next at_state.opens)
 
-goes_to : (language : Language) (depth : ℕ) → HasDepth language depth → (language ≡ Plain) ⊎ (depth ≡ 0)
+goes_to : (format : Format) (depth : ℕ) → HasDepth format depth → (format ≡ Plain) ⊎ (depth ≡ 0)
 goes_to Plain depth h = inl refl
 goes_to Wide depth h = inr h
 
 some_content : (p : Problem) (depth : ℕ) (target : Grouping) (round : Round) → IsProblem p → MayBegin p depth target round
     → (b : Content) × IsOpening p depth round b
 some_content p depth target round is may =
-    let a = some_opening p round depth (empty_state p) 1 is may.order_is (goes_to round.language depth may.depth_is) (λ c e. e) in
+    let a = some_opening p round depth (empty_state p) 1 is may.order_is (goes_to round.format depth may.depth_is) (λ c e. e) in
     let last : a.next ≡ a.next - 1 + 1 = omega (arith, opens_up depth a.skeleton p round (empty_state p) 1 a.next a.opens) in
     let opens = subst (λ n. Opens depth a.skeleton p round (empty_state p) 1 n) last a.opens in (
       record { number = 1; round = round; skeleton = a.skeleton; last = a.next - 1 },

@@ -10,8 +10,8 @@ use Rattle.grouping_laws.proofs.Elements.{Has, has_from_contains, contains_from_
 use Rattle.grouping_laws.proofs.Parts.{has-filter}
 use Rattle.grouping_laws.proofs.PlaceCodes.{member_has}
 use Rattle.grouping_laws.proofs.PlaceProblem.{order_once}
-use Rattle.certificate_data.specs.declared.language.Language.{Language}
-use Rattle.certificate_data.specs.declared.language.Language.TheVariants.{Plain, Wide}
+use Rattle.certificate_data.specs.declared.format.Format.{Format}
+use Rattle.certificate_data.specs.declared.format.Format.TheVariants.{Plain, Wide}
 use Rattle.certificate_data.specs.Round.{Round}
 use Rattle.certificate_laws.specs.State.{State, open_to, close, raise}
 use Rattle.certificate_laws.specs.Groups.{IsGroupAt, AreGroupsAt}
@@ -40,16 +40,16 @@ true_left : {X : Type 0} (e : Either X) → X → is_left e ≡ true
 true_left (inl x) y = refl
 true_left (inr n) y = absurd (n y)
 
-no_limit : (language : Language) → language ≡ Plain → NamesLimit language None
+no_limit : (format : Format) → format ≡ Plain → NamesLimit format None
 no_limit Plain e = tt
 no_limit Wide e = absurd (cc)
 
-at_first : (language : Language) (round : Round) (s : State) (c : ℕ) → language ≡ Plain → BeginsWith c (filter (open_to s round.limit) round.order)
-    → GoesInOrder language round s c round.limit
+at_first : (format : Format) (round : Round) (s : State) (c : ℕ) → format ≡ Plain → BeginsWith c (filter (open_to s round.limit) round.order)
+    → GoesInOrder format round s c round.limit
 at_first Plain round s c e b = (refl, b)
 at_first Wide round s c e b = absurd (cc)
 
-module _ (p : Problem) (round : Round) (is : IsProblem p) (order : IsOrder p round.order) (plain : round.language ≡ Plain) where
+module _ (p : Problem) (round : Round) (is : IsProblem p) (order : IsOrder p round.order) (plain : round.format ≡ Plain) where
   -- the groups at a county
   groups_exist : (s : State) (c limit : ℕ) → (groups : List (List ℕ)) × AreGroupsAt p round s c limit groups
   groups_exist s c limit =
@@ -127,8 +127,8 @@ module _ (p : Problem) (round : Round) (is : IsProblem p) (order : IsOrder p rou
             opens = (
               refl,
               omega arith,
-              no_limit round.language plain,
-              record { small = omega arith; is_open = is_open; in_turn = at_first round.language round s c plain (counties, e) },
+              no_limit round.format plain,
+              record { small = omega arith; is_open = is_open; in_turn = at_first round.format round s c plain (counties, e) },
               subst (AreGroupsAt p round s c round.limit) (sym parts.groups_are) groups.1,
               (
                 parts.next,

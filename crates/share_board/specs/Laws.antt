@@ -3,7 +3,7 @@ use Rattle.std.specs.Prelude.{ℕ, ◌+◌, ◌≡◌, ◌≤◌, ◌<◌, ◌�
 use Rattle.grouping_laws.specs.Problem.{Problem, IsProblem}
 use Rattle.grouping_laws.specs.Grouping.{Grouping}
 use Rattle.grouping_laws.specs.GroupsFrom.{IsOrder}
-use Rattle.certificate_data.specs.declared.language.Language.TheVariants.{Plain}
+use Rattle.certificate_data.specs.declared.format.Format.TheVariants.{Plain}
 use Rattle.certificate_data.specs.Round.{Round}
 use Rattle.certificate_laws.specs.State.{State, IsState}
 use Rattle.board_laws.specs.Skeleton.{Skeleton}
@@ -13,7 +13,7 @@ use Rattle.share_board.specs.Rounds.{MayBegin, IsOpening}
 
 -- the depths to which a round may open: a plain one to each, a wide one to 0
 abbrev pub GoesTo : Round → ℕ → Type 0
-GoesTo round depth = (round.language ≡ Plain) ⊎ (depth ≡ 0)
+GoesTo round depth = (round.format ≡ Plain) ⊎ (depth ≡ 0)
 
 -- at a state the round opens, its pieces numbered from one on up to the next
 pub record AnOpening (p : Problem) (round : Round) (depth : ℕ) (s : State) (first : ℕ) : Type 0 where

@@ -6,7 +6,7 @@ ghost use Rattle.connected_sets.specs.Graphs.{graph_order, graph_places};
 ghost use Rattle.certificate_data.specs.TreeValue.{tree_of, list_of_takes};
 ghost use Rattle.county_problem.specs.ProblemValue.{problem_of};
 ghost use Rattle.state_groups.specs.PlacedValues.{codes_of_sets, IsPlaced, IsClosable};
-ghost use Rattle.certificate_data.specs.declared.language.Language.TheVariants.{Plain};
+ghost use Rattle.certificate_data.specs.declared.format.Format.TheVariants.{Plain};
 ghost use Rattle.certificate_data.specs.RoundValue.{round_of};
 ghost use Rattle.certificate_laws.specs.State.{empty_state};
 ghost use Rattle.share_board.specs.Replies.{most_opening};
@@ -46,7 +46,7 @@ fn open_takes<C: CountySet>(
     states: &mut Vec<State<C>>,
 ) -> Result<Vec<Take>, OpeningStop>
     requires input { IsOpeningInput C.PLACES C.test input.now }
-    requires plain { input.now.round.now.language ≡ Plain }
+    requires plain { input.now.round.now.format ≡ Plain }
     requires placed { IsPlaced (graph_places input.now.graph.now) C.test state.now }
     requires groups { All (IsClosable C.test state.now) groups.now }
     requires few { length states.old.items ≤ most_opening }
@@ -81,7 +81,7 @@ fn open_branch<C: CountySet>(
     states: &mut Vec<State<C>>,
 ) -> Result<Tree, OpeningStop>
     requires input { IsOpeningInput C.PLACES C.test input.now }
-    requires plain { input.now.round.now.language ≡ Plain }
+    requires plain { input.now.round.now.format ≡ Plain }
     requires some { 1 ≤ depth }
     requires placed { IsPlaced (graph_places input.now.graph.now) C.test state }
     requires branching { IsBranching C.test input.now state branching.now }
@@ -125,7 +125,7 @@ fn open_tree<C: CountySet>(
     states: &mut Vec<State<C>>,
 ) -> Result<Tree, OpeningStop>
     requires input { IsOpeningInput C.PLACES C.test input.now }
-    requires plain { 1 ≤ depth → input.now.round.now.language ≡ Plain }
+    requires plain { 1 ≤ depth → input.now.round.now.format ≡ Plain }
     requires placed { IsPlaced (graph_places input.now.graph.now) C.test state }
     requires few { length states.old.items ≤ most_opening }
     ensures opened { IfOk
@@ -164,7 +164,7 @@ pub(crate) fn opened<C: CountySet>(
     requires fits { length ordered.now.order ≤ C.PLACES }
     requires order { ordered.now.order ≡ round.now.order }
     requires small { round.now.limit ≤ most_counties }
-    requires plain { 1 ≤ depth → round.now.language ≡ Plain }
+    requires plain { 1 ≤ depth → round.now.format ≡ Plain }
     ensures opened { IfOk
         result
         (λ opening. IsOpened C.test (problem_of ordered.now.problem) (round_of round.now) depth (empty_state (problem_of ordered.now.problem)) (tree_of opening.above) 0 (length opening.states.items) opening.states.items) }

@@ -8,7 +8,7 @@ ghost use Rattle.certificate_data.specs.declared.tree.Take.{roll-Take};
 ghost use Rattle.connected_sets.specs.declared.stop.Stop.{Stop};
 ghost use Rattle.state_groups.specs.PlacedValues.{codes_of_set, IsPlaced};
 ghost use Rattle.county_problem.specs.OrderedValue.{code_at};
-ghost use Rattle.certificate_data.specs.declared.language.Language.TheVariants.{Plain};
+ghost use Rattle.certificate_data.specs.declared.format.Format.TheVariants.{Plain};
 ghost use Rattle.certificate_data.specs.Tree.{branch, leaf, seats};
 ghost use Rattle.share_board.specs.Replies.{most_opening};
 ghost use Rattle.share_board.specs.Openings.{IsOpened, StatesAreKept, board_problem, board_round, board_state};
@@ -90,7 +90,7 @@ pub(crate) fn next_branch<C: CountySet>(
     state: &State<C>,
 ) -> Result<Option<Branching<C>>, Stop>
     requires input { IsOpeningInput C.PLACES C.test input.now }
-    requires plain { input.now.round.now.language ≡ Plain }
+    requires plain { input.now.round.now.format ≡ Plain }
     requires placed { IsPlaced (graph_places input.now.graph.now) C.test state.now }
     ensures branch { IfOk
         result

@@ -8,8 +8,8 @@ use Rattle.grouping_laws.specs.SeatWindow.{IsRun, seat_run}
 use Rattle.grouping_laws.proofs.WindowLemmas.{window_law}
 use Rattle.grouping_laws.proofs.Elements.{Has, has_from_contains, contains_from_has}
 use Rattle.connected_laws.proofs.PlaceLists.{often_placed, placed_below}
-use Rattle.certificate_data.specs.declared.language.Language.{Language}
-use Rattle.certificate_data.specs.declared.language.Language.TheVariants.{Plain, Wide}
+use Rattle.certificate_data.specs.declared.format.Format.{Format}
+use Rattle.certificate_data.specs.declared.format.Format.TheVariants.{Plain, Wide}
 use Rattle.certificate_laws.specs.State.{State, open_to}
 use Rattle.certificate_laws.specs.Regions.{without}
 use Rattle.certificate_laws.specs.StuckParts.{CannotFill}
@@ -94,7 +94,7 @@ module _ (p : Problem) (is : IsProblem p) (s : State) (known : (c : ℕ) → s.r
       (λ none. inl (λ d. let r = dead.0 d in none (r.0, has_from_contains parts.0 r.0 r.1, r.2)))
       (some_cannot p is s parts.0)
 
-  left : (language : Language) (g : List ℕ) → IsKept language p s g ⊎ (IsKept language p s g → ⊥)
+  left : (format : Format) (g : List ℕ) → IsKept format p s g ⊎ (IsKept format p s g → ⊥)
   left Plain g = inl tt
   left Wide g = live g
 
@@ -102,20 +102,20 @@ asked : (exact : Bool) (limit : ℕ) (g : List ℕ) → IsAsked exact limit g �
 asked true limit g = cases_eq (length g) limit
 asked false limit g = inl tt
 
-abbrev Whole : Language → Problem → ℕ → Bool → State → List ℕ → Type 0
-Whole language p limit exact s g = (((k : ℕ) × Suits p (people_of p g) k) × Inside (open_to s (length g)) g) × (IsKept language p s g × IsAsked exact limit g)
+abbrev Whole : Format → Problem → ℕ → Bool → State → List ℕ → Type 0
+Whole format p limit exact s g = (((k : ℕ) × Suits p (people_of p g) k) × Inside (open_to s (length g)) g) × (IsKept format p s g × IsAsked exact limit g)
 
 -- there is a test that decides
-pub decided : (language : Language) (p : Problem) (n limit : ℕ) (exact : Bool) (s : State) → IsProblem p → p.counties ≡ places_below n → ((c : ℕ) → s.rest c ≡ true → c < n) → (keep : List ℕ → Bool) × Decides language p n limit exact s keep
-decided language p n limit exact s is all below = (λ g. bit (whole g), λ g connected order. (there g connected order, back g))
+pub decided : (format : Format) (p : Problem) (n limit : ℕ) (exact : Bool) (s : State) → IsProblem p → p.counties ≡ places_below n → ((c : ℕ) → s.rest c ≡ true → c < n) → (keep : List ℕ → Bool) × Decides format p n limit exact s keep
+decided format p n limit exact s is all below = (λ g. bit (whole g), λ g connected order. (there g connected order, back g))
   where
     known : (c : ℕ) → s.rest c ≡ true → contains p.counties c ≡ true
     known c e = subst (λ z. contains z c ≡ true) (sym all) (below_listed n c (below c e))
 
-    whole : (g : List ℕ) → Whole language p limit exact s g ⊎ (Whole language p limit exact s g → ⊥)
-    whole g = both (both (some_seats p is (people_of p g)) (all_inside (open_to s (length g)) g)) (both (left p is s known language g) (asked exact limit g))
+    whole : (g : List ℕ) → Whole format p limit exact s g ⊎ (Whole format p limit exact s g → ⊥)
+    whole g = both (both (some_seats p is (people_of p g)) (all_inside (open_to s (length g)) g)) (both (left p is s known format g) (asked exact limit g))
 
-    there : (g : List ℕ) → Connected p g → filter (contains g) (places_below n) ≡ g → bit (whole g) ≡ true → Fits language p s g × IsAsked exact limit g
+    there : (g : List ℕ) → Connected p g → filter (contains g) (places_below n) ≡ g → bit (whole g) ≡ true → Fits format p s g × IsAsked exact limit g
     there g connected order e =
         let h = bit_yes (whole g) e in (
           record {
@@ -132,5 +132,5 @@ decided language p n limit exact s is all below = (λ g. bit (whole g), λ g con
           h.1.1,
         )
 
-    back : (g : List ℕ) → Fits language p s g × IsAsked exact limit g → bit (whole g) ≡ true
+    back : (g : List ℕ) → Fits format p s g × IsAsked exact limit g → bit (whole g) ≡ true
     back g f = yes_bit (whole g) (((f.0.lawful.seats, f.0.lawful.suits), f.0.inside), (f.0.kept, f.1))

@@ -8,7 +8,7 @@ use Rattle.place_laws.proofs.PlaceSums.{every}
 use Rattle.grouping_laws.specs.Sets.{contains, Inside}
 use Rattle.grouping_laws.specs.Problem.{Problem, Suits, people_of, Connected}
 use Rattle.connected_laws.proofs.PlaceLists.{placed, placed_test, placed_below, often_placed}
-use Rattle.certificate_data.specs.declared.language.Language.{Language}
+use Rattle.certificate_data.specs.declared.format.Format.{Format}
 use Rattle.certificate_laws.specs.State.{State, open_to}
 use Rattle.certificate_laws.specs.Fitting.{IsKept, Fits}
 
@@ -40,10 +40,10 @@ open_by s n size t more below sized inside asks = (there more refl, back more re
 pub shut_by : (s : State) (n i c : ℕ) (t : ℕ → Bool) → ((x : ℕ) → t x ≡ true → x < n) → t c ≡ true → s.rest c ≡ false → Inside (open_to s i) (places_of n t) → ⊥
 shut_by s n i c t below has out k = false≢true (sym out ∙ (and_parts (s.rest c) (nat_le (s.least c) i) (k c (placed n c t (below c has) has))).0)
 
--- a connected group that suits and is open fits in a plain language, and in a wide one where it is live
-pub fits_by : (language : Language) (p : Problem) (s : State) (n : ℕ) (t : ℕ → Bool) → p.counties ≡ places_below n → Connected p (places_of n t) → ((k : ℕ) × Suits p (people_of p (places_of n t)) k)
-    → Inside (open_to s (length (places_of n t))) (places_of n t) → IsKept language p s (places_of n t) → Fits language p s (places_of n t)
-fits_by language p s n t all connected suits inside kept = record {
+-- a connected group that suits and is open fits in a plain format, and in a wide one where it is live
+pub fits_by : (format : Format) (p : Problem) (s : State) (n : ℕ) (t : ℕ → Bool) → p.counties ≡ places_below n → Connected p (places_of n t) → ((k : ℕ) × Suits p (people_of p (places_of n t)) k)
+    → Inside (open_to s (length (places_of n t))) (places_of n t) → IsKept format p s (places_of n t) → Fits format p s (places_of n t)
+fits_by format p s n t all connected suits inside kept = record {
   lawful = record {
     once = λ c. often_placed n c t;
     listed = λ c m. subst (λ z. contains z c ≡ true) (sym all) (below_listed n c (placed_below n c t m));

@@ -65,7 +65,7 @@ within_below p n s i g x = below_ordered n g x.in_order
 
 -- lists of the groups by places are lists of the groups by codes
 pub groups_by_codes : (p : Problem) (order : List ℕ) (round : Round) (s t : State) (i : ℕ) (groups : List (List ℕ)) → order ≡ round.order → IsOrder p order → IsStateAt order s t
-    → ((r : Round) → r.order ≡ places_below (length order) → r.language ≡ round.language → AreGroupsOf (at_places p order) r t i groups) → AreGroupsOf p round s i (map (codes_at order) groups)
+    → ((r : Round) → r.order ≡ places_below (length order) → r.format ≡ round.format → AreGroupsOf (at_places p order) r t i groups) → AreGroupsOf p round s i (map (codes_at order) groups)
 groups_by_codes p order round s t i groups e =
-    subst (λ z. IsOrder p z → IsStateAt z s t → ((r : Round) → r.order ≡ places_below (length z) → r.language ≡ round.language → AreGroupsOf (at_places p z) r t i groups) → AreGroupsOf p round s i (map (codes_at z) groups)) (sym e)
+    subst (λ z. IsOrder p z → IsStateAt z s t → ((r : Round) → r.order ≡ places_below (length z) → r.format ≡ round.format → AreGroupsOf (at_places p z) r t i groups) → AreGroupsOf p round s i (map (codes_at z) groups)) (sym e)
     (λ whole at are. places_serve.groups_of_size p round s t i groups whole at (are (round_at round) refl refl))

@@ -15,7 +15,7 @@ use Rattle.grouping_laws.proofs.Sizes.{flat, every, sum_by-flat}
 use Rattle.certificate_laws.specs.Regions.{without}
 use Rattle.certificate_laws.specs.State.{State}
 use Rattle.certificate_laws.specs.Fitting.{IsLive, IsKept, Fits}
-use Rattle.certificate_data.specs.declared.language.Language.{Language}
+use Rattle.certificate_data.specs.declared.format.Format.{Format}
 use Rattle.certificate_laws.proofs.Narrowing.{all_suit}
 use Rattle.certificate_laws.proofs.Regions.{parts_exist}
 use Rattle.certificate_laws.proofs.WithoutGroup.{without_in}
@@ -100,18 +100,18 @@ module _ (p : Problem) (is : IsProblem p) (n : ℕ) (all : p.counties ≡ places
       dead : (xs : List ℕ) × Has parts.0 xs × ((k : ℕ) → Suits p (people_of p xs) k → ⊥) → (k : ℕ) × Suits p (people_of p (places_of n s.rest) - people_of p g) k
       dead r = absurd (live (record { part = r.0; is_part = has_all (IsPart p left) parts.0 parts.1.each r.0 r.1; stuck = inl r.2 }))
 
-  module _ (language : Language) (fits : Fits language p s g) (windows : List (ℕ × ℕ)) (are : AreWindows p (people_of p (places_of n s.rest)) windows) where
+  module _ (format : Format) (fits : Fits format p s g) (windows : List (ℕ × ℕ)) (are : AreWindows p (people_of p (places_of n s.rest)) windows) where
     -- the people of a group that fits are in a window
     pub group_window : HasSeatWindow windows (people_of p g)
     group_window = are (people_of p g) fits.lawful.seats (omega (arith, rest_split p.people)) fits.lawful.suits
 
-    -- and so is what it leaves, in a wide language where it can't have all of the rest
-    pub left_window : (limit all : ℕ) → length g ≤ limit → IsDivided language p n limit s.rest (Some all) → HasSeatWindow windows (all - people_of p g)
+    -- and so is what it leaves, in a wide format where it can't have all of the rest
+    pub left_window : (limit all : ℕ) → length g ≤ limit → IsDivided format p n limit s.rest (Some all) → HasSeatWindow windows (all - people_of p g)
     left_window limit all small d =
         let live : IsLive p s g = subst (λ z. IsKept z p s g) d.0 fits.kept in
         let r = left_suits live (omega (arith, small, d.2)) in
         subst (λ z. HasSeatWindow windows (z - people_of p g)) (sym d.1) (are (people_of p (places_of n s.rest) - people_of p g) r.0 (omega arith) r.1)
 
 -- a group that fits is in the rest
-pub fits_rest : (language : Language) (p : Problem) (s : State) (g : List ℕ) → Fits language p s g → Inside s.rest g
-fits_rest language p s g fits c m = (and_parts (s.rest c) (nat_le (s.least c) (length g)) (fits.inside c m)).0
+pub fits_rest : (format : Format) (p : Problem) (s : State) (g : List ℕ) → Fits format p s g → Inside s.rest g
+fits_rest format p s g fits c m = (and_parts (s.rest c) (nat_le (s.least c) (length g)) (fits.inside c m)).0

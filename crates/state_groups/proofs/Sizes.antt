@@ -18,7 +18,7 @@ use Rattle.connected_laws.specs.Growing.{only, IsExtension, sort_key}
 use Rattle.connected_laws.proofs.PlaceLists.{some_member}
 use Rattle.connected_laws.specs.Listing.{lists_of, AreBelow, IsListed, OneStepEach, HasStepped}
 use Rattle.connected_laws.proofs.Distinct.{Distinct, distinct_append, distinct_pairs, distinct_from_pairs}
-use Rattle.certificate_data.specs.declared.language.Language.{Language}
+use Rattle.certificate_data.specs.declared.format.Format.{Format}
 use Rattle.certificate_data.specs.Round.{Round}
 use Rattle.certificate_laws.specs.State.{State, open_to}
 use Rattle.certificate_laws.specs.Fitting.{Fits}
@@ -132,10 +132,10 @@ found_more C test p n s i at keep region free less old new opened there f w h l 
         absurd (false≢true (sym a.2 ∙ (late g k).0.2 a.0 a.1))))
 
 -- where nothing is left in the region, sorted, they are the groups of the size
-pub found_groups : (C : Type 0) (test : C → ℕ → Bool) (language : Language) (p : Problem) (n : ℕ) (s : State) (i : ℕ) (keep : List ℕ → Bool) (region : ℕ → Bool) (sets groups : List C) → Decides language p n i true s keep → ((x : ℕ) → region x ≡ false)
+pub found_groups : (C : Type 0) (test : C → ℕ → Bool) (format : Format) (p : Problem) (n : ℕ) (s : State) (i : ℕ) (keep : List ℕ → Bool) (region : ℕ → Bool) (sets groups : List C) → Decides format p n i true s keep → ((x : ℕ) → region x ≡ false)
     → IsFound C test p n s i region keep sets → IsPermutation sets groups → IsSortedBy (λ g h. is_lt (slice_cmp nat_cmp (sort_key g) (sort_key h))) (lists_of n test groups)
-    → (round : Round) → round.order ≡ places_below n → round.language ≡ language → AreGroupsOf p round s i (lists_of n test groups)
-found_groups C test language p n s i keep region sets groups d none h moved sorted round order same =
+    → (round : Round) → round.order ≡ places_below n → round.format ≡ format → AreGroupsOf p round s i (lists_of n test groups)
+found_groups C test format p n s i keep region sets groups d none h moved sorted round order same =
     lists_serve.kept_of p round s i keep (lists_of n test groups)
     (λ g. (λ c. let r = there g c in (subst (λ z. IsSetWithin p z s i g) (sym order) r.0, r.1), λ x. again g (subst (λ z. IsSetWithin p z s i g) order x.0) x.1))
     (subst (λ z. AllPairs (IsBefore z) (lists_of n test groups)) (sym order) (keys_before n (lists_of n test sets) (lists_of n test groups) (distinct_pairs (lists_of n test sets) h.once) permuted sorted (λ g c. (there g c).0.in_order)))

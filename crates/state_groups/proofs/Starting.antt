@@ -12,7 +12,7 @@ use Rattle.place_laws.specs.PlaceSets.{places_of}
 use Rattle.connected_laws.specs.Growing.{only, IsExtension, AreKept, sort_key}
 use Rattle.connected_laws.specs.Listing.{lists_of, OneStepEach, HasStepped}
 use Rattle.connected_laws.proofs.Distinct.{distinct_pairs}
-use Rattle.certificate_data.specs.declared.language.Language.{Language}
+use Rattle.certificate_data.specs.declared.format.Format.{Format}
 use Rattle.certificate_data.specs.Round.{Round}
 use Rattle.certificate_laws.specs.State.{State, open_to}
 use Rattle.certificate_laws.specs.Fitting.{Fits}
@@ -52,10 +52,10 @@ steps_at p n limit at s set free before after start h = record {
 }
 
 -- what is kept and sorted is the list of the branch
-pub kept_groups : (C : Type 0) (test : C → ℕ → Bool) (language : Language) (p : Problem) (n limit at : ℕ) (s : State) (set free : ℕ → Bool) (keep : List ℕ → Bool) (sets groups : List C) → Decides language p n limit false s keep → IsStartIn n at (open_to s limit) set free
+pub kept_groups : (C : Type 0) (test : C → ℕ → Bool) (format : Format) (p : Problem) (n limit at : ℕ) (s : State) (set free : ℕ → Bool) (keep : List ℕ → Bool) (sets groups : List C) → Decides format p n limit false s keep → IsStartIn n at (open_to s limit) set free
     → AreKept p n limit keep set free (lists_of n test sets) → IsPermutation sets groups → IsSortedBy (λ g h. is_lt (slice_cmp nat_cmp (sort_key g) (sort_key h))) (lists_of n test groups)
-    → (round : Round) → round.order ≡ places_below n → round.language ≡ language → AreGroupsAt p round s at limit (lists_of n test groups)
-kept_groups C test language p n limit at s set free keep sets groups d start kept moved sorted round order same =
+    → (round : Round) → round.order ≡ places_below n → round.format ≡ format → AreGroupsAt p round s at limit (lists_of n test groups)
+kept_groups C test format p n limit at s set free keep sets groups d start kept moved sorted round order same =
     regions_are_grown.groups_at p round n limit at s set free keep (lists_of n test sets) (lists_of n test groups) order start
     (λ g x. let q = d g x.connected x.in_order in (λ e. subst (λ l. Fits l p s g) (sym same) (q.0 e).0, λ f. q.1 (subst (λ l. Fits l p s g) same f, tt)))
     kept (IsPermutation-map (λ c. places_of n (test c)) sets groups moved) sorted

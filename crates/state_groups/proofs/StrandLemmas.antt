@@ -9,7 +9,7 @@ use Rattle.grouping_laws.specs.Parts.{IsPart}
 use Rattle.grouping_laws.proofs.WindowLemmas.{above_quotient, pos_product}
 use Rattle.grouping_laws.proofs.Parts.{within_part, has_hit}
 use Rattle.connected_laws.specs.Growing.{IsExtension}
-use Rattle.certificate_data.specs.declared.language.Language.TheVariants.{Wide}
+use Rattle.certificate_data.specs.declared.format.Format.TheVariants.{Wide}
 use Rattle.certificate_laws.specs.State.{State}
 use Rattle.certificate_laws.specs.Regions.{without}
 use Rattle.certificate_laws.specs.StuckParts.{CannotFill}

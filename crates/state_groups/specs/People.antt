@@ -4,8 +4,8 @@ use Rattle.std.specs.List.Sorted.{IsNonDecreasingBy}
 use Rattle.grouping_laws.specs.Sets.{indicator, sum_by}
 use Rattle.grouping_laws.specs.Problem.{Problem, Suits, people_of}
 use Rattle.place_laws.specs.PlaceSets.{places_of}
-use Rattle.certificate_data.specs.declared.language.Language.{Language}
-use Rattle.certificate_data.specs.declared.language.Language.TheVariants.{Wide}
+use Rattle.certificate_data.specs.declared.format.Format.{Format}
+use Rattle.certificate_data.specs.declared.format.Format.TheVariants.{Wide}
 use Rattle.state_groups.specs.declared.tables.Tables.{Tables}
 
 -- places below n with their people, the fewest people first, each place of the region once
@@ -24,25 +24,25 @@ abbrev pub AreWindows : Problem → ℕ → List (ℕ × ℕ) → Type 0
 AreWindows p greatest windows =
     (people seats : ℕ) → people ≤ greatest → Suits p people seats → HasSeatWindow windows people
 
--- in a wide language the people of the rest, where the rest has more places than the limit; else nothing
-abbrev pub IsDivided : Language → Problem → ℕ → ℕ → (ℕ → Bool) → Option ℕ → Type 0
-IsDivided language p n limit rest None = ⊤
-IsDivided language p n limit rest (Some all) =
-    (language ≡ Wide) × (all ≡ people_of p (places_of n rest)) × (limit < length (places_of n rest))
+-- in a wide format the people of the rest, where the rest has more places than the limit; else nothing
+abbrev pub IsDivided : Format → Problem → ℕ → ℕ → (ℕ → Bool) → Option ℕ → Type 0
+IsDivided format p n limit rest None = ⊤
+IsDivided format p n limit rest (Some all) =
+    (format ≡ Wide) × (all ≡ people_of p (places_of n rest)) × (limit < length (places_of n rest))
 
 -- what is made once for a state: the places of a region by people, the windows up to the people of the rest, and these
 -- people
-pub record AreTables (language : Language) (p : Problem) (n limit : ℕ) (rest region : ℕ → Bool)
+pub record AreTables (format : Format) (p : Problem) (n limit : ℕ) (rest region : ℕ → Bool)
     (tables : Tables) : Type 0 where
   pub by_people : AreByPeople p n region tables.by_people.items
   pub windows : AreWindows p (people_of p (places_of n rest)) tables.windows.items
-  pub divided : IsDivided language p n limit rest tables.rest_people
+  pub divided : IsDivided format p n limit rest tables.rest_people
 
 -- the tables serve where fewer places are free
-pub fewer_tables : (language : Language) (p : Problem) (n limit : ℕ) (rest region fewer : ℕ → Bool) (tables : Tables)
-    → ((x : ℕ) → fewer x ≡ true → region x ≡ true) → AreTables language p n limit rest region tables
-    → AreTables language p n limit rest fewer tables
-fewer_tables language p n limit rest region fewer tables within are = record {
+pub fewer_tables : (format : Format) (p : Problem) (n limit : ℕ) (rest region fewer : ℕ → Bool) (tables : Tables)
+    → ((x : ℕ) → fewer x ≡ true → region x ≡ true) → AreTables format p n limit rest region tables
+    → AreTables format p n limit rest fewer tables
+fewer_tables format p n limit rest region fewer tables within are = record {
   by_people =
       record {
         each = are.by_people.each;

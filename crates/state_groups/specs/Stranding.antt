@@ -4,14 +4,14 @@ use Rattle.grouping_laws.specs.Sets.{contains}
 use Rattle.grouping_laws.specs.Problem.{Problem, Suits, people_of}
 use Rattle.grouping_laws.specs.Parts.{IsPart}
 use Rattle.connected_laws.specs.Growing.{IsExtension}
-use Rattle.certificate_data.specs.declared.language.Language.{Language}
+use Rattle.certificate_data.specs.declared.format.Format.{Format}
 use Rattle.certificate_laws.specs.State.{State}
 use Rattle.certificate_laws.specs.StuckParts.{CannotFill}
 use Rattle.certificate_laws.specs.Fitting.{Fits}
 
 -- no set that has all of a set, else only free places, fits
-abbrev pub NoneFits : Language → Problem → ℕ → ℕ → State → (ℕ → Bool) → (ℕ → Bool) → Type 0
-NoneFits language p n limit s set free = (g : List ℕ) → IsExtension p n limit set free g → Fits language p s g → ⊥
+abbrev pub NoneFits : Format → Problem → ℕ → ℕ → State → (ℕ → Bool) → (ℕ → Bool) → Type 0
+NoneFits format p n limit s set free = (g : List ℕ) → IsExtension p n limit set free g → Fits format p s g → ⊥
 
 -- a set has a place that is not free, and nothing of the set around that place can be filled: no number of seats suits
 -- so few people, or the place asks for more places than the set has

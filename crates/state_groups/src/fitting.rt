@@ -11,7 +11,7 @@ ghost use Rattle.certificate_laws.specs.Fitting.{Fits};
 
 use crate::state::State;
 use crate::stuck_parts::{asks_more, is_live};
-use certificate_data::Language;
+use certificate_data::Format;
 use connected_sets::CountyGraph;
 use place_sets::CountySet;
 use std::alloc::{AllocError, Global};
@@ -51,10 +51,10 @@ pub fn is_open<C: CountySet>(state: &State<C>, group: &C) -> bool
 }
 
 /// Returns whether a connected group with this number of `people` fits the state. Its people must suit some number of
-/// seats, and each of its counties must be open to a group of its size. In a wide language it must also be live.
+/// seats, and each of its counties must be open to a group of its size. In a wide format it must also be live.
 pub fn fits<C: CountySet>(
     graph: &CountyGraph<C>,
-    language: Language,
+    format: Format,
     state: &State<C>,
     group: &C,
     people: u64,
@@ -69,7 +69,7 @@ pub fn fits<C: CountySet>(
     ensures { IfOk
         result
         (λ fit. IsTrue fit
-        ↔ Fits language (place_problem graph.now) (state_of C.test state.now) (places_of (graph_places graph.now) (C.test group.now))) }
+        ↔ Fits format (place_problem graph.now) (state_of C.test state.now) (places_of (graph_places graph.now) (C.test group.now))) }
 {
     if graph.ordered.problem().seats_range(people).is_none() {
         return Ok(false);
@@ -77,8 +77,8 @@ pub fn fits<C: CountySet>(
     if !is_open(state, group) {
         return Ok(false);
     }
-    match language {
-        Language::Plain => Ok(true),
-        Language::Wide => is_live(graph, state, group),
+    match format {
+        Format::Plain => Ok(true),
+        Format::Wide => is_live(graph, state, group),
     }
 }

@@ -66,13 +66,13 @@ fn fits_and_is_asked<C: CountySet>(
     ensures { IfOk
         result
         (λ kept. IsTrue kept
-        ↔ (Fits test.now.language (problem_in input.now) (state_of C.test test.now.state.now) (places_of (places_in input.now) (C.test set.now))
+        ↔ (Fits test.now.format (problem_in input.now) (state_of C.test test.now.state.now) (places_of (places_in input.now) (C.test set.now))
         × IsAsked test.now.exact input.now.limit (places_of (places_in input.now) (C.test set.now)))) }
 {
     if !has_size(input, test, set) {
         return Ok(false);
     }
-    let fit = fits(input.graph, test.language, test.state, set, people)?;
+    let fit = fits(input.graph, test.format, test.state, set, people)?;
     Ok(fit)
 }
 
@@ -84,11 +84,11 @@ impl<C: CountySet> GrowthTest<C> for StateTest<'_, C> {
 
     const COUNTS_PASSED: bool = true;
 
-    ghost decides = { λ t p n limit keep. Decides t.language p n limit t.exact (state_of C.test t.state.now) keep };
+    ghost decides = { λ t p n limit keep. Decides t.format p n limit t.exact (state_of C.test t.state.now) keep };
 
     ghost knows = { λ t p n limit free. (length t.state.now.least.items ≡ n)
         × ((x : ℕ) → C.test t.state.now.rest x ≡ true → x < n)
-        × AreTables t.language p n limit (C.test t.state.now.rest) free t.tables.now };
+        × AreTables t.format p n limit (C.test t.state.now.rest) free t.tables.now };
 
     fn is_passed_over(
         &self,
@@ -107,5 +107,5 @@ impl<C: CountySet> GrowthTest<C> for StateTest<'_, C> {
     }
 
     ghost shrinks = { λ t p n limit free less lower k.
-        (k.0, k.1, fewer_tables t.language p n limit (C.test t.state.now.rest) free less t.tables.now lower k.2) };
+        (k.0, k.1, fewer_tables t.format p n limit (C.test t.state.now.rest) free less t.tables.now lower k.2) };
 }

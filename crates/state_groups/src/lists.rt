@@ -18,7 +18,7 @@ use crate::kept_sets::most_populous;
 use crate::state::State;
 use crate::state_test::StateTest;
 use crate::tables::{Tables, make_tables};
-use certificate_data::Language;
+use certificate_data::Format;
 use connected_sets::{CountyGraph, GrowthInput, Stop, grow, start_growth};
 use county_problem::Steps;
 use place_sets::{CountySet, sorted};
@@ -26,7 +26,7 @@ use place_sets::{CountySet, sorted};
 /// Appends to the `groups` the kept connected sets of the `region` that have `place` and at most `limit` places.
 fn search<C: CountySet>(
     graph: &CountyGraph<C>,
-    language: Language,
+    format: Format,
     state: &State<C>,
     region: C,
     place: u16,
@@ -42,11 +42,11 @@ fn search<C: CountySet>(
     requires some { 1 ≤ limit }
     requires below { (x : ℕ) → C.test region x ≡ true → x < graph_places graph.now }
     requires there { C.test region place ≡ true }
-    requires tables { AreTables language (place_problem graph.now) (graph_places graph.now) limit (C.test state.now.rest) (C.test region) tables.now }
+    requires tables { AreTables format (place_problem graph.now) (graph_places graph.now) limit (C.test state.now.rest) (C.test region) tables.now }
     ensures listed { OnOk
         result
         ((keep : List ℕ → Bool)
-        → Decides language (place_problem graph.now) (graph_places graph.now) limit exact (state_of C.test state.now) keep
+        → Decides format (place_problem graph.now) (graph_places graph.now) limit exact (state_of C.test state.now) keep
         → IsListed C C.test (place_problem graph.now) (graph_places graph.now) limit keep (only place) (others (C.test region) place) groups.old.items groups.new.items) }
     ensures steps { HasStepped (place_problem graph.now) (graph_places graph.now) limit (only place) (others (C.test region) place) steps.old.used steps.new.used }
     ensures counted { OnOk result (steps.old.used + length groups.new.items ≤ steps.new.used
@@ -59,7 +59,7 @@ fn search<C: CountySet>(
     let growth = start_growth(graph, place, free)?;
     let input = GrowthInput { graph, limit };
     let test = StateTest {
-        language,
+        format,
         state,
         exact,
         tables,
@@ -74,7 +74,7 @@ fn search<C: CountySet>(
 /// A step is taken for each connected set of open counties that is met. Each such set has the place and at most `limit`
 /// counties. The search passes over a set that can't get people that suit some number of seats. For that it looks at
 /// the open counties that are at most as many moves away from the set as counties may join it. Some of them have to
-/// give the set such people. In a wide language the search also passes over a set that leaves people of the rest that
+/// give the set such people. In a wide format the search also passes over a set that leaves people of the rest that
 /// suit no number of seats. The same goes for a set that leaves a part behind that can't be filled. So there are at
 /// least as many steps as groups, and at most as many steps as such sets.
 ///
@@ -82,7 +82,7 @@ fn search<C: CountySet>(
 /// stay taken.
 pub fn groups_at<C: CountySet>(
     graph: &CountyGraph<C>,
-    language: Language,
+    format: Format,
     state: &State<C>,
     place: u16,
     limit: u16,
@@ -97,7 +97,7 @@ pub fn groups_at<C: CountySet>(
         result
         (λ v. (round : Round)
         → round.order ≡ places_below (graph_places graph.now)
-        → round.language ≡ language
+        → round.format ≡ format
         → AreGroupsAt (place_problem graph.now) round (state_of C.test state.now) place limit (lists_of (graph_places graph.now) C.test v.items)) }
     ensures below { IfOk result (λ v. AreBelow (graph_places graph.now) C.test v.items) }
     ensures steps { OneStepEach (IsSetAt (place_problem graph.now) (places_below (graph_places graph.now)) (state_of C.test state.now) place limit) steps.old.used steps.new.used }
@@ -106,10 +106,10 @@ pub fn groups_at<C: CountySet>(
     ensures stopped { IsErrOf result Stop.StepLimit → steps.new.used ≡ steps.new.limit }
 {
     let region = open_places(graph.alloc, state, limit)?;
-    let tables = make_tables(graph.alloc, graph.ordered, language, state, &region, limit)?;
+    let tables = make_tables(graph.alloc, graph.ordered, format, state, &region, limit)?;
     let mut sets = Vec::new(graph.alloc);
     search(
-        graph, language, state, region, place, limit, false, &tables, steps, &mut sets,
+        graph, format, state, region, place, limit, false, &tables, steps, &mut sets,
     )?;
     Ok(sorted(sets)?)
 }
@@ -122,7 +122,7 @@ pub fn groups_at<C: CountySet>(
 /// and so on.
 pub fn groups_of<C: CountySet>(
     graph: &CountyGraph<C>,
-    language: Language,
+    format: Format,
     state: &State<C>,
     size: u16,
     steps: &mut Steps,
@@ -135,7 +135,7 @@ pub fn groups_of<C: CountySet>(
         result
         (λ v. (round : Round)
         → round.order ≡ places_below (graph_places graph.now)
-        → round.language ≡ language
+        → round.format ≡ format
         → AreGroupsOf (place_problem graph.now) round (state_of C.test state.now) size (lists_of (graph_places graph.now) C.test v.items)) }
     ensures below { IfOk result (λ v. AreBelow (graph_places graph.now) C.test v.items) }
     ensures steps { OneStepEach (IsSetWithin (place_problem graph.now) (places_below (graph_places graph.now)) (state_of C.test state.now) size) steps.old.used steps.new.used }
@@ -144,12 +144,12 @@ pub fn groups_of<C: CountySet>(
     ensures stopped { IsErrOf result Stop.StepLimit → steps.new.used ≡ steps.new.limit }
 {
     let mut region = open_places(graph.alloc, state, size)?;
-    let tables = make_tables(graph.alloc, graph.ordered, language, state, &region, size)?;
+    let tables = make_tables(graph.alloc, graph.ordered, format, state, &region, size)?;
     let mut sets = Vec::new(graph.alloc);
     while let Some(place) = most_populous(graph.ordered, &region) {
         let left = region.copy(graph.alloc)?;
         search(
-            graph, language, state, left, place, size, true, &tables, steps, &mut sets,
+            graph, format, state, left, place, size, true, &tables, steps, &mut sets,
         )?;
         region = region.without(place);
     }

@@ -74,11 +74,11 @@ fn may_fit<C: CountySet>(
     requires places { length test.now.state.now.least.items ≡ places_in input.now }
     requires rest { (x : ℕ) → C.test test.now.state.now.rest x ≡ true → x < places_in input.now }
     requires windows { AreWindows (problem_in input.now) (people_of (problem_in input.now) (places_of (places_in input.now) (C.test test.now.state.now.rest))) test.now.tables.now.windows.items }
-    requires divided { IsDivided test.now.language (problem_in input.now) (places_in input.now) input.now.limit (C.test test.now.state.now.rest) test.now.tables.now.rest_people }
+    requires divided { IsDivided test.now.format (problem_in input.now) (places_in input.now) input.now.limit (C.test test.now.state.now.rest) test.now.tables.now.rest_people }
     ensures { (g : List ℕ)
         → filter (contains g) (places_below (places_in input.now)) ≡ g
         → length g ≤ input.now.limit
-        → Fits test.now.language (problem_in input.now) (state_of C.test test.now.state.now) g
+        → Fits test.now.format (problem_in input.now) (state_of C.test test.now.state.now) g
         → least ≤ people_of (problem_in input.now) g
         → people_of (problem_in input.now) g ≤ greatest
         → IsTrue result }
@@ -103,12 +103,12 @@ fn may_grow<C: CountySet>(
     requires growth { IsGrowth (problem_in input.now) (places_in input.now) input.now.limit (C.test growth.now.set) (C.test growth.now.free) }
     requires people { growth.now.people
         ≡ people_of (problem_in input.now) (places_of (places_in input.now) (C.test growth.now.set)) }
-    requires tables { AreTables test.now.language (problem_in input.now) (places_in input.now) input.now.limit (C.test test.now.state.now.rest) (C.test growth.now.free) test.now.tables.now }
+    requires tables { AreTables test.now.format (problem_in input.now) (places_in input.now) input.now.limit (C.test test.now.state.now.rest) (C.test growth.now.free) test.now.tables.now }
     requires free { (x : ℕ) → C.test reach.now x ≡ true → C.test growth.now.free x ≡ true }
     ensures { (g : List ℕ)
         → IsExtension (problem_in input.now) (places_in input.now) input.now.limit (C.test growth.now.set) (C.test reach.now) g
         → IsAsked test.now.exact input.now.limit g
-        → Fits test.now.language (problem_in input.now) (state_of C.test test.now.state.now) g
+        → Fits test.now.format (problem_in input.now) (state_of C.test test.now.state.now) g
         → IsTrue result }
 {
     let more = u32::from(input.limit) - growth.set.size();
@@ -136,12 +136,12 @@ pub(crate) fn is_passed_over<C: CountySet>(
     requires front { IsFront (problem_in input.now) (C.test growth.now.set) (C.test growth.now.free) (C.test growth.now.front) }
     requires people { growth.now.people
         ≡ people_of (problem_in input.now) (places_of (places_in input.now) (C.test growth.now.set)) }
-    requires tables { AreTables test.now.language (problem_in input.now) (places_in input.now) input.now.limit (C.test test.now.state.now.rest) (C.test growth.now.free) test.now.tables.now }
+    requires tables { AreTables test.now.format (problem_in input.now) (places_in input.now) input.now.limit (C.test test.now.state.now.rest) (C.test growth.now.free) test.now.tables.now }
     ensures { IfOk
         result
         (λ passed. IsTrue passed
         → (keep : List ℕ → Bool)
-        → Decides test.now.language (problem_in input.now) (places_in input.now) input.now.limit test.now.exact (state_of C.test test.now.state.now) keep
+        → Decides test.now.format (problem_in input.now) (places_in input.now) input.now.limit test.now.exact (state_of C.test test.now.state.now) keep
         → AreKept (problem_in input.now) (places_in input.now) input.now.limit keep (C.test growth.now.set) (C.test growth.now.free) []) }
 {
     let more = u32::from(input.limit) - growth.set.size();
@@ -154,7 +154,7 @@ pub(crate) fn is_passed_over<C: CountySet>(
     }
     strands(
         input.graph,
-        test.language,
+        test.format,
         test.state,
         &growth.set,
         &growth.free,

@@ -18,7 +18,7 @@ use county_problem::Steps;
 use place_sets::CountySet;
 
 /// Returns the groups of `size` counties that fit the state, whatever smaller groups fit. Each group comes once, and
-/// they are ordered by their lists of places. They are the groups of `groups_of` in the language of the round, but the
+/// they are ordered by their lists of places. They are the groups of `groups_of` in the format of the round, but the
 /// contract describes them by their codes.
 ///
 /// Steps are taken as by `groups_of`. Returns `StepLimit` only if all steps are used, and `Memory` only if a growth was
@@ -48,5 +48,5 @@ pub fn all_groups_of_size<C: CountySet>(
     ensures limit { steps.new.limit ≡ steps.old.limit }
     ensures stopped { IsErrOf result Stop.StepLimit → steps.new.used ≡ steps.new.limit }
 {
-    groups_of(graph, round.language, state, size, steps)
+    groups_of(graph, round.format, state, size, steps)
 }

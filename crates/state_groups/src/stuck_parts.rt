@@ -15,7 +15,7 @@ ghost use Rattle.state_groups.specs.Stranding.{NoneFits, IsTooSmall, IsStranded,
 
 use crate::state::State;
 use crate::sums::people_in;
-use certificate_data::Language;
+use certificate_data::Format;
 use connected_sets::{CountyGraph, part_around};
 use county_problem::Ordered;
 use place_sets::CountySet;
@@ -167,14 +167,14 @@ fn has_stranded_part<C: CountySet>(
 
 /// Returns whether each group that has all of the set, and otherwise only free places, leaves a part behind that can't
 /// be filled. Either no free place can reach that part, or it lies in a part of what the set leaves that is too small
-/// for a place that isn't free. In a plain language no group is left out for that.
+/// for a place that isn't free. In a plain format no group is left out for that.
 ///
 /// # Errors
 ///
 /// Returns an error if memory was refused.
 pub fn strands<C: CountySet>(
     graph: &CountyGraph<C>,
-    language: Language,
+    format: Format,
     state: &State<C>,
     set: &C,
     free: &C,
@@ -186,11 +186,11 @@ pub fn strands<C: CountySet>(
         result
         (λ none. IsTrue none
         → (limit : ℕ)
-        → NoneFits language (place_problem graph.now) (graph_places graph.now) limit (state_of C.test state.now) (C.test set.now) (C.test free.now)) }
+        → NoneFits format (place_problem graph.now) (graph_places graph.now) limit (state_of C.test state.now) (C.test set.now) (C.test free.now)) }
 {
-    match language {
-        Language::Plain => Ok(false),
-        Language::Wide => {
+    match format {
+        Format::Plain => Ok(false),
+        Format::Wide => {
             let left = state.rest.copy(graph.alloc)?.minus(set);
             has_stranded_part(graph, state, left, free)
         }

@@ -10,7 +10,7 @@ use crate::people::places_by_people;
 use crate::state::State;
 use crate::sums::people_in;
 use crate::windows::seat_windows;
-use certificate_data::Language;
+use certificate_data::Format;
 use county_problem::Ordered;
 use place_sets::CountySet;
 use std::alloc::{AllocError, Global};
@@ -26,20 +26,20 @@ pub(crate) struct Tables {
     pub(crate) rest_people: Option<u64>,
 }
 
-/// Returns the people of the rest if the language is wide and the rest has more than `limit` counties. Otherwise it
+/// Returns the people of the rest if the format is wide and the rest has more than `limit` counties. Otherwise it
 /// returns `None`.
 fn divided_people<C: CountySet>(
     ordered: &Ordered,
-    language: Language,
+    format: Format,
     state: &State<C>,
     limit: u16,
 ) -> Option<u64>
     requires { (x : ℕ) → C.test state.now.rest x ≡ true → x < length ordered.now.order }
-    ensures { IsDivided language (problem_at ordered.now) (length ordered.now.order) limit (C.test state.now.rest) result }
+    ensures { IsDivided format (problem_at ordered.now) (length ordered.now.order) limit (C.test state.now.rest) result }
 {
-    match language {
-        Language::Plain => None,
-        Language::Wide => {
+    match format {
+        Format::Plain => None,
+        Format::Wide => {
             if state.rest.size() <= u32::from(limit) {
                 return None;
             }
@@ -52,7 +52,7 @@ fn divided_people<C: CountySet>(
 pub(crate) fn make_tables<C: CountySet>(
     alloc: Global,
     ordered: &Ordered,
-    language: Language,
+    format: Format,
     state: &State<C>,
     region: &C,
     limit: u16,
@@ -62,11 +62,11 @@ pub(crate) fn make_tables<C: CountySet>(
     requires below { (x : ℕ) → C.test region.now x ≡ true → x < length ordered.now.order }
     ensures { IfOk
         result
-        (λ t. AreTables language (problem_at ordered.now) (length ordered.now.order) limit (C.test state.now.rest) (C.test region.now) t) }
+        (λ t. AreTables format (problem_at ordered.now) (length ordered.now.order) limit (C.test state.now.rest) (C.test region.now) t) }
 {
     Ok(Tables {
         by_people: places_by_people(alloc, ordered, region)?,
         windows: seat_windows(alloc, ordered, people_in(ordered, &state.rest))?,
-        rest_people: divided_people(ordered, language, state, limit),
+        rest_people: divided_people(ordered, format, state, limit),
     })
 }

@@ -8,7 +8,7 @@ use Rattle.grouping_laws.specs.Places.{codes_at}
 use Rattle.grouping_laws.specs.PlaceProblem.{code_at}
 use Rattle.place_laws.specs.PlaceSets.{places_of}
 use Rattle.place_laws.proofs.Sums.{sum_by-map, total_same}
-use Rattle.certificate_data.specs.declared.language.Language.{Language}
+use Rattle.certificate_data.specs.declared.format.Format.{Format}
 use Rattle.state_groups.specs.declared.state.State.{State as StateHeld}
 use Rattle.certificate_laws.specs.Regions.{listed}
 use Rattle.certificate_laws.specs.State.{State, open_to}
@@ -30,9 +30,9 @@ closed_counts C test order held i e =
     ap (λ n. counts (map (codes_at order) (map (λ (g : C). places_of n (test g)) held.closed.items)) i) e ∙ closed_sizes order (λ (g : C). places_of (length order) (test g)) held.closed.items i
 
 -- what a line of weights allows
-pub weighed : (language : Language) (p : Problem) (s : State) (i used quota : ℕ) (ws line : List WeightHeld) (left size weight all : ℕ) → ws ≡ line → left ≡ room_at p s i used → size ≡ i
-    → IsFair language p s i (weigh quota (weights_of ws)) × (weight ≡ sum_by (county_weight ws) (listed p (open_to s i))) → all ≡ min (left / size) (weight / quota)
-    → IsFair language p s i (weigh quota (weights_of line)) × (all ≡ allowance p s i used (weigh quota (weights_of line)))
-weighed language p s i used quota ws line left size weight all e a b h d =
-    subst (λ (z : List WeightHeld). IsFair language p s i (weigh quota (weights_of z)) × (all ≡ allowance p s i used (weigh quota (weights_of z)))) e
+pub weighed : (format : Format) (p : Problem) (s : State) (i used quota : ℕ) (ws line : List WeightHeld) (left size weight all : ℕ) → ws ≡ line → left ≡ room_at p s i used → size ≡ i
+    → IsFair format p s i (weigh quota (weights_of ws)) × (weight ≡ sum_by (county_weight ws) (listed p (open_to s i))) → all ≡ min (left / size) (weight / quota)
+    → IsFair format p s i (weigh quota (weights_of line)) × (all ≡ allowance p s i used (weigh quota (weights_of line)))
+weighed format p s i used quota ws line left size weight all e a b h d =
+    subst (λ (z : List WeightHeld). IsFair format p s i (weigh quota (weights_of z)) × (all ≡ allowance p s i used (weigh quota (weights_of z)))) e
     (h.0, d ∙ (ap (λ z. min (z / size) (weight / quota)) a ∙ (ap (λ z. min (room_at p s i used / z) (weight / quota)) b ∙ ap (λ z. min (room_at p s i used / i) (z / quota)) h.1)))

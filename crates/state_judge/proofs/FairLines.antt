@@ -115,7 +115,7 @@ same_test f b quota least xs ys e k h = subst (λ z. (b ≡ true) ↔ All (λ x.
 
 -- the groups of one list decide
 pub fair : (p : Problem) (round : Round) (s : State) (i quota : ℕ) (ws : List WeightHeld) (groups : List (List ℕ)) → IsOrder p round.order → AreGroupsOf p round s i groups → 1 ≤ quota → list_all (λ w. contains round.order w.county) ws ≡ true
-    → All (λ g. quota ≤ sum_by (county_weight ws) g) groups → IsFair round.language p s i (weigh quota (weights_of ws))
+    → All (λ g. quota ≤ sum_by (county_weight ws) g) groups → IsFair round.format p s i (weigh quota (weights_of ws))
 fair p round s i quota ws groups whole are some known heavy = (
   some,
   all_from_has (λ w. contains p.counties w.county ≡ true) (weights_of ws) (named p round.order ws whole known),
@@ -123,7 +123,7 @@ fair p round s i quota ws groups whole are some known heavy = (
 )
 
 pub light : (p : Problem) (round : Round) (s : State) (i quota : ℕ) (ws : List WeightHeld) (groups : List (List ℕ)) → IsOrder p round.order → AreGroupsOf p round s i groups → list_all (λ w. contains round.order w.county) ws ≡ true
-    → (g : List ℕ) × Contains groups g × (sum_by (county_weight ws) g < quota) → HasLightGroup round.language p s i (weigh quota (weights_of ws))
+    → (g : List ℕ) × Contains groups g × (sum_by (county_weight ws) g < quota) → HasLightGroup round.format p s i (weigh quota (weights_of ws))
 light p round s i quota ws groups whole are known found =
     let x : IsGroupOf p round s i found.0 = (are.each found.0).0 found.1 in
     ((λ w h. named p round.order ws whole known w (has_from_contains (weights_of ws) w h)), (found.0, x.fits, x.size, found.2))

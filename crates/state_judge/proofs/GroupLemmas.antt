@@ -95,18 +95,18 @@ steps_within p order whole t below i j l c k is same before after m steps many =
 
 -- the groups of a list by places, by codes
 pub groups_codes : (C : Type 0) (test : C → ℕ → Bool) (p : Problem) (round : Round) (order : List ℕ) (t : State) (i j : ℕ) (sets : List C) → order ≡ round.order → IsOrder p order → ((x : ℕ) → t.rest x ≡ true → x < length order) → i < length order
-    → ((r : Round) → r.order ≡ places_below (length order) → r.language ≡ round.language → AreGroupsAt (at_places p order) r t i j (lists_of (length order) test sets)) → (c k : ℕ) → code_at order i ≡ c → j ≡ k
+    → ((r : Round) → r.order ≡ places_below (length order) → r.format ≡ round.format → AreGroupsAt (at_places p order) r t i j (lists_of (length order) test sets)) → (c k : ℕ) → code_at order i ≡ c → j ≡ k
     → AreGroupsAt p round (in_codes order t) c k (codes_of_sets order test sets)
 groups_codes C test p round order t i j sets same whole below l are c k is limit =
     subst (λ z. AreGroupsAt p round (in_codes order t) z k (codes_of_sets order test sets)) is
     (subst (λ z. AreGroupsAt p round (in_codes order t) (code_at order i) z (codes_of_sets order test sets)) limit
     (subst
     (λ (o : List ℕ). IsOrder p o → ((x : ℕ) → t.rest x ≡ true → x < length o) → i < length o
-    → ((r : Round) → r.order ≡ places_below (length o) → r.language ≡ round.language → AreGroupsAt (at_places p o) r t i j (lists_of (length o) test sets)) → AreGroupsAt p round (in_codes o t) (code_at o i) j (codes_of_sets o test sets))
+    → ((r : Round) → r.order ≡ places_below (length o) → r.format ≡ round.format → AreGroupsAt (at_places p o) r t i j (lists_of (length o) test sets)) → AreGroupsAt p round (in_codes o t) (code_at o i) j (codes_of_sets o test sets))
     (sym same) base whole below l are))
   where
     base : IsOrder p round.order → ((x : ℕ) → t.rest x ≡ true → x < length round.order) → i < length round.order
-        → ((r : Round) → r.order ≡ places_below (length round.order) → r.language ≡ round.language → AreGroupsAt (at_places p round.order) r t i j (lists_of (length round.order) test sets))
+        → ((r : Round) → r.order ≡ places_below (length round.order) → r.format ≡ round.format → AreGroupsAt (at_places p round.order) r t i j (lists_of (length round.order) test sets))
         → AreGroupsAt p round (in_codes round.order t) (code_at round.order i) j (codes_of_sets round.order test sets)
     base whole below l are =
         subst (AreGroupsAt p round (in_codes round.order t) (code_at round.order i) j) (map_twice (codes_at round.order) (λ g. places_of (length round.order) (test g)) sets)

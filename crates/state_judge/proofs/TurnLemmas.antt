@@ -10,7 +10,7 @@ use Rattle.grouping_laws.proofs.Places.{place_at, places_are_codes}
 use Rattle.place_laws.specs.PlaceSets.{IsNext}
 use Rattle.connected_laws.proofs.Starts.{begins_least}
 use Rattle.county_problem.specs.OrderedValue.{code_at}
-use Rattle.certificate_data.specs.declared.language.Language.TheVariants.{Plain, Wide}
+use Rattle.certificate_data.specs.declared.format.Format.TheVariants.{Plain, Wide}
 use Rattle.certificate_data.specs.Round.{Round}
 use Rattle.certificate_laws.specs.State.{State, open_to}
 use Rattle.certificate_laws.specs.Proving.{CanBranch, GoesInOrder}
@@ -71,7 +71,7 @@ module _ (p : Problem) (order : List ℕ) (whole : IsOrder p order) (t : State) 
     fault_shut : (i : ℕ) → i < length order → code_at order i ≡ c → test i ≡ false → ¬ CanBranch round s c j
     fault_shut i l e shut b = false≢true (sym shut ∙ (sym (open_at i c l e) ∙ b.is_open))
 
-    fault_turn : (first i : ℕ) → test first ≡ true → ((x : ℕ) → x < first → test x ≡ false) → i < length order → code_at order i ≡ c → round.language ≡ Plain → i ≢ first → ¬ CanBranch round s c j
+    fault_turn : (first i : ℕ) → test first ≡ true → ((x : ℕ) → x < first → test x ≡ false) → i < length order → code_at order i ≡ c → round.format ≡ Plain → i ≢ first → ¬ CanBranch round s c j
     fault_turn first i e none l is plainly other b =
         let turn : GoesInOrder Plain round s c j = subst (λ z. GoesInOrder z round s c j) plainly b.in_turn in
         let theirs : BeginsWith c (filter (open_to s j) order) = subst (λ (o : List ℕ). BeginsWith c (filter (open_to s j) o)) (sym same) turn.1 in
@@ -94,14 +94,14 @@ module _ (p : Problem) (order : List ℕ) (whole : IsOrder p order) (t : State) 
     pub shut_county : (first i : ℕ) → test first ≡ true → i < length order → code_at order i ≡ c → test i ≡ false → IsBranchFault round s c j WrongCounty
     shut_county first i e l is shut = wrong_county first e (fault_shut i l is shut)
 
-    pub out_of_turn : (first i : ℕ) → test first ≡ true → ((x : ℕ) → x < first → test x ≡ false) → i < length order → code_at order i ≡ c → round.language ≡ Plain → i ≢ first → IsBranchFault round s c j WrongCounty
+    pub out_of_turn : (first i : ℕ) → test first ≡ true → ((x : ℕ) → x < first → test x ≡ false) → i < length order → code_at order i ≡ c → round.format ≡ Plain → i ≢ first → IsBranchFault round s c j WrongCounty
     out_of_turn first i e none l is plainly other = wrong_county first e (fault_turn first i e none l is plainly other)
 
     -- or it can
-    pub can_wide : (i : ℕ) → i < length order → code_at order i ≡ c → test i ≡ true → j ≤ round.limit → round.language ≡ Wide → CanBranch round s c j
+    pub can_wide : (i : ℕ) → i < length order → code_at order i ≡ c → test i ≡ true → j ≤ round.limit → round.format ≡ Wide → CanBranch round s c j
     can_wide i l is e small widely = record { small = small; is_open = open_at i c l is ∙ e; in_turn = subst (λ z. GoesInOrder z round s c j) (sym widely) tt }
 
-    pub can_plain : (first i : ℕ) → test first ≡ true → ((x : ℕ) → x < first → test x ≡ false) → i < length order → code_at order i ≡ c → i ≡ first → j ≡ round.limit → round.language ≡ Plain → CanBranch round s c j
+    pub can_plain : (first i : ℕ) → test first ≡ true → ((x : ℕ) → x < first → test x ≡ false) → i < length order → code_at order i ≡ c → i ≡ first → j ≡ round.limit → round.format ≡ Plain → CanBranch round s c j
     can_plain first i e none l is here limit plainly = record {
       small = omega (arith, limit);
       is_open = open_at i c l is ∙ (ap test here ∙ e);

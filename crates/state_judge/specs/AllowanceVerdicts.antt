@@ -2,7 +2,7 @@
 use Rattle.std.specs.Prelude.{ℕ, ◌+◌, ◌*◌, ◌≡◌, ◌≤◌, true, ⊤}
 use Rattle.county_codes.specs.Limits.{most_counties}
 use Rattle.grouping_laws.specs.Problem.{Problem}
-use Rattle.certificate_data.specs.declared.language.Language.{Language}
+use Rattle.certificate_data.specs.declared.format.Format.{Format}
 use Rattle.certificate_laws.specs.State.{State}
 use Rattle.certificate_data.specs.Tree.{Allowance}
 use Rattle.certificate_laws.specs.BoundLines.{allowance, IsFair}
@@ -20,8 +20,8 @@ AllowanceIsSpelled (Weigh quota weights) = (1 ≤ quota) × (ascend weights ≡ 
 
 -- the line is fair, and what it allows is fewer groups than the target has, or as many, where so many counties are used
 -- up from now on
-abbrev pub IsAllowed : Language → Problem → State → (ℕ → ℕ) → ℕ → ℕ → Allowance → Allowed → Type 0
-IsAllowed language p s wanted i used line Loss = IsFair language p s i line × IsLoss p s wanted i used line
-IsAllowed language p s wanted i used line (Even now) =
-    IsFair language p s i line × IsEven p s wanted i used line × (now ≡ used + i * allowance p s i used line)
+abbrev pub IsAllowed : Format → Problem → State → (ℕ → ℕ) → ℕ → ℕ → Allowance → Allowed → Type 0
+IsAllowed format p s wanted i used line Loss = IsFair format p s i line × IsLoss p s wanted i used line
+IsAllowed format p s wanted i used line (Even now) =
+    IsFair format p s i line × IsEven p s wanted i used line × (now ≡ used + i * allowance p s i used line)
     × (now ≤ most_counties)

@@ -1,7 +1,7 @@
 -- The weights of a line of a bound leaf, as values of the Rust type, and where the line isn't fair.
 use Rattle.std.specs.Prelude.{ℕ, ◌≡◌, List, map, ◌⊎◌}
 use Rattle.grouping_laws.specs.Problem.{Problem}
-use Rattle.certificate_data.specs.declared.language.Language.{Language}
+use Rattle.certificate_data.specs.declared.format.Format.{Format}
 use Rattle.certificate_laws.specs.State.{State}
 use Rattle.certificate_data.specs.Tree.{Weight, Allowance}
 use Rattle.certificate_laws.specs.BoundLines.{weight_of}
@@ -19,6 +19,6 @@ abbrev pub county_weight : List WeightHeld → ℕ → ℕ
 county_weight ws c = weight_of (weights_of ws) c
 
 -- the line isn't fair: it names a weight of no county, or else there is a group that weighs too little
-abbrev pub IsUnfair : Language → Problem → State → ℕ → Allowance → Fault → Type 0
-IsUnfair language p s i line fault =
-    ((fault ≡ WrongCounty) × NamesForeign p line) ⊎ ((fault ≡ LightGroup) × HasLightGroup language p s i line)
+abbrev pub IsUnfair : Format → Problem → State → ℕ → Allowance → Fault → Type 0
+IsUnfair format p s i line fault =
+    ((fault ≡ WrongCounty) × NamesForeign p line) ⊎ ((fault ≡ LightGroup) × HasLightGroup format p s i line)

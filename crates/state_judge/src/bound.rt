@@ -96,12 +96,12 @@ fn fair_allowance<C: CountySet>(
     requires used { used ≤ most_counties }
     ensures line { MatchResult
         result
-        (λ allowed. IsFair round.now.language (graph_problem graph.now) (state_at (graph_order graph.now) C.test state.now) size (allowance_of line.now)
+        (λ allowed. IsFair round.now.format (graph_problem graph.now) (state_at (graph_order graph.now) C.test state.now) size (allowance_of line.now)
         × (allowed
         ≡ allowance (graph_problem graph.now) (state_at (graph_order graph.now) C.test state.now) size used (allowance_of line.now)))
         (λ stop. StopsAt
         stop
-        (IsUnfair round.now.language (graph_problem graph.now) (state_at (graph_order graph.now) C.test state.now) size (allowance_of line.now))
+        (IsUnfair round.now.format (graph_problem graph.now) (state_at (graph_order graph.now) C.test state.now) size (allowance_of line.now))
         (AllowanceIsSpelled line.now → ⊥)) }
     ensures few { IfOk result (λ allowed. (allowed ≤ most_counties) × (used + size * allowed ≤ most_counties)) }
     ensures steps { (m : ℕ)
@@ -159,10 +159,10 @@ pub fn judge_allowance<C: CountySet>(
         → counts size ≡ wanted
         → MatchResult
         result
-        (IsAllowed round.now.language (graph_problem graph.now) (state_at (graph_order graph.now) C.test state.now) counts size used (allowance_of line.now))
+        (IsAllowed round.now.format (graph_problem graph.now) (state_at (graph_order graph.now) C.test state.now) counts size used (allowance_of line.now))
         (λ stop. StopsAt
         stop
-        (IsAllowanceFault round.now.language (graph_problem graph.now) (state_at (graph_order graph.now) C.test state.now) counts size used (allowance_of line.now))
+        (IsAllowanceFault round.now.format (graph_problem graph.now) (state_at (graph_order graph.now) C.test state.now) counts size used (allowance_of line.now))
         (AllowanceIsSpelled line.now → ⊥)) }
     ensures steps { IfOk
         result

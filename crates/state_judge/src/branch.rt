@@ -5,7 +5,7 @@ ghost use Rattle.std.specs.Prelude.{MatchOption, MatchResult, ◌↔◌};
 ghost use Rattle.county_problem.specs.OrderedValue.{code_at};
 ghost use Rattle.connected_sets.specs.Graphs.{graph_problem, graph_order, graph_places, IsGraph};
 ghost use Rattle.connected_laws.specs.Listing.{AreBelow};
-ghost use Rattle.certificate_data.specs.declared.language.Language.TheVariants.{Plain};
+ghost use Rattle.certificate_data.specs.declared.format.Format.TheVariants.{Plain};
 ghost use Rattle.certificate_data.specs.RoundValue.{round_of};
 ghost use Rattle.certificate_laws.specs.Groups.{AreGroupsAt, IsSetAt};
 ghost use Rattle.certificate_laws.specs.Proving.{limit_of, NamesLimit, CanBranch};
@@ -17,7 +17,7 @@ ghost use Rattle.state_judge.specs.LineStops.{StopsAt};
 ghost use Rattle.state_judge.specs.declared.fault.LineStop.{LineStop};
 
 use crate::fault::{CheckFault, LineStop};
-use certificate_data::{Language, Round};
+use certificate_data::{Format, Round};
 use connected_sets::CountyGraph;
 use county_codes::CountyCode;
 use county_problem::{Ordered, Steps};
@@ -42,13 +42,13 @@ pub struct Branching<C> {
 fn limit_for(round: &Round, named: Option<u16>) -> Option<u16>
     ensures { MatchOption
         result
-        (NamesLimit round.now.language named → ⊥)
-        (λ limit. NamesLimit round.now.language named × (limit ≡ limit_of (round_of round.now) named)
-        × (round.now.language ≡ Plain → limit ≡ round.now.limit)) }
+        (NamesLimit round.now.format named → ⊥)
+        (λ limit. NamesLimit round.now.format named × (limit ≡ limit_of (round_of round.now) named)
+        × (round.now.format ≡ Plain → limit ≡ round.now.limit)) }
 {
-    match (round.language, named) {
-        (Language::Plain, None) => Some(round.limit),
-        (Language::Wide, Some(limit)) => Some(limit),
+    match (round.format, named) {
+        (Format::Plain, None) => Some(round.limit),
+        (Format::Wide, Some(limit)) => Some(limit),
         _ => None,
     }
 }
@@ -70,7 +70,7 @@ fn branch_place<C: CountySet>(
     requires fits { length ordered.now.order ≤ C.PLACES }
     requires placed { IsPlaced (length ordered.now.order) C.test state.now }
     requires order { ordered.now.order ≡ round.now.order }
-    requires limit { round.now.language ≡ Plain → limit ≡ round.now.limit }
+    requires limit { round.now.format ≡ Plain → limit ≡ round.now.limit }
     ensures branch { MatchResult
         result
         (λ place. CanBranch (round_of round.now) (state_at ordered.now.order C.test state.now) county limit)
@@ -93,9 +93,9 @@ fn branch_place<C: CountySet>(
     if !open.has(place) {
         return Err(LineStop::Fault(CheckFault::WrongCounty));
     }
-    match round.language {
-        Language::Wide => Ok(place),
-        Language::Plain => {
+    match round.format {
+        Format::Wide => Ok(place),
+        Format::Plain => {
             if place != first {
                 return Err(LineStop::Fault(CheckFault::WrongCounty));
             }
@@ -126,7 +126,7 @@ pub fn judge_branch<C: CountySet>(
     requires order { graph_order graph.now ≡ round.now.order }
     ensures branch { MatchResult
         result
-        (λ b. NamesLimit round.now.language limit
+        (λ b. NamesLimit round.now.format limit
         × CanBranch (round_of round.now) (state_at (graph_order graph.now) C.test state.now) county (limit_of (round_of round.now) limit)
         × AreGroupsAt
         (graph_problem graph.now)
@@ -138,7 +138,7 @@ pub fn judge_branch<C: CountySet>(
         (λ stop. StopsAt
         stop
         (IsBranchFault (round_of round.now) (state_at (graph_order graph.now) C.test state.now) county (limit_of (round_of round.now) limit))
-        (NamesLimit round.now.language limit → ⊥)) }
+        (NamesLimit round.now.format limit → ⊥)) }
     ensures place { IfOk result (λ b. (b.place < graph_places graph.now)
         × (code_at (graph_order graph.now) b.place ≡ county)) }
     ensures size { IfOk result (λ b. b.limit ≡ limit_of (round_of round.now) limit) }
@@ -152,7 +152,7 @@ pub fn judge_branch<C: CountySet>(
     ensures limit { steps.new.limit ≡ steps.old.limit }
     ensures more { steps.old.used ≤ steps.new.used }
     ensures stopped { IsErrOf result LineStop.StepLimit
-        → NamesLimit round.now.language limit
+        → NamesLimit round.now.format limit
         × CanBranch (round_of round.now) (state_at (graph_order graph.now) C.test state.now) county (limit_of (round_of round.now) limit)
         × ((m : ℕ)
         → AreSoMany (graph_order graph.now) (IsSetAt (graph_problem graph.now) (graph_order graph.now) (state_at (graph_order graph.now) C.test state.now) county (limit_of (round_of round.now) limit)) m
@@ -169,7 +169,7 @@ pub fn judge_branch<C: CountySet>(
             groups: Vec::new(graph.alloc),
         });
     }
-    let groups = groups_at(graph, round.language, state, place, limit, steps)?;
+    let groups = groups_at(graph, round.format, state, place, limit, steps)?;
     Ok(Branching {
         place,
         limit,

@@ -67,12 +67,12 @@ pub(crate) fn judge_weights<C: CountySet>(
     requires size { 1 ≤ size }
     ensures weights { MatchResult
         result
-        (λ weight. IsFair round.now.language (graph_problem graph.now) (state_at (graph_order graph.now) C.test state.now) size (weigh quota (weights_of weights.now))
+        (λ weight. IsFair round.now.format (graph_problem graph.now) (state_at (graph_order graph.now) C.test state.now) size (weigh quota (weights_of weights.now))
         × (weight
         ≡ sum_by (county_weight weights.now) (listed (graph_problem graph.now) (open_to (state_at (graph_order graph.now) C.test state.now) size))))
         (λ stop. StopsAt
         stop
-        (IsUnfair round.now.language (graph_problem graph.now) (state_at (graph_order graph.now) C.test state.now) size (weigh quota (weights_of weights.now)))
+        (IsUnfair round.now.format (graph_problem graph.now) (state_at (graph_order graph.now) C.test state.now) size (weigh quota (weights_of weights.now)))
         ((1 ≤ quota) × (ascend weights.now ≡ true) → ⊥)) }
     ensures steps { (m : ℕ)
         → AreSoMany (graph_order graph.now) (IsSetWithin (graph_problem graph.now) (graph_order graph.now) (state_at (graph_order graph.now) C.test state.now) size) m

@@ -1,5 +1,5 @@
 //! Worked calls: what public calls below the command answer where no case of the command reaches them. Lines, numbers,
-//! sources, links, texts and shelves come first. Small problems follow, whose answers are known.
+//! sources, links, texts and file stores come first. Small problems follow, whose answers are known.
 //!
 //! With the word `carolina` the adjacent pairs and the lawful groups of North Carolina 2020 follow. With the words
 //! LIMIT and FORM (`lists`, `masks` or `wide`) it only counts the lawful groups of at most LIMIT counties, by sets of
@@ -11,6 +11,7 @@ ghost use Rattle.std.specs.Prelude.{◌≤◌};
 
 mod carolina;
 mod compared_counts;
+mod file_store;
 mod groups;
 mod lines;
 mod links;
@@ -20,7 +21,6 @@ mod problems;
 mod regions;
 mod room;
 mod sets;
-mod shelf;
 mod sketch;
 mod sources;
 mod states;
@@ -55,7 +55,7 @@ fn show_files(rt: &HostRuntime) -> Result<()> {
     sources::show(rt)?;
     links::show(rt)?;
     texts::show(rt)?;
-    shelf::show(rt)
+    file_store::show(rt)
 }
 
 /// Prints all that needs no file.

@@ -3,7 +3,7 @@
 ghost use Rattle.std.specs.Prelude.{◌≡◌, false};
 
 use anyhow::{Error, Result};
-use cli_shelves::{WholeFault, read_whole};
+use cli_file_stores::{WholeFault, read_whole};
 use field_lines::{Reading, Source, SourceFault};
 use std::io;
 use std::io::{ErrorKind, Read};

@@ -7,7 +7,7 @@ use crate::groups::show_places;
 use crate::room::room_for;
 use crate::sketch::{STRANDING_PATH, codes, grouping};
 use anyhow::Result;
-use certificate_data::{Language, Round};
+use certificate_data::{Format, Round};
 use county_codes::{Codes, Grouping, listed_codes};
 use county_problem::{Ordered, Problem};
 use place_sets::CountySet;
@@ -105,7 +105,7 @@ fn round_copy(alloc: Global, target: Option<Grouping>) -> Result<Round> {
         order: Codes::new(codes(alloc, &[1, 3, 5])?),
         limit: 3,
         target,
-        language: Language::Wide,
+        format: Format::Wide,
         window: None,
     };
     Ok(round.copy()?)
@@ -119,11 +119,11 @@ fn groups_in(round: &Round) -> usize {
     }
 }
 
-/// Prints the language, the limit, and how many counties and target groups a `round` has.
+/// Prints the format, the limit, and how many counties and target groups a `round` has.
 fn show_round(rt: &HostRuntime, round: &Round) -> Result<()> {
-    let (language, limit, groups) = (round.language, round.limit, groups_in(round));
+    let (format, limit, groups) = (round.format, round.limit, groups_in(round));
     println!(rt;
-        "{language:?}, limit {limit}, {} counties, {groups} groups",
+        "{format:?}, limit {limit}, {} counties, {groups} groups",
         round.order.as_slice().len()
     )?;
     Ok(())

@@ -4,7 +4,7 @@ ghost use Rattle.std.specs.Prelude.{◌<◌, ◌≤◌};
 ghost use Rattle.county_codes.specs.Limits.{most_counties};
 
 use anyhow::{Context, Result};
-use certificate_data::{Allowance, Branch, Language, Leaf, Take, Tree, Weight, Weights};
+use certificate_data::{Allowance, Branch, Format, Leaf, Take, Tree, Weight, Weights};
 use certificate_text::{read_tree, write_tree};
 use county_codes::{Codes, CountyCode};
 use std::alloc::Global;
@@ -80,16 +80,16 @@ impl Dice {
 
     /// Returns a branch. The trees of its takes have at most `levels` levels.
     #[cycle(made)]
-    fn branch(&mut self, alloc: Global, language: Language, levels: u16) -> Result<Branch> {
+    fn branch(&mut self, alloc: Global, format: Format, levels: u16) -> Result<Branch> {
         let county = self.code()?;
-        let limit = match language {
-            Language::Plain => None,
-            Language::Wide => Some(1 + self.roll(256) as u16),
+        let limit = match format {
+            Format::Plain => None,
+            Format::Wide => Some(1 + self.roll(256) as u16),
         };
         let mut takes = Vec::new(alloc);
         for _ in 0..self.roll(3) {
             let codes = self.codes(alloc)?;
-            let tree = self.tree(alloc, language, levels)?;
+            let tree = self.tree(alloc, format, levels)?;
             takes.push(Take { codes, tree })?;
         }
         Ok(Branch {
@@ -101,11 +101,11 @@ impl Dice {
 
     /// Returns a tree of at most `levels` levels.
     #[cycle(made)]
-    fn tree(&mut self, alloc: Global, language: Language, levels: u16) -> Result<Tree> {
+    fn tree(&mut self, alloc: Global, format: Format, levels: u16) -> Result<Tree> {
         let mut branches = Vec::new(alloc);
         let mut left = levels;
         while left > 0 && self.roll(3) > 0 {
-            branches.push(self.branch(alloc, language, left - 1)?)?;
+            branches.push(self.branch(alloc, format, left - 1)?)?;
             left -= 1;
         }
         let leaf = self.leaf(alloc)?;
@@ -114,12 +114,12 @@ impl Dice {
 }
 
 /// Returns whether the text of a `tree` is read, and written as the same text again.
-fn comes_back(alloc: Global, tree: &Tree, language: Language, levels: u16) -> Result<bool>
+fn comes_back(alloc: Global, tree: &Tree, format: Format, levels: u16) -> Result<bool>
     requires { levels ≤ most_counties }
 {
-    let text = write_tree(alloc, tree, language, levels)?;
-    let again = read_tree(alloc, &text, language, levels)?;
-    let second = write_tree(alloc, &again, language, levels)?;
+    let text = write_tree(alloc, tree, format, levels)?;
+    let again = read_tree(alloc, &text, format, levels)?;
+    let second = write_tree(alloc, &again, format, levels)?;
     Ok(text.as_slice() == second.as_slice())
 }
 
@@ -128,14 +128,14 @@ pub(crate) fn round_trips(alloc: Global, trees: u32) -> Result<u32> {
     let mut dice = Dice { state: 2026 };
     let mut back = 0_u32;
     for tree in 0..trees {
-        let language = if tree % 2 == 0 {
-            Language::Plain
+        let format = if tree % 2 == 0 {
+            Format::Plain
         } else {
-            Language::Wide
+            Format::Wide
         };
         let levels = dice.roll(5) as u16;
-        let made = dice.tree(alloc, language, levels)?;
-        if comes_back(alloc, &made, language, levels)? {
+        let made = dice.tree(alloc, format, levels)?;
+        if comes_back(alloc, &made, format, levels)? {
             back = back.saturating_add(1);
         }
     }

@@ -14,7 +14,7 @@ ghost use Rattle.checker_laws.specs.Verdict.{IsLawfulTarget};
 use anyhow::{Error, Result};
 use bound_proofs::find_leaf;
 use certificate_checker::{TreeVerdict, check_tree};
-use certificate_data::{Language, Leaf, Round, Tree};
+use certificate_data::{Format, Leaf, Round, Tree};
 use certificate_text::tree_lines;
 use connected_sets::CountyGraph;
 use county_codes::{Codes, Grouping, MAX_COUNTIES, listed_codes};
@@ -156,7 +156,7 @@ pub(crate) fn leaf_said(
         order: Codes::new(order),
         limit,
         target,
-        language: Language::Wide,
+        format: Format::Wide,
         window: problem.named_window(),
     };
     first_leaf(alloc, problem, &ordered, &round)

@@ -1,7 +1,7 @@
 //! What is said of a case: a tree, a tree in front of other bytes, or a line of words.
 
 use anyhow::{Error, Result};
-use certificate_data::Language;
+use certificate_data::Format;
 use certificate_lines::{ItemSource, Items, TextFault, TextKind, Words};
 use certificate_text::{front_tree, read_tree, write_tree};
 use std::alloc::Global;
@@ -49,11 +49,11 @@ fn fault_said(alloc: Global, fault: TextFault, met: Option<TextFault>) -> Result
 
 /// Reads a tree, for an order of three counties. Returns in words how many lines it has and whether its copy is written
 /// back as the same bytes, or its fault.
-fn tree(alloc: Global, bytes: &[u8], language: Language) -> Result<String> {
-    let (lines, met) = count_items(&mut Items::of_tree(alloc, bytes, language, 3))?;
-    match read_tree(alloc, bytes, language, 3) {
+fn tree(alloc: Global, bytes: &[u8], format: Format) -> Result<String> {
+    let (lines, met) = count_items(&mut Items::of_tree(alloc, bytes, format, 3))?;
+    match read_tree(alloc, bytes, format, 3) {
         Ok(tree) => {
-            let again = write_tree(alloc, &tree.copy()?, language, 3)?;
+            let again = write_tree(alloc, &tree.copy()?, format, 3)?;
             let outcome = outcome(again.as_slice() == bytes);
             Ok(format!(in alloc; "tree of {lines} lines, written back {outcome}")?)
         }
@@ -63,10 +63,10 @@ fn tree(alloc: Global, bytes: &[u8], language: Language) -> Result<String> {
 
 /// Reads a tree in front of other bytes, for an order of three counties. Returns in words how many bytes are left and
 /// whether the tree is written back as the same bytes, or its fault.
-fn front(alloc: Global, bytes: &[u8], language: Language) -> Result<String> {
-    match front_tree(alloc, bytes, language, 3) {
+fn front(alloc: Global, bytes: &[u8], format: Format) -> Result<String> {
+    match front_tree(alloc, bytes, format, 3) {
         Ok((tree, place)) => {
-            let again = write_tree(alloc, &tree, language, 3)?;
+            let again = write_tree(alloc, &tree, format, 3)?;
             let (front, rest) = bytes.split_at(place);
             let outcome = outcome(again.as_slice() == front);
             let left = rest.len();
@@ -103,10 +103,10 @@ fn words(alloc: Global, bytes: &[u8]) -> Result<String> {
 /// Returns what is said of the `bytes` of a case of this `kind`.
 pub(crate) fn reading(alloc: Global, kind: &str, bytes: &[u8]) -> Result<String> {
     match kind {
-        "plain tree" => tree(alloc, bytes, Language::Plain),
-        "wide tree" => tree(alloc, bytes, Language::Wide),
-        "plain front" => front(alloc, bytes, Language::Plain),
-        "wide front" => front(alloc, bytes, Language::Wide),
+        "plain tree" => tree(alloc, bytes, Format::Plain),
+        "wide tree" => tree(alloc, bytes, Format::Wide),
+        "plain front" => front(alloc, bytes, Format::Plain),
+        "wide front" => front(alloc, bytes, Format::Wide),
         "words" => words(alloc, bytes),
         _ => Ok(String::from_str(alloc, "no such kind")?),
     }

@@ -4,9 +4,7 @@ ghost use Rattle.std.specs.Prelude.{◌≤◌};
 ghost use Rattle.county_codes.specs.Limits.{most_counties};
 
 use anyhow::{Context, Error, Result};
-use certificate_data::{
-    Allowance, Branch, Certificate, Language, Leaf, Take, Tree, Weight, Weights,
-};
+use certificate_data::{Allowance, Branch, Certificate, Format, Leaf, Take, Tree, Weight, Weights};
 use certificate_lines::WriteFault;
 use certificate_text::{read, write, write_tree};
 use county_codes::{Codes, CountyCode, Group, Window};
@@ -173,27 +171,21 @@ fn certificates(alloc: Global, lines: &mut Vec<String>) -> Result<()> {
     Ok(())
 }
 
-/// Returns what is said of a `tree` in a `language`, with `levels` levels.
-fn tree_said(
-    alloc: Global,
-    name: &str,
-    tree: &Tree,
-    language: Language,
-    levels: u16,
-) -> Result<String>
+/// Returns what is said of a `tree` in a `format`, with `levels` levels.
+fn tree_said(alloc: Global, name: &str, tree: &Tree, format: Format, levels: u16) -> Result<String>
     requires { levels ≤ most_counties }
 {
-    said(alloc, name, write_tree(alloc, tree, language, levels))
+    said(alloc, name, write_tree(alloc, tree, format, levels))
 }
 
-/// Returns what is said of a branch with a limit, or without one. The `language` and the `limit` come with their words.
+/// Returns what is said of a branch with a limit, or without one. The `format` and the `limit` come with their words.
 fn branch_said(
     alloc: Global,
-    language: (Language, &str),
+    format: (Format, &str),
     limit: (Option<u16>, &str),
 ) -> Result<String> {
-    let name = format!(in alloc; "{} branch {}", language.1, limit.1)?;
-    tree_said(alloc, &name, &branched(alloc, limit.0, 1)?, language.0, 1)
+    let name = format!(in alloc; "{} branch {}", format.1, limit.1)?;
+    tree_said(alloc, &name, &branched(alloc, limit.0, 1)?, format.0, 1)
 }
 
 /// Returns what is said of a take of `count` codes, in a tree of `levels` levels.
@@ -205,20 +197,20 @@ fn take_said(alloc: Global, levels: u16, count: u32) -> Result<String>
         alloc,
         &name,
         &branched(alloc, None, count)?,
-        Language::Plain,
+        Format::Plain,
         levels,
     )
 }
 
 /// Appends what is said of branches and takes at a limit and one past it, and of takes that no text spells.
 fn branches(alloc: Global, lines: &mut Vec<String>) -> Result<()> {
-    for language in [(Language::Plain, "plain"), (Language::Wide, "wide")] {
+    for format in [(Format::Plain, "plain"), (Format::Wide, "wide")] {
         for limit in [
             (None, "without a limit"),
             (Some(256), "of at most 256"),
             (Some(257), "of at most 257"),
         ] {
-            lines.push(branch_said(alloc, language, limit)?)?;
+            lines.push(branch_said(alloc, format, limit)?)?;
         }
     }
     for count in [256, 257, 0] {
@@ -231,7 +223,7 @@ fn branches(alloc: Global, lines: &mut Vec<String>) -> Result<()> {
 /// Returns what is said of a bound leaf of `count` lines.
 fn bound_said(alloc: Global, count: u32) -> Result<String> {
     let name = format!(in alloc; "bound of {count} lines")?;
-    tree_said(alloc, &name, &bound(alloc, count)?, Language::Plain, 0)
+    tree_said(alloc, &name, &bound(alloc, count)?, Format::Plain, 0)
 }
 
 /// Returns what is said of a line of weights.
@@ -243,7 +235,7 @@ fn weights_said(
     places: &[u32],
 ) -> Result<String> {
     let tree = weighed(alloc, quota, weight, places)?;
-    tree_said(alloc, name, &tree, Language::Plain, 0)
+    tree_said(alloc, name, &tree, Format::Plain, 0)
 }
 
 /// Appends what is said of bound leaves, and of their lines, at a limit and one past it.

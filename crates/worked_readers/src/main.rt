@@ -7,10 +7,10 @@
 mod answers;
 mod calls;
 mod census;
+mod file_store;
 mod lines;
 mod pieces;
 mod script;
-mod shelf;
 mod texts;
 
 use anyhow::Result;
@@ -19,5 +19,5 @@ fn main(rt: HostRuntime) -> Result<()> {
     lines::show(&rt)?;
     pieces::show(&rt)?;
     census::show(&rt)?;
-    shelf::show(&rt)
+    file_store::show(&rt)
 }

@@ -11,9 +11,9 @@ returns c = record {
   one_list = one_list;
   one_text = one_text;
   append = append_spelled;
-  no_fault = λ language counties text es h. none_met language counties text es h.fit h.text_is;
+  no_fault = λ format counties text es h. none_met format counties text es h.fit h.text_is;
   some_list = some_list;
-  faults = λ language counties text fault h.
-      let said = fault_of_line language counties text fault h in
+  faults = λ format counties text fault h.
+      let said = fault_of_line format counties text fault h in
       (λ e. subst OfLine e said, λ e. subst OfLine e said, λ e. subst OfLine e said, λ e. subst OfLine e said);
 }

@@ -4,7 +4,7 @@ use Rattle.board_events.proofs.FrontEvents.{Passed}
 use Rattle.board_events.proofs.reading.events_of.Given as goal
 
 abbrev pub invariant-events : goal.invariant-events
-invariant-events l = Passed l.language l.counties l.text (map event_of l.events.items) l.lines l.rest
+invariant-events l = Passed l.format l.counties l.text (map event_of l.events.items) l.lines l.rest
 
 abbrev pub decreases-events : goal.decreases-events
 decreases-events l = length l.rest

@@ -8,12 +8,12 @@ use Rattle.board_report.proofs.ending.ended.Goals as goal
 
 pub returns-in_default : goal.returns-in_default
 returns-in_default g c = λ b is.
-    let language = c.proof_round.result.now.language in
+    let format = c.proof_round.result.now.format in
     let number = c.round.result in
     let found = c.in_ok-found.found.items in
     let start = c.args.text.items in
-    ended_left (problem_of c.args.board.now.problem) b found start (record { text = c.push_left.new.out; left = c.len-left.result; certificate = None }) language number (c.in_ok-found.ensures b is) (c.len-left.ensures ∙ c.in_ok-found.found.ok.0)
-    (ap (λ (z : Round). z.language) (c.proof_round.ensures.round b is)) (c.round.ensures b is) (c.in_ok-push_left.ensures ∙ ap (λ z. start ++ left_lines language number z) c.deref.ensures.value) refl
+    ended_left (problem_of c.args.board.now.problem) b found start (record { text = c.push_left.new.out; left = c.len-left.result; certificate = None }) format number (c.in_ok-found.ensures b is) (c.len-left.ensures ∙ c.in_ok-found.found.ok.0)
+    (ap (λ (z : Round). z.format) (c.proof_round.ensures.round b is)) (c.round.ensures b is) (c.in_ok-push_left.ensures ∙ ap (λ z. start ++ left_lines format number z) c.deref.ensures.value) refl
     (ap (option_map certificate_of) (sym c.in_default.is) ∙ c.in_ok-certificate.ensures.value b is)
 
 pub returns : goal.returns

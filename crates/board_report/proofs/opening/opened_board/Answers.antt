@@ -8,20 +8,20 @@ use Rattle.board_report.proofs.opening.opened_board.Goals as goal
 
 pub returns-clause-first : goal.returns-clause-first
 returns-clause-first g c =
-    first_by_code (problem_of c.args.problem.now) c.args.target.now.groups.items c.args.shape.limit c.args.shape.language c.counties.ensures.problem
+    first_by_code (problem_of c.args.problem.now) c.args.target.now.groups.items c.args.shape.limit c.args.shape.format c.counties.ensures.problem
     (subst (λ (z : List County). IsStrictlyIncreasing (codes_of z)) c.counties.ensures.value c.counties.ensures.by_code)
 
 pub returns-in_err-order-clause-first : goal.returns-in_err-order-clause-first
 returns-in_err-order-clause-first g c =
-    first_by_code (problem_of c.args.problem.now) c.args.target.now.groups.items c.args.shape.limit c.args.shape.language c.counties.ensures.problem
+    first_by_code (problem_of c.args.problem.now) c.args.target.now.groups.items c.args.shape.limit c.args.shape.format c.counties.ensures.problem
     (subst (λ (z : List County). IsStrictlyIncreasing (codes_of z)) c.counties.ensures.value c.counties.ensures.by_code)
 
 pub returns-clause-board : goal.returns-clause-board
 returns-clause-board g c =
     let order = c.deref.ensures.value ∙ (c.in_ok-order.ensures ∙ ap codes_of c.counties.ensures.value) in
-    opened_so g.C.CountySet.test (problem_of c.args.problem.now) c.args.shape.depth c.args.budget c.args.target.now.groups.items c.args.shape.limit c.args.shape.language c.deref.result.now c.new.result order c.new.ensures.board c.new.ensures.fault
+    opened_so g.C.CountySet.test (problem_of c.args.problem.now) c.args.shape.depth c.args.budget c.args.target.now.groups.items c.args.shape.limit c.args.shape.format c.deref.result.now c.new.result order c.new.ensures.board c.new.ensures.fault
 
 pub returns-clause-order : goal.returns-clause-order
 returns-clause-order g c =
     let order = c.deref.ensures.value ∙ (c.in_ok-order.ensures ∙ ap codes_of c.counties.ensures.value) in
-    order_so g.C.CountySet.test (problem_of c.args.problem.now) c.args.shape.depth c.args.target.now.groups.items c.args.shape.limit c.args.shape.language c.deref.result.now c.new.result order c.new.ensures.board
+    order_so g.C.CountySet.test (problem_of c.args.problem.now) c.args.shape.depth c.args.target.now.groups.items c.args.shape.limit c.args.shape.format c.deref.result.now c.new.result order c.new.ensures.board

@@ -73,5 +73,5 @@ returns-clause-text g c =
     let five = subst (λ z. HasFiveDigits (problem_of z)) c.requires.problem is.spelled.codes in
     let state = subst (λ z. IsState (problem_of z) (round_of round) s) c.requires.problem (c.proof_round.ensures.states b c.args.number s is stands) in
     let text = has_text p (round_of round) s c.args.number c.in_ok-piece.piece order five state (c.proof_round.ensures.small b is) (omega (arith, c.ranges.number)) c.in_ok-piece.ensures.piece in
-    subst (λ z. HasText z (length board.round.order) c.args.number c.in_ok-piece.piece) (ap (λ (z : Round). z.language) (c.proof_round.ensures.round b is ∙ sym is.round))
-    (subst (λ z. HasText (round_of round).language (length z) c.args.number c.in_ok-piece.piece) c.proof_round.ensures.same_order text)
+    subst (λ z. HasText z (length board.round.order) c.args.number c.in_ok-piece.piece) (ap (λ (z : Round). z.format) (c.proof_round.ensures.round b is ∙ sym is.round))
+    (subst (λ z. HasText (round_of round).format (length z) c.args.number c.in_ok-piece.piece) c.proof_round.ensures.same_order text)

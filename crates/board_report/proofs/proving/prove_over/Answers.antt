@@ -4,7 +4,7 @@ use Rattle.share_board.specs.Events.{event_of}
 use Rattle.board_report.specs.PieceAnswers.{piece_budget}
 use Rattle.board_report.specs.Rounds.{round_by_code}
 use Rattle.board_report.proofs.FirstRounds.{as_many}
-use Rattle.board_report.proofs.Courses.{answered_so, language_so, text_so}
+use Rattle.board_report.proofs.Courses.{answered_so, format_so, text_so}
 use Rattle.board_report.proofs.proving.prove_over.Goals as goal
 
 pub answer_at-requires-clause-board : goal.answer_at-requires-clause-board
@@ -16,7 +16,7 @@ answer_at-requires-clause-board g c =
 pub returns-clause-answer : goal.returns-clause-answer
 returns-clause-answer g c =
     let first = c.in_ok-board.ensures.board in
-    let round = round_by_code (problem_of c.args.problem.now) c.args.grouping.now.groups.items c.args.shape.limit c.args.shape.language in (
+    let round = round_by_code (problem_of c.args.problem.now) c.args.grouping.now.groups.items c.args.shape.limit c.args.shape.format in (
       round,
       c.in_ok-board.ensures.first,
       answered_so g.C.CountySet.test c.args.problem.now c.args.shape.depth piece_budget round c.in_ok-board.board c.take_all.new.board first.0 (map event_of c.args.events.items) c.in_ok-board.ensures.problem c.in_ok-board.ensures.depth c.in_ok-board.ensures.budget first.1
@@ -27,8 +27,8 @@ pub returns-clause-text : goal.returns-clause-text
 returns-clause-text g c =
     let first = c.in_ok-board.ensures.board in
     let heard = c.in_ok-take_all.ensures.heard first.0 first.2 in
-    let round = round_by_code (problem_of c.args.problem.now) c.args.grouping.now.groups.items c.args.shape.limit c.args.shape.language in
+    let round = round_by_code (problem_of c.args.problem.now) c.args.grouping.now.groups.items c.args.shape.limit c.args.shape.format in
     let later = c.take_all.new.board in
-    let language = language_so g.C.CountySet.test c.args.problem.now c.args.shape.depth piece_budget round c.in_ok-board.board later first.0 (map event_of c.args.events.items) c.args.shape.language refl first.1 heard.0 in
-    text_so later.round.language c.args.shape.language (length later.round.order) (length c.args.problem.now.counties) c.args.number c.in_ok-answer_at.field-0 language
+    let format = format_so g.C.CountySet.test c.args.problem.now c.args.shape.depth piece_budget round c.in_ok-board.board later first.0 (map event_of c.args.events.items) c.args.shape.format refl first.1 heard.0 in
+    text_so later.round.format c.args.shape.format (length later.round.order) (length c.args.problem.now.counties) c.args.number c.in_ok-answer_at.field-0 format
     (ap length (c.take_all.ensures.keeps.order ∙ c.in_ok-board.ensures.order) ∙ as_many c.args.problem.now.counties) c.in_ok-answer_at.ensures.text

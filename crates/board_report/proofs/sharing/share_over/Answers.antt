@@ -14,7 +14,7 @@ ended-requires g c =
 pub returns : goal.returns
 returns g c =
     let first = c.in_ok-board.ensures.board in
-    let round = round_by_code (problem_of c.args.problem.now) c.args.grouping.now.groups.items c.args.shape.limit c.args.shape.language in (
+    let round = round_by_code (problem_of c.args.problem.now) c.args.grouping.now.groups.items c.args.shape.limit c.args.shape.format in (
       round,
       c.in_ok-board.ensures.first,
       shared_so g.C.CountySet.test c.args.problem.now c.args.shape.depth c.args.budget round c.in_ok-board.board c.take_and_tell.new.board first.0 (map event_of c.args.events.items) c.in_ok-board.ensures.problem c.in_ok-board.ensures.depth c.in_ok-board.ensures.budget first.1

@@ -22,5 +22,5 @@ returns-clause-line g c = λ line is.
     let below = all_below g.row.C.Denot test order p whole round (sym c.requires.order) s c.args.size c.args.groups.now c.requires.groups counted c.in_ok-counted.ensures in
     let tests = counted_tests g.row.C.Denot test order p whole round (sym c.requires.order) s c.args.size c.args.groups.now c.requires.groups counted c.in_ok-counted.ensures in
     let at = region_of_set g.row.C.Denot test order p whole counted below in
-    count_allowed round.language p s c.args.size line is order (has_county order test counted) (test counted) c.problem-problem.ensures.law whole at tests c.args.used
+    count_allowed round.format p s c.args.size line is order (has_county order test counted) (test counted) c.problem-problem.ensures.law whole at tests c.args.used
     ∙ lesser_share c.in_ok-room.room (room_at p s c.args.size c.args.used) c.args.size c.from.result c.from-2.result c.size.result (length (places_of (length order) (test counted))) c.min.result c.in_ok-room.ensures.value c.from.ensures c.from-2.ensures (c.size.ensures.count (length order) below) c.min.ensures

@@ -16,5 +16,5 @@ loop-groups-preserved g c =
       count = omega (arith, c.in_ok-push.ensures.len, inv.count);
       lines = λ round s e are.
           let here = list_here vec_items g.C.CountySet.test order p round s c.args.lists.now c.loop-groups.groups-index (c.loop-groups.size + 1) c.groups-item.result c.deref.result.now are c.loop-groups-test.true c.groups-item.is c.deref.ensures.value (omega (arith, inv.size)) in
-          pushed_line allowance_of round.language p s c.loop-groups.lines.items c.push.new.self.items c.in_ok-count_line.field-0 (c.loop-groups.size + 1) c.in_ok-push.ensures.items (inv.lines round s e are) (omega (arith, inv.size, inv.count)) (c.in_ok-count_line.ensures round s e here);
+          pushed_line allowance_of round.format p s c.loop-groups.lines.items c.push.new.self.items c.in_ok-count_line.field-0 (c.loop-groups.size + 1) c.in_ok-push.ensures.items (inv.lines round s e are) (omega (arith, inv.size, inv.count)) (c.in_ok-count_line.ensures round s e here);
     }

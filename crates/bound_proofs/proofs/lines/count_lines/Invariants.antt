@@ -13,5 +13,5 @@ invariant-loop-groups g l = record {
   size : l.size ≡ l.groups-index;
   count : length l.lines.items ≡ l.groups-index;
   lines : (round : Round) (s : State) → round.order ≡ l.ordered.order → AreListsFrom g.C.CountySet.test l.ordered.order (problem_of l.ordered.problem) round s 1 (map vec_items l.lists)
-      → AreCountLines round.language (problem_of l.ordered.problem) s 1 (map allowance_of l.lines.items);
+      → AreCountLines round.format (problem_of l.ordered.problem) s 1 (map allowance_of l.lines.items);
 }

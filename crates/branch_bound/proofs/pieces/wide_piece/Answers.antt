@@ -21,7 +21,7 @@ returns-in-Ok-Leaf-clause-piece g c =
     let round = search_round input in
     let s = search_state input test c.in_ok-position.position.state in
     let none = sym c.new-branches.ensures.items in
-    let proof = leaf_end p round s s c.new-branches.result c.in-Ok-Leaf.leaf (λ t h. subst (λ bs. Proves (list_onto bs t) p round s) none h) (subst (λ bs. AllByRecursion (FitsInTree round.language) (items_of_branches bs)) none tt)
+    let proof = leaf_end p round s s c.new-branches.result c.in-Ok-Leaf.leaf (λ t h. subst (λ bs. Proves (list_onto bs t) p round s) none h) (subst (λ bs. AllByRecursion (FitsInTree round.format) (items_of_branches bs)) none tt)
     (λ fits t h. subst (λ bs. IsComplete (list_onto bs t) p round s) none h) (subst (λ z. IsNextMove test input s z) c.in-Ok-Leaf.field-0-is c.in-Ok-Leaf.ensures.next_move) in
     (subst (λ z. Proves (tree_of (roll-Tree (record { branches = c.new-branches.result; leaf = c.in-Ok-Leaf.leaf }))) p round z) c.in_ok-position.ensures.at.is proof.0, proof.1)
 

@@ -53,10 +53,10 @@ prove_plain-branching-preserved g t c =
         placed = c.raise_place.ensures.placed;
         state = subst (IsState p round) (sym raised) ((branch_keeps_state).raised_state p round s county limit inv.at.state v.1);
       };
-      whole = branched p round first s county None bs news c.in-Ok-Proved.takes pushed next takes.0 (plain_names round.language c.requires.input.plain) v.1 takes.1 takes.2 raised inv.whole;
+      whole = branched p round first s county None bs news c.in-Ok-Proved.takes pushed next takes.0 (plain_names round.format c.requires.input.plain) v.1 takes.1 takes.2 raised inv.whole;
       complete = λ fits. branched_complete p round first s county None bs news c.in-Ok-Proved.takes pushed next takes.0 takes.2 raised fits (inv.complete fits);
       agrees = λ h a. inv.agrees h (raised_agrees round s next county limit h v.1 raised a);
-      lines = branched_lines p round first s county None bs news c.in-Ok-Proved.takes pushed takes.0 (plain_fits round.language county c.requires.input.plain c.push_branch.ensures.county) takes.2 inv.lines;
+      lines = branched_lines p round first s county None bs news c.in-Ok-Proved.takes pushed takes.0 (plain_fits round.format county c.requires.input.plain c.push_branch.ensures.county) takes.2 inv.lines;
       more = omega (arith, inv.more, e.more, f.more);
       limit = f.limit ∙ e.limit ∙ inv.limit;
     }

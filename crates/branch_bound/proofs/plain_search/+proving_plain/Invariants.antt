@@ -43,7 +43,7 @@ invariant-prove_plain-branching g l = record {
       → IsComplete tree (search_problem l.input) (search_round l.input) (search_state l.input g.C.CountySet.test l.state)
       → IsComplete (list_onto l.branches.items tree) (search_problem l.input) (search_round l.input) (search_state l.input g.C.CountySet.test l.fn.state);
   agrees : (grouping : Grouping) → Agrees (search_state l.input g.C.CountySet.test l.state) grouping → Agrees (search_state l.input g.C.CountySet.test l.fn.state) grouping;
-  lines : AllByRecursion (FitsInTree l.input.round.now.language) (items_of_branches l.branches.items);
+  lines : AllByRecursion (FitsInTree l.input.round.now.format) (items_of_branches l.branches.items);
   more : l.fn.steps.used ≤ l.steps.used;
   limit : l.steps.limit ≡ l.fn.steps.limit;
 }

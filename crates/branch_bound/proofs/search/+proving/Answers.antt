@@ -85,11 +85,11 @@ prove-branching-preserved g t c =
     let news = c.raised_behind.new.branches.items in
     record {
       at = own g.row.C.Denot test input (raise county at.size here) next step.0;
-      whole = branched p round first here county (Some at.size) bs news step.1.0 pushed (search_state input test next.state) takes.0 (wide_names round.language at.size c.requires.input.wide) can takes.1 takes.2 step.0.is (λ tree proves. inv.whole tree (subst (λ z. Proves tree p round z) v.0.is proves));
+      whole = branched p round first here county (Some at.size) bs news step.1.0 pushed (search_state input test next.state) takes.0 (wide_names round.format at.size c.requires.input.wide) can takes.1 takes.2 step.0.is (λ tree proves. inv.whole tree (subst (λ z. Proves tree p round z) v.0.is proves));
       complete = λ fits. branched_complete p round first here county (Some at.size) bs news step.1.0 pushed (search_state input test next.state) takes.0 takes.2 step.0.is fits (λ tree complete. inv.complete fits tree (subst (λ z. IsComplete tree p round z) v.0.is complete));
       agrees = λ h a. inv.agrees h (subst (λ z. Agrees z h) v.0.is (raised_agrees round here (search_state input test next.state) county at.size h can step.0.is a));
       lines = branched_lines p round first here county (Some at.size) bs news step.1.0 pushed takes.0
-          (wide_fits round.language county at.size c.requires.input.wide c.in-Ok-At.ensures.county (choice_size g.row.C.Denot test input s at c.in-Ok-Branch.place v.0 v.1) (omega (arith, v.0.small, c.requires.input.small))) takes.2 inv.lines;
+          (wide_fits round.format county at.size c.requires.input.wide c.in-Ok-At.ensures.county (choice_size g.row.C.Denot test input s at c.in-Ok-Branch.place v.0 v.1) (omega (arith, v.0.small, c.requires.input.small))) takes.2 inv.lines;
       lists = f.lists;
       more = omega (arith, inv.more, e.more, f.more);
       limit = f.limit ∙ e.limit ∙ inv.limit;

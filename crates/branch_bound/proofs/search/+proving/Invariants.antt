@@ -46,7 +46,7 @@ invariant-prove-branching g l = record {
       → IsComplete tree (search_problem l.input) (search_round l.input) (search_state l.input g.C.CountySet.test l.position.state)
       → IsComplete (list_onto l.branches.items tree) (search_problem l.input) (search_round l.input) (search_state l.input g.C.CountySet.test l.fn.position.state);
   agrees : (grouping : Grouping) → Agrees (search_state l.input g.C.CountySet.test l.position.state) grouping → Agrees (search_state l.input g.C.CountySet.test l.fn.position.state) grouping;
-  lines : AllByRecursion (FitsInTree l.input.round.now.language) (items_of_branches l.branches.items);
+  lines : AllByRecursion (FitsInTree l.input.round.now.format) (items_of_branches l.branches.items);
   lists : AreListsOf g.C.CountySet.test (problem_at l.input.graph.now.ordered.now) (length l.input.graph.now.ordered.now.order) l.lists;
   more : l.fn.steps.used ≤ l.steps.used;
   limit : l.steps.limit ≡ l.fn.steps.limit;

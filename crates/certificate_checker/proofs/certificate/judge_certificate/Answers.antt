@@ -20,7 +20,7 @@ returns-in-Err-judge_round-clause-judged g c all sees cert fits items =
     let taken = c.in-Ok.ensures.taken all j.0 cert items in
     let judged =
     c.in-Err-judge_round.ensures.judged all sees cert.tree (item.End ∷ []) (omega (arith, taken.2, c.requires.start.0, round_lines cert, ap (λ r. window_line r.window) taken.0, ap (λ r. target_lines r.target) taken.0))
-    (subst (λ r. IsReadable r.language cert.tree) (sym taken.0) (readable_of_fits cert fits)) taken.1 in
+    (subst (λ r. IsReadable r.format cert.tree) (sym taken.0) (readable_of_fits cert fits)) taken.1 in
     round_off (problem_of c.args.problem.now) cert (fed_by (stream_of g.S.ItemSource.left g.S.ItemSource.given c.args.feed.now c.args.from.now) all) c.requires.start.1 (λ r. round_of r ≡ cert.round) (fed_by (stream_of g.S.ItemSource.left g.S.ItemSource.given c.read_round.new.feed c.read_round.new.from) all) c.in-Ok.round taken r.1 (round_of c.in-Ok.round) taken.0 (fed_by (stream_of g.S.ItemSource.left g.S.ItemSource.given c.judge_round.new.feed c.judge_round.new.from) all) c.in-Err-judge_round.stop judged
 
 pub returns-in-Err-next_end-clause-judged : goal.returns-in-Err-next_end-clause-judged
@@ -31,7 +31,7 @@ returns-in-Err-next_end-clause-judged g c all sees cert fits items =
     let taken = c.in-Ok.ensures.taken all j.0 cert items in
     let judged =
     c.in-Ok-judge_round.ensures.judged all e.0 cert.tree (item.End ∷ []) (omega (arith, taken.2, c.requires.start.0, round_lines cert, ap (λ r. window_line r.window) taken.0, ap (λ r. target_lines r.target) taken.0))
-    (subst (λ r. IsReadable r.language cert.tree) (sym taken.0) (readable_of_fits cert fits)) taken.1 in
+    (subst (λ r. IsReadable r.format cert.tree) (sym taken.0) (readable_of_fits cert fits)) taken.1 in
     end_off (problem_of c.args.problem.now) cert (fed_by (stream_of g.S.ItemSource.left g.S.ItemSource.given c.args.feed.now c.args.from.now) all) c.requires.start.1 (λ r. round_of r ≡ cert.round) (fed_by (stream_of g.S.ItemSource.left g.S.ItemSource.given c.read_round.new.feed c.read_round.new.from) all) c.in-Ok.round taken r.1 (round_of c.in-Ok.round) taken.0 (fed_by (stream_of g.S.ItemSource.left g.S.ItemSource.given c.judge_round.new.feed c.judge_round.new.from) all) judged j.1
     (fed_by (stream_of g.S.ItemSource.left g.S.ItemSource.given c.next_end.new.feed c.next_end.new.from) all) c.in-Err-next_end.stop (c.in-Err-next_end.ensures.took all sees)
 
@@ -43,7 +43,7 @@ returns-in-Ok-next_end-clause-judged g c all sees cert fits items =
     let taken = c.in-Ok.ensures.taken all j.0 cert items in
     let judged =
     c.in-Ok-judge_round.ensures.judged all e.0 cert.tree (item.End ∷ []) (omega (arith, taken.2, c.requires.start.0, round_lines cert, ap (λ r. window_line r.window) taken.0, ap (λ r. target_lines r.target) taken.0))
-    (subst (λ r. IsReadable r.language cert.tree) (sym taken.0) (readable_of_fits cert fits)) taken.1 in
+    (subst (λ r. IsReadable r.format cert.tree) (sym taken.0) (readable_of_fits cert fits)) taken.1 in
     certificate_done (problem_of c.args.problem.now) cert (fed_by (stream_of g.S.ItemSource.left g.S.ItemSource.given c.args.feed.now c.args.from.now) all) c.requires.start.1 (λ r. round_of r ≡ cert.round) (fed_by (stream_of g.S.ItemSource.left g.S.ItemSource.given c.read_round.new.feed c.read_round.new.from) all) c.in-Ok.round taken r.1 (round_of c.in-Ok.round) taken.0 (fed_by (stream_of g.S.ItemSource.left g.S.ItemSource.given c.judge_round.new.feed c.judge_round.new.from) all) judged j.1
     c.in-Ok.round.target refl
 

@@ -23,13 +23,13 @@ judge_takes-returns-in-Err-judge_tree-clause-judged g t c all sees takes rest mo
     let t = c.in-Err-judge_tree.ensures.fed all sees in
     let n = c.in-Ok-Some.ensures.fed all t.0 in
     let i = c.taking.invariant.fed all n.0 in
-    take_off c.args.input.now.round.now.language (problem_of c.args.input.now.graph.now.ordered.now.problem) (round_of c.args.input.now.round.now) (state_at c.args.input.now.graph.now.ordered.now.order g.C.CountySet.test c.args.state.now) (state_at c.args.input.now.graph.now.ordered.now.order g.C.CountySet.test c.in-Ok.closed) c.in-Ok-Some.codes (codes_of_sets c.args.input.now.graph.now.ordered.now.order g.C.CountySet.test c.taking.left.now) rest more (fed_by (stream_of g.S.ItemSource.left g.S.ItemSource.given c.args.feed.now c.args.from.now) all) (fed_by (stream_of g.S.ItemSource.left g.S.ItemSource.given c.taking.feed c.taking.from) all) (fed_by (stream_of g.S.ItemSource.left g.S.ItemSource.given c.next_take.new.feed c.next_take.new.from) all) (fed_by (stream_of g.S.ItemSource.left g.S.ItemSource.given c.judge_tree.new.feed c.judge_tree.new.from) all) _ c.in-Err-judge_tree.stop (c.taking.invariant.left all n.0 takes rest more readable items) (fed_twice _ _ _ i.1 n.1) (subst (λ o. TookLine (fed_by (stream_of g.S.ItemSource.left g.S.ItemSource.given c.taking.feed c.taking.from) all) (Ok (taken o)) (fed_by (stream_of g.S.ItemSource.left g.S.ItemSource.given c.next_take.new.feed c.next_take.new.from) all)) c.in-Ok-Some.field-0-is (c.in-Ok-Some.ensures.took all t.0)) (subst (IsNextTake (codes_of_sets c.args.input.now.graph.now.ordered.now.order g.C.CountySet.test c.taking.left.now)) c.as_slice.ensures c.in-Ok.ensures.taken.0) (c.in-Ok.ensures.taken.1 ∙ ap (λ z. close z (state_at c.args.input.now.graph.now.ordered.now.order g.C.CountySet.test c.args.state.now)) c.as_slice.ensures) (c.in-Err-judge_tree.ensures.judged all sees)
+    take_off c.args.input.now.round.now.format (problem_of c.args.input.now.graph.now.ordered.now.problem) (round_of c.args.input.now.round.now) (state_at c.args.input.now.graph.now.ordered.now.order g.C.CountySet.test c.args.state.now) (state_at c.args.input.now.graph.now.ordered.now.order g.C.CountySet.test c.in-Ok.closed) c.in-Ok-Some.codes (codes_of_sets c.args.input.now.graph.now.ordered.now.order g.C.CountySet.test c.taking.left.now) rest more (fed_by (stream_of g.S.ItemSource.left g.S.ItemSource.given c.args.feed.now c.args.from.now) all) (fed_by (stream_of g.S.ItemSource.left g.S.ItemSource.given c.taking.feed c.taking.from) all) (fed_by (stream_of g.S.ItemSource.left g.S.ItemSource.given c.next_take.new.feed c.next_take.new.from) all) (fed_by (stream_of g.S.ItemSource.left g.S.ItemSource.given c.judge_tree.new.feed c.judge_tree.new.from) all) _ c.in-Err-judge_tree.stop (c.taking.invariant.left all n.0 takes rest more readable items) (fed_twice _ _ _ i.1 n.1) (subst (λ o. TookLine (fed_by (stream_of g.S.ItemSource.left g.S.ItemSource.given c.taking.feed c.taking.from) all) (Ok (taken o)) (fed_by (stream_of g.S.ItemSource.left g.S.ItemSource.given c.next_take.new.feed c.next_take.new.from) all)) c.in-Ok-Some.field-0-is (c.in-Ok-Some.ensures.took all t.0)) (subst (IsNextTake (codes_of_sets c.args.input.now.graph.now.ordered.now.order g.C.CountySet.test c.taking.left.now)) c.as_slice.ensures c.in-Ok.ensures.taken.0) (c.in-Ok.ensures.taken.1 ∙ ap (λ z. close z (state_at c.args.input.now.graph.now.ordered.now.order g.C.CountySet.test c.args.state.now)) c.as_slice.ensures) (c.in-Err-judge_tree.ensures.judged all sees)
 
 pub judge_takes-returns-in-Err-taken_state-clause-judged : goal.judge_takes-returns-in-Err-taken_state-clause-judged
 judge_takes-returns-in-Err-taken_state-clause-judged g t c all sees takes rest more readable items =
     let n = c.in-Ok-Some.ensures.fed all sees in
     let i = c.taking.invariant.fed all n.0 in
-    take_stops c.args.input.now.round.now.language (problem_of c.args.input.now.graph.now.ordered.now.problem) (round_of c.args.input.now.round.now) (state_at c.args.input.now.graph.now.ordered.now.order g.C.CountySet.test c.args.state.now) c.in-Ok-Some.codes (codes_of_sets c.args.input.now.graph.now.ordered.now.order g.C.CountySet.test c.taking.left.now) rest more (fed_by (stream_of g.S.ItemSource.left g.S.ItemSource.given c.args.feed.now c.args.from.now) all) (fed_by (stream_of g.S.ItemSource.left g.S.ItemSource.given c.taking.feed c.taking.from) all) (fed_by (stream_of g.S.ItemSource.left g.S.ItemSource.given c.next_take.new.feed c.next_take.new.from) all) _ c.in-Err-taken_state.stop (c.taking.invariant.left all n.0 takes rest more readable items) (subst (λ o. TookLine (fed_by (stream_of g.S.ItemSource.left g.S.ItemSource.given c.taking.feed c.taking.from) all) (Ok (taken o)) (fed_by (stream_of g.S.ItemSource.left g.S.ItemSource.given c.next_take.new.feed c.next_take.new.from) all)) c.in-Ok-Some.field-0-is (c.in-Ok-Some.ensures.took all sees)) (subst (λ z. IsTakeStop (codes_of_sets c.args.input.now.graph.now.ordered.now.order g.C.CountySet.test c.taking.left.now) z c.next_take.new.feed.line c.in-Err-taken_state.stop) c.as_slice.ensures c.in-Err-taken_state.ensures.taken)
+    take_stops c.args.input.now.round.now.format (problem_of c.args.input.now.graph.now.ordered.now.problem) (round_of c.args.input.now.round.now) (state_at c.args.input.now.graph.now.ordered.now.order g.C.CountySet.test c.args.state.now) c.in-Ok-Some.codes (codes_of_sets c.args.input.now.graph.now.ordered.now.order g.C.CountySet.test c.taking.left.now) rest more (fed_by (stream_of g.S.ItemSource.left g.S.ItemSource.given c.args.feed.now c.args.from.now) all) (fed_by (stream_of g.S.ItemSource.left g.S.ItemSource.given c.taking.feed c.taking.from) all) (fed_by (stream_of g.S.ItemSource.left g.S.ItemSource.given c.next_take.new.feed c.next_take.new.from) all) _ c.in-Err-taken_state.stop (c.taking.invariant.left all n.0 takes rest more readable items) (subst (λ o. TookLine (fed_by (stream_of g.S.ItemSource.left g.S.ItemSource.given c.taking.feed c.taking.from) all) (Ok (taken o)) (fed_by (stream_of g.S.ItemSource.left g.S.ItemSource.given c.next_take.new.feed c.next_take.new.from) all)) c.in-Ok-Some.field-0-is (c.in-Ok-Some.ensures.took all sees)) (subst (λ z. IsTakeStop (codes_of_sets c.args.input.now.graph.now.ordered.now.order g.C.CountySet.test c.taking.left.now) z c.next_take.new.feed.line c.in-Err-taken_state.stop) c.as_slice.ensures c.in-Err-taken_state.ensures.taken)
 
 pub judge_takes-taking-preserved : goal.judge_takes-taking-preserved
 judge_takes-taking-preserved g t c =
@@ -46,27 +46,27 @@ judge_takes-taking-preserved g t c =
           let t = c.in-Ok-judge_tree.ensures.fed all sees in
           let n = c.in-Ok-Some.ensures.fed all t.0 in
           let i = c.taking.invariant.fed all n.0 in
-          subst (λ z. TakesLeft c.args.input.now.round.now.language (problem_of c.args.input.now.graph.now.ordered.now.problem) (round_of c.args.input.now.round.now) (state_at c.args.input.now.graph.now.ordered.now.order g.C.CountySet.test c.args.state.now) z rest more (fed_by (stream_of g.S.ItemSource.left g.S.ItemSource.given c.args.feed.now c.args.from.now) all) (fed_by (stream_of g.S.ItemSource.left g.S.ItemSource.given c.judge_tree.new.feed c.judge_tree.new.from) all) (some_takes takes (state_at c.args.input.now.graph.now.ordered.now.order g.C.CountySet.test c.args.state.now) (codes_of_sets c.args.input.now.graph.now.ordered.now.order g.C.CountySet.test c.args.groups.now) ∷ more)) behind_these.1
-          (take_on c.args.input.now.round.now.language (problem_of c.args.input.now.graph.now.ordered.now.problem) (round_of c.args.input.now.round.now) (state_at c.args.input.now.graph.now.ordered.now.order g.C.CountySet.test c.args.state.now) (state_at c.args.input.now.graph.now.ordered.now.order g.C.CountySet.test c.in-Ok.closed) c.in-Ok-Some.codes (codes_of_sets c.args.input.now.graph.now.ordered.now.order g.C.CountySet.test c.taking.left.now) rest more (fed_by (stream_of g.S.ItemSource.left g.S.ItemSource.given c.args.feed.now c.args.from.now) all) (fed_by (stream_of g.S.ItemSource.left g.S.ItemSource.given c.taking.feed c.taking.from) all) (fed_by (stream_of g.S.ItemSource.left g.S.ItemSource.given c.next_take.new.feed c.next_take.new.from) all) (fed_by (stream_of g.S.ItemSource.left g.S.ItemSource.given c.judge_tree.new.feed c.judge_tree.new.from) all) _ c.in-Ok-judge_tree.field-0 (c.taking.invariant.left all n.0 takes rest more readable items) (subst (λ o. TookLine (fed_by (stream_of g.S.ItemSource.left g.S.ItemSource.given c.taking.feed c.taking.from) all) (Ok (taken o)) (fed_by (stream_of g.S.ItemSource.left g.S.ItemSource.given c.next_take.new.feed c.next_take.new.from) all)) c.in-Ok-Some.field-0-is (c.in-Ok-Some.ensures.took all t.0)) (subst (IsNextTake (codes_of_sets c.args.input.now.graph.now.ordered.now.order g.C.CountySet.test c.taking.left.now)) c.as_slice.ensures c.in-Ok.ensures.taken.0) (c.in-Ok.ensures.taken.1 ∙ ap (λ z. close z (state_at c.args.input.now.graph.now.ordered.now.order g.C.CountySet.test c.args.state.now)) c.as_slice.ensures) (c.in-Ok-judge_tree.ensures.judged all sees));
+          subst (λ z. TakesLeft c.args.input.now.round.now.format (problem_of c.args.input.now.graph.now.ordered.now.problem) (round_of c.args.input.now.round.now) (state_at c.args.input.now.graph.now.ordered.now.order g.C.CountySet.test c.args.state.now) z rest more (fed_by (stream_of g.S.ItemSource.left g.S.ItemSource.given c.args.feed.now c.args.from.now) all) (fed_by (stream_of g.S.ItemSource.left g.S.ItemSource.given c.judge_tree.new.feed c.judge_tree.new.from) all) (some_takes takes (state_at c.args.input.now.graph.now.ordered.now.order g.C.CountySet.test c.args.state.now) (codes_of_sets c.args.input.now.graph.now.ordered.now.order g.C.CountySet.test c.args.groups.now) ∷ more)) behind_these.1
+          (take_on c.args.input.now.round.now.format (problem_of c.args.input.now.graph.now.ordered.now.problem) (round_of c.args.input.now.round.now) (state_at c.args.input.now.graph.now.ordered.now.order g.C.CountySet.test c.args.state.now) (state_at c.args.input.now.graph.now.ordered.now.order g.C.CountySet.test c.in-Ok.closed) c.in-Ok-Some.codes (codes_of_sets c.args.input.now.graph.now.ordered.now.order g.C.CountySet.test c.taking.left.now) rest more (fed_by (stream_of g.S.ItemSource.left g.S.ItemSource.given c.args.feed.now c.args.from.now) all) (fed_by (stream_of g.S.ItemSource.left g.S.ItemSource.given c.taking.feed c.taking.from) all) (fed_by (stream_of g.S.ItemSource.left g.S.ItemSource.given c.next_take.new.feed c.next_take.new.from) all) (fed_by (stream_of g.S.ItemSource.left g.S.ItemSource.given c.judge_tree.new.feed c.judge_tree.new.from) all) _ c.in-Ok-judge_tree.field-0 (c.taking.invariant.left all n.0 takes rest more readable items) (subst (λ o. TookLine (fed_by (stream_of g.S.ItemSource.left g.S.ItemSource.given c.taking.feed c.taking.from) all) (Ok (taken o)) (fed_by (stream_of g.S.ItemSource.left g.S.ItemSource.given c.next_take.new.feed c.next_take.new.from) all)) c.in-Ok-Some.field-0-is (c.in-Ok-Some.ensures.took all t.0)) (subst (IsNextTake (codes_of_sets c.args.input.now.graph.now.ordered.now.order g.C.CountySet.test c.taking.left.now)) c.as_slice.ensures c.in-Ok.ensures.taken.0) (c.in-Ok.ensures.taken.1 ∙ ap (λ z. close z (state_at c.args.input.now.graph.now.ordered.now.order g.C.CountySet.test c.args.state.now)) c.as_slice.ensures) (c.in-Ok-judge_tree.ensures.judged all sees));
     }
 
 pub judge_takes-returns-in-Err-clause-judged : goal.judge_takes-returns-in-Err-clause-judged
 judge_takes-returns-in-Err-clause-judged g t c all sees takes rest more readable items =
     let n = c.in-Err.ensures.fed all sees in
     let i = c.taking.invariant.fed all n.0 in
-    takes_unread c.args.input.now.round.now.language (problem_of c.args.input.now.graph.now.ordered.now.problem) (round_of c.args.input.now.round.now) (state_at c.args.input.now.graph.now.ordered.now.order g.C.CountySet.test c.args.state.now) (codes_of_sets c.args.input.now.graph.now.ordered.now.order g.C.CountySet.test c.taking.left.now) rest more (fed_by (stream_of g.S.ItemSource.left g.S.ItemSource.given c.args.feed.now c.args.from.now) all) (fed_by (stream_of g.S.ItemSource.left g.S.ItemSource.given c.taking.feed c.taking.from) all) (fed_by (stream_of g.S.ItemSource.left g.S.ItemSource.given c.next_take.new.feed c.next_take.new.from) all) _ c.in-Err.stop (c.taking.invariant.left all n.0 takes rest more readable items) i.1 (c.in-Err.ensures.took all sees)
+    takes_unread c.args.input.now.round.now.format (problem_of c.args.input.now.graph.now.ordered.now.problem) (round_of c.args.input.now.round.now) (state_at c.args.input.now.graph.now.ordered.now.order g.C.CountySet.test c.args.state.now) (codes_of_sets c.args.input.now.graph.now.ordered.now.order g.C.CountySet.test c.taking.left.now) rest more (fed_by (stream_of g.S.ItemSource.left g.S.ItemSource.given c.args.feed.now c.args.from.now) all) (fed_by (stream_of g.S.ItemSource.left g.S.ItemSource.given c.taking.feed c.taking.from) all) (fed_by (stream_of g.S.ItemSource.left g.S.ItemSource.given c.next_take.new.feed c.next_take.new.from) all) _ c.in-Err.stop (c.taking.invariant.left all n.0 takes rest more readable items) i.1 (c.in-Err.ensures.took all sees)
 
 pub judge_takes-returns-then-is_empty-clause-judged : goal.judge_takes-returns-then-is_empty-clause-judged
 judge_takes-returns-then-is_empty-clause-judged g t c all sees takes rest more readable items =
     let n = c.in-Ok-None.ensures.fed all sees in
     let i = c.taking.invariant.fed all n.0 in
-    mark_on c.args.input.now.round.now.language (problem_of c.args.input.now.graph.now.ordered.now.problem) (round_of c.args.input.now.round.now) (state_at c.args.input.now.graph.now.ordered.now.order g.C.CountySet.test c.args.state.now) (codes_of_sets c.args.input.now.graph.now.ordered.now.order g.C.CountySet.test c.taking.left.now) rest more (fed_by (stream_of g.S.ItemSource.left g.S.ItemSource.given c.args.feed.now c.args.from.now) all) (fed_by (stream_of g.S.ItemSource.left g.S.ItemSource.given c.taking.feed c.taking.from) all) (fed_by (stream_of g.S.ItemSource.left g.S.ItemSource.given c.next_take.new.feed c.next_take.new.from) all) _ (c.taking.invariant.left all n.0 takes rest more readable items) (subst (λ o. TookLine (fed_by (stream_of g.S.ItemSource.left g.S.ItemSource.given c.taking.feed c.taking.from) all) (Ok (taken o)) (fed_by (stream_of g.S.ItemSource.left g.S.ItemSource.given c.next_take.new.feed c.next_take.new.from) all)) c.in-Ok-None.field-0-is (c.in-Ok-None.ensures.took all sees)) (none_left _ c.args.input.now.graph.now.ordered.now.order g.C.CountySet.test c.taking.left.now (eqb-true (length c.taking.left.now) 0 (sym c.is_empty.ensures ∙ c.if-is_empty.true)))
+    mark_on c.args.input.now.round.now.format (problem_of c.args.input.now.graph.now.ordered.now.problem) (round_of c.args.input.now.round.now) (state_at c.args.input.now.graph.now.ordered.now.order g.C.CountySet.test c.args.state.now) (codes_of_sets c.args.input.now.graph.now.ordered.now.order g.C.CountySet.test c.taking.left.now) rest more (fed_by (stream_of g.S.ItemSource.left g.S.ItemSource.given c.args.feed.now c.args.from.now) all) (fed_by (stream_of g.S.ItemSource.left g.S.ItemSource.given c.taking.feed c.taking.from) all) (fed_by (stream_of g.S.ItemSource.left g.S.ItemSource.given c.next_take.new.feed c.next_take.new.from) all) _ (c.taking.invariant.left all n.0 takes rest more readable items) (subst (λ o. TookLine (fed_by (stream_of g.S.ItemSource.left g.S.ItemSource.given c.taking.feed c.taking.from) all) (Ok (taken o)) (fed_by (stream_of g.S.ItemSource.left g.S.ItemSource.given c.next_take.new.feed c.next_take.new.from) all)) c.in-Ok-None.field-0-is (c.in-Ok-None.ensures.took all sees)) (none_left _ c.args.input.now.graph.now.ordered.now.order g.C.CountySet.test c.taking.left.now (eqb-true (length c.taking.left.now) 0 (sym c.is_empty.ensures ∙ c.if-is_empty.true)))
 
 pub judge_takes-returns-in-Ok-None-clause-judged : goal.judge_takes-returns-in-Ok-None-clause-judged
 judge_takes-returns-in-Ok-None-clause-judged g t c all sees takes rest more readable items =
     let n = c.in-Ok-None.ensures.fed all sees in
     let i = c.taking.invariant.fed all n.0 in
-    mark_stops c.args.input.now.round.now.language (problem_of c.args.input.now.graph.now.ordered.now.problem) (round_of c.args.input.now.round.now) (state_at c.args.input.now.graph.now.ordered.now.order g.C.CountySet.test c.args.state.now) (codes_of_sets c.args.input.now.graph.now.ordered.now.order g.C.CountySet.test c.taking.left.now) rest more (fed_by (stream_of g.S.ItemSource.left g.S.ItemSource.given c.args.feed.now c.args.from.now) all) (fed_by (stream_of g.S.ItemSource.left g.S.ItemSource.given c.taking.feed c.taking.from) all) (fed_by (stream_of g.S.ItemSource.left g.S.ItemSource.given c.next_take.new.feed c.next_take.new.from) all) _ (c.taking.invariant.left all n.0 takes rest more readable items) (subst (λ o. TookLine (fed_by (stream_of g.S.ItemSource.left g.S.ItemSource.given c.taking.feed c.taking.from) all) (Ok (taken o)) (fed_by (stream_of g.S.ItemSource.left g.S.ItemSource.given c.next_take.new.feed c.next_take.new.from) all)) c.in-Ok-None.field-0-is (c.in-Ok-None.ensures.took all sees)) (some_left _ c.args.input.now.graph.now.ordered.now.order g.C.CountySet.test c.taking.left.now (λ e. false≢true (sym c.if-is_empty.false ∙ c.is_empty.ensures ∙ eq-eqb (length c.taking.left.now) 0 e)))
+    mark_stops c.args.input.now.round.now.format (problem_of c.args.input.now.graph.now.ordered.now.problem) (round_of c.args.input.now.round.now) (state_at c.args.input.now.graph.now.ordered.now.order g.C.CountySet.test c.args.state.now) (codes_of_sets c.args.input.now.graph.now.ordered.now.order g.C.CountySet.test c.taking.left.now) rest more (fed_by (stream_of g.S.ItemSource.left g.S.ItemSource.given c.args.feed.now c.args.from.now) all) (fed_by (stream_of g.S.ItemSource.left g.S.ItemSource.given c.taking.feed c.taking.from) all) (fed_by (stream_of g.S.ItemSource.left g.S.ItemSource.given c.next_take.new.feed c.next_take.new.from) all) _ (c.taking.invariant.left all n.0 takes rest more readable items) (subst (λ o. TookLine (fed_by (stream_of g.S.ItemSource.left g.S.ItemSource.given c.taking.feed c.taking.from) all) (Ok (taken o)) (fed_by (stream_of g.S.ItemSource.left g.S.ItemSource.given c.next_take.new.feed c.next_take.new.from) all)) c.in-Ok-None.field-0-is (c.in-Ok-None.ensures.took all sees)) (some_left _ c.args.input.now.graph.now.ordered.now.order g.C.CountySet.test c.taking.left.now (λ e. false≢true (sym c.if-is_empty.false ∙ c.is_empty.ensures ∙ eq-eqb (length c.taking.left.now) 0 e)))
 
 pub judge_tree-returns-in-Err-judge_takes-clause-judged : goal.judge_tree-returns-in-Err-judge_takes-clause-judged
 judge_tree-returns-in-Err-judge_takes-clause-judged g t c all sees tree rest more readable items =
@@ -114,26 +114,26 @@ pub judge_tree-returns-in-Stuck-clause-judged : goal.judge_tree-returns-in-Stuck
 judge_tree-returns-in-Stuck-clause-judged g t c all sees tree rest more readable items =
     let n = c.in-Ok.ensures.fed all sees in
     let i = c.branching.invariant.fed all n.0 in
-    stuck_left c.args.input.now.round.now.language (problem_of c.args.input.now.graph.now.ordered.now.problem) (round_of c.args.input.now.round.now) (state_at c.args.input.now.graph.now.ordered.now.order g.C.CountySet.test c.branching.state) c.in-Stuck.county rest more (fed_by (stream_of g.S.ItemSource.left g.S.ItemSource.given c.args.feed.now c.args.from.now) all) (fed_by (stream_of g.S.ItemSource.left g.S.ItemSource.given c.branching.feed c.branching.from) all) (fed_by (stream_of g.S.ItemSource.left g.S.ItemSource.given c.next_opening.new.feed c.next_opening.new.from) all) _ c.judge_stuck_leaf.result (c.branching.invariant.left all n.0 tree rest more readable items) i.1 (subst (λ o. TookLine (fed_by (stream_of g.S.ItemSource.left g.S.ItemSource.given c.branching.feed c.branching.from) all) (Ok (item.Opens o)) (fed_by (stream_of g.S.ItemSource.left g.S.ItemSource.given c.next_opening.new.feed c.next_opening.new.from) all)) c.in-Stuck.is (c.in-Ok.ensures.took all sees)) n.1.limit (c.judge_stuck_leaf.ensures (fed_by (stream_of g.S.ItemSource.left g.S.ItemSource.given c.next_opening.new.feed c.next_opening.new.from) all) refl)
+    stuck_left c.args.input.now.round.now.format (problem_of c.args.input.now.graph.now.ordered.now.problem) (round_of c.args.input.now.round.now) (state_at c.args.input.now.graph.now.ordered.now.order g.C.CountySet.test c.branching.state) c.in-Stuck.county rest more (fed_by (stream_of g.S.ItemSource.left g.S.ItemSource.given c.args.feed.now c.args.from.now) all) (fed_by (stream_of g.S.ItemSource.left g.S.ItemSource.given c.branching.feed c.branching.from) all) (fed_by (stream_of g.S.ItemSource.left g.S.ItemSource.given c.next_opening.new.feed c.next_opening.new.from) all) _ c.judge_stuck_leaf.result (c.branching.invariant.left all n.0 tree rest more readable items) i.1 (subst (λ o. TookLine (fed_by (stream_of g.S.ItemSource.left g.S.ItemSource.given c.branching.feed c.branching.from) all) (Ok (item.Opens o)) (fed_by (stream_of g.S.ItemSource.left g.S.ItemSource.given c.next_opening.new.feed c.next_opening.new.from) all)) c.in-Stuck.is (c.in-Ok.ensures.took all sees)) n.1.limit (c.judge_stuck_leaf.ensures (fed_by (stream_of g.S.ItemSource.left g.S.ItemSource.given c.next_opening.new.feed c.next_opening.new.from) all) refl)
 
 pub judge_tree-returns-in-Seats-clause-judged : goal.judge_tree-returns-in-Seats-clause-judged
 judge_tree-returns-in-Seats-clause-judged g t c all sees tree rest more readable items =
     let n = c.in-Ok.ensures.fed all sees in
     let i = c.branching.invariant.fed all n.0 in
-    seats_left c.args.input.now.round.now.language (problem_of c.args.input.now.graph.now.ordered.now.problem) (round_of c.args.input.now.round.now) (state_at c.args.input.now.graph.now.ordered.now.order g.C.CountySet.test c.branching.state) rest more (fed_by (stream_of g.S.ItemSource.left g.S.ItemSource.given c.args.feed.now c.args.from.now) all) (fed_by (stream_of g.S.ItemSource.left g.S.ItemSource.given c.branching.feed c.branching.from) all) (fed_by (stream_of g.S.ItemSource.left g.S.ItemSource.given c.next_opening.new.feed c.next_opening.new.from) all) _ c.judge_seats_leaf.result (c.branching.invariant.left all n.0 tree rest more readable items) i.1 (subst (λ o. TookLine (fed_by (stream_of g.S.ItemSource.left g.S.ItemSource.given c.branching.feed c.branching.from) all) (Ok (item.Opens o)) (fed_by (stream_of g.S.ItemSource.left g.S.ItemSource.given c.next_opening.new.feed c.next_opening.new.from) all)) c.in-Seats.is (c.in-Ok.ensures.took all sees)) n.1.limit (c.judge_seats_leaf.ensures (fed_by (stream_of g.S.ItemSource.left g.S.ItemSource.given c.next_opening.new.feed c.next_opening.new.from) all) refl)
+    seats_left c.args.input.now.round.now.format (problem_of c.args.input.now.graph.now.ordered.now.problem) (round_of c.args.input.now.round.now) (state_at c.args.input.now.graph.now.ordered.now.order g.C.CountySet.test c.branching.state) rest more (fed_by (stream_of g.S.ItemSource.left g.S.ItemSource.given c.args.feed.now c.args.from.now) all) (fed_by (stream_of g.S.ItemSource.left g.S.ItemSource.given c.branching.feed c.branching.from) all) (fed_by (stream_of g.S.ItemSource.left g.S.ItemSource.given c.next_opening.new.feed c.next_opening.new.from) all) _ c.judge_seats_leaf.result (c.branching.invariant.left all n.0 tree rest more readable items) i.1 (subst (λ o. TookLine (fed_by (stream_of g.S.ItemSource.left g.S.ItemSource.given c.branching.feed c.branching.from) all) (Ok (item.Opens o)) (fed_by (stream_of g.S.ItemSource.left g.S.ItemSource.given c.next_opening.new.feed c.next_opening.new.from) all)) c.in-Seats.is (c.in-Ok.ensures.took all sees)) n.1.limit (c.judge_seats_leaf.ensures (fed_by (stream_of g.S.ItemSource.left g.S.ItemSource.given c.next_opening.new.feed c.next_opening.new.from) all) refl)
 
 pub judge_tree-returns-in-Bound-clause-judged : goal.judge_tree-returns-in-Bound-clause-judged
 judge_tree-returns-in-Bound-clause-judged g t c all sees tree rest more readable items =
     let t = c.judge_bound_leaf.ensures.fed all sees in
     let n = c.in-Ok.ensures.fed all t.0 in
     let i = c.branching.invariant.fed all n.0 in
-    bound_left c.args.input.now.round.now.language (problem_of c.args.input.now.graph.now.ordered.now.problem) (round_of c.args.input.now.round.now) (state_at c.args.input.now.graph.now.ordered.now.order g.C.CountySet.test c.branching.state) c.in-Bound.count rest more (fed_by (stream_of g.S.ItemSource.left g.S.ItemSource.given c.args.feed.now c.args.from.now) all) (fed_by (stream_of g.S.ItemSource.left g.S.ItemSource.given c.branching.feed c.branching.from) all) (fed_by (stream_of g.S.ItemSource.left g.S.ItemSource.given c.next_opening.new.feed c.next_opening.new.from) all) (fed_by (stream_of g.S.ItemSource.left g.S.ItemSource.given c.judge_bound_leaf.new.feed c.judge_bound_leaf.new.from) all) _ c.judge_bound_leaf.result (c.branching.invariant.left all n.0 tree rest more readable items) i.1 (subst (λ o. TookLine (fed_by (stream_of g.S.ItemSource.left g.S.ItemSource.given c.branching.feed c.branching.from) all) (Ok (item.Opens o)) (fed_by (stream_of g.S.ItemSource.left g.S.ItemSource.given c.next_opening.new.feed c.next_opening.new.from) all)) c.in-Bound.is (c.in-Ok.ensures.took all t.0)) n.1.limit (c.judge_bound_leaf.ensures.judged all sees)
+    bound_left c.args.input.now.round.now.format (problem_of c.args.input.now.graph.now.ordered.now.problem) (round_of c.args.input.now.round.now) (state_at c.args.input.now.graph.now.ordered.now.order g.C.CountySet.test c.branching.state) c.in-Bound.count rest more (fed_by (stream_of g.S.ItemSource.left g.S.ItemSource.given c.args.feed.now c.args.from.now) all) (fed_by (stream_of g.S.ItemSource.left g.S.ItemSource.given c.branching.feed c.branching.from) all) (fed_by (stream_of g.S.ItemSource.left g.S.ItemSource.given c.next_opening.new.feed c.next_opening.new.from) all) (fed_by (stream_of g.S.ItemSource.left g.S.ItemSource.given c.judge_bound_leaf.new.feed c.judge_bound_leaf.new.from) all) _ c.judge_bound_leaf.result (c.branching.invariant.left all n.0 tree rest more readable items) i.1 (subst (λ o. TookLine (fed_by (stream_of g.S.ItemSource.left g.S.ItemSource.given c.branching.feed c.branching.from) all) (Ok (item.Opens o)) (fed_by (stream_of g.S.ItemSource.left g.S.ItemSource.given c.next_opening.new.feed c.next_opening.new.from) all)) c.in-Bound.is (c.in-Ok.ensures.took all t.0)) n.1.limit (c.judge_bound_leaf.ensures.judged all sees)
 
 pub judge_tree-returns-in-Err-clause-judged : goal.judge_tree-returns-in-Err-clause-judged
 judge_tree-returns-in-Err-clause-judged g t c all sees tree rest more readable items =
     let n = c.in-Err.ensures.fed all sees in
     let i = c.branching.invariant.fed all n.0 in
-    tree_unread c.args.input.now.round.now.language (problem_of c.args.input.now.graph.now.ordered.now.problem) (round_of c.args.input.now.round.now) (state_at c.args.input.now.graph.now.ordered.now.order g.C.CountySet.test c.branching.state) rest more (fed_by (stream_of g.S.ItemSource.left g.S.ItemSource.given c.args.feed.now c.args.from.now) all) (fed_by (stream_of g.S.ItemSource.left g.S.ItemSource.given c.branching.feed c.branching.from) all) (fed_by (stream_of g.S.ItemSource.left g.S.ItemSource.given c.next_opening.new.feed c.next_opening.new.from) all) _ c.in-Err.stop (c.branching.invariant.left all n.0 tree rest more readable items) i.1 (c.in-Err.ensures.took all sees)
+    tree_unread c.args.input.now.round.now.format (problem_of c.args.input.now.graph.now.ordered.now.problem) (round_of c.args.input.now.round.now) (state_at c.args.input.now.graph.now.ordered.now.order g.C.CountySet.test c.branching.state) rest more (fed_by (stream_of g.S.ItemSource.left g.S.ItemSource.given c.args.feed.now c.args.from.now) all) (fed_by (stream_of g.S.ItemSource.left g.S.ItemSource.given c.branching.feed c.branching.from) all) (fed_by (stream_of g.S.ItemSource.left g.S.ItemSource.given c.next_opening.new.feed c.next_opening.new.from) all) _ c.in-Err.stop (c.branching.invariant.left all n.0 tree rest more readable items) i.1 (c.in-Err.ensures.took all sees)
 
 pub judge_takes-taking-init : goal.judge_takes-taking-init
 judge_takes-taking-init g t c = record {

@@ -22,10 +22,10 @@ invariant-judge_takes-taking g l = record {
   fed : FeedsThrough (stream_of g.S.ItemSource.left g.S.ItemSource.given l.fn.feed l.fn.from) (stream_of g.S.ItemSource.left g.S.ItemSource.given l.feed l.from) Fed;
   groups : All (IsClosable g.C.CountySet.test l.state) l.left;
   left : ForEach (stream_of g.S.ItemSource.left g.S.ItemSource.given l.fn.feed l.fn.from) (stream_of g.S.ItemSource.left g.S.ItemSource.given l.feed l.from) (λ a b. (takes : Takes) (rest : List ItemValue) (more : List Open)
-      → AreReadable l.input.round.now.language takes
+      → AreReadable l.input.round.now.format takes
       → a.course.items ≡ items_to_mark takes ++ rest
       → (others : Takes)
-      × AreReadable l.input.round.now.language others
+      × AreReadable l.input.round.now.format others
       × (b.course.items ≡ items_to_mark others ++ rest)
       × Reaches
       (problem_of l.input.graph.now.ordered.now.problem)
@@ -45,10 +45,10 @@ invariant-judge_tree-branching g l = record {
   fed : FeedsThrough (stream_of g.S.ItemSource.left g.S.ItemSource.given l.fn.feed l.fn.from) (stream_of g.S.ItemSource.left g.S.ItemSource.given l.feed l.from) Fed;
   placed : IsPlaced (length l.input.graph.now.ordered.now.order) g.C.CountySet.test l.state;
   left : ForEach (stream_of g.S.ItemSource.left g.S.ItemSource.given l.fn.feed l.fn.from) (stream_of g.S.ItemSource.left g.S.ItemSource.given l.feed l.from) (λ a b. (tree : Tree) (rest : List ItemValue) (more : List Open)
-      → IsReadable l.input.round.now.language tree
+      → IsReadable l.input.round.now.format tree
       → a.course.items ≡ items_of_tree tree ++ rest
       → (raised : Tree)
-      × IsReadable l.input.round.now.language raised
+      × IsReadable l.input.round.now.format raised
       × (b.course.items ≡ items_of_tree raised ++ rest)
       × Reaches
       (problem_of l.input.graph.now.ordered.now.problem)

@@ -13,7 +13,7 @@ overflow_cast-levels c =
 
 pub returns-clause-stacked : goal.returns-clause-stacked
 returns-clause-stacked c =
-    let language = c.args.language in
+    let format = c.args.format in
     let order = c.in_ok-order.order in
     let same : length c.as_slice.result.now ≡ length order = ap length c.as_slice.ensures in
-    rw (sym same) (stacked_four c.args.stack.now.items c.want_after_order.new.stack.items want.End (want.Tree language (length c.as_slice.result.now)) want.Target want.Limit c.want_after_order.ensures)
+    rw (sym same) (stacked_four c.args.stack.now.items c.want_after_order.new.stack.items want.End (want.Tree format (length c.as_slice.result.now)) want.Target want.Limit c.want_after_order.ensures)

@@ -5,8 +5,8 @@ use Rattle.certificate_lines.proofs.line_items.take_item.Goals as goal
 
 pub returns-in-Some-clause-stacked : goal.returns-in-Some-clause-stacked
 returns-in-Some-clause-stacked c =
-    stacked_two c.args.stack.now.items c.want_after_take.new.stack.items (want.Takes c.args.language c.args.levels) (want.Tree c.args.language (c.args.levels - 1)) c.want_after_take.ensures
+    stacked_two c.args.stack.now.items c.want_after_take.new.stack.items (want.Takes c.args.format c.args.levels) (want.Tree c.args.format (c.args.levels - 1)) c.want_after_take.ensures
 
 pub returns-in-None-clause-stacked : goal.returns-in-None-clause-stacked
 returns-in-None-clause-stacked c =
-    rw (← c.levels_after.ensures) (stacked_one c.args.stack.now.items c.push.new.self.items (want.Tree c.args.language c.levels_after.result) c.push.ensures.items)
+    rw (← c.levels_after.ensures) (stacked_one c.args.stack.now.items c.push.new.self.items (want.Tree c.args.format c.levels_after.result) c.push.ensures.items)

@@ -2,7 +2,7 @@ use Rattle.certificate_text.proofs.PartsTested.{plain_head, head_tested}
 use Rattle.certificate_text.proofs.fitting.head_fits.Goals as goal
 
 pub returns-in-None : goal.returns-in-None
-returns-in-None c language = rw c.in-None.is (plain_head language)
+returns-in-None c format = rw c.in-None.is (plain_head format)
 
 pub returns-in-Some : goal.returns-in-Some
-returns-in-Some c language = rw c.in-Some.is (head_tested language c.in-Some.window c.is_in_range.result c.is_in_range.ensures)
+returns-in-Some c format = rw c.in-Some.is (head_tested format c.in-Some.window c.is_in_range.result c.is_in_range.ensures)

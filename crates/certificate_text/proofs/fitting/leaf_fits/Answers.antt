@@ -10,12 +10,12 @@ use Rattle.certificate_text.proofs.TreeFits.{seats_fitting}
 use Rattle.certificate_text.proofs.fitting.leaf_fits.Goals as goal
 
 pub returns-in-Stuck : goal.returns-in-Stuck
-returns-in-Stuck c language levels = rw c.in-Stuck.is (stuck_tested language levels c.in-Stuck.county c.is_code.result c.is_code.ensures)
+returns-in-Stuck c format levels = rw c.in-Stuck.is (stuck_tested format levels c.in-Stuck.county c.is_code.result c.is_code.ensures)
 
 pub returns-in-Seats : goal.returns-in-Seats
-returns-in-Seats c language levels = rw c.in-Seats.is (seats_fitting language levels)
+returns-in-Seats c format levels = rw c.in-Seats.is (seats_fitting format levels)
 
 pub returns-in-Bound : goal.returns-in-Bound
-returns-in-Bound c language levels =
+returns-in-Bound c format levels =
     rw c.in-Bound.is
-    (subst (λ (l : List Allowance). Tests (want.Tree language levels ∷ []) (leaf_items (bound (map allowance_of l))) [] c.bound_fits.result) c.deref.ensures.value (c.bound_fits.ensures language levels))
+    (subst (λ (l : List Allowance). Tests (want.Tree format levels ∷ []) (leaf_items (bound (map allowance_of l))) [] c.bound_fits.result) c.deref.ensures.value (c.bound_fits.ensures format levels))

@@ -1,7 +1,7 @@
 use Rattle.std.proofs.Common.{◌≡◌, ◌∙◌, ◌-◌, ◌++◌, ◌∷◌, [], ℕ, List, length, take, ap, sym, subst, refl, arith, append-nil, length-append}
 use Rattle.std.proofs.Math.Seq.{take-append_seam}
 use Rattle.std.proofs.lemmas.Result.{err_from_is_err_and}
-use Rattle.certificate_data.specs.declared.language.Language.{Language}
+use Rattle.certificate_data.specs.declared.format.Format.{Format}
 use Rattle.certificate_data.specs.Tree.{Tree as TreeValue}
 use Rattle.certificate_lines.specs.Rest.{Rest}
 use Rattle.certificate_lines.specs.Reading.{ReadsItems, items_at}
@@ -17,9 +17,9 @@ use Rattle.certificate_text.proofs.OneSpelling.{one_front, one_tree}
 use Rattle.certificate_text.proofs.reading.front_tree.Goals as goal
 
 -- the items that were read spell the front before what is left
-front_spelled : (language : Language) (counties : ℕ) (t : TreeValue) (old new : Rest) → ReadsItems (want.Tree language counties ∷ []) old (items_of_tree t) [] new → IsTreeSpelling language counties (text_of_items (items_of_tree t)) t
-front_spelled language counties t old new read = record {
-  fits = subst (λ (l : List Item). AllFit (want.Tree language counties ∷ []) l) (append-nil (items_of_tree t)) (read.fits [] [] tt);
+front_spelled : (format : Format) (counties : ℕ) (t : TreeValue) (old new : Rest) → ReadsItems (want.Tree format counties ∷ []) old (items_of_tree t) [] new → IsTreeSpelling format counties (text_of_items (items_of_tree t)) t
+front_spelled format counties t old new read = record {
+  fits = subst (λ (l : List Item). AllFit (want.Tree format counties ∷ []) l) (append-nil (items_of_tree t)) (read.fits [] [] tt);
   text_is = refl;
 }
 
@@ -35,7 +35,7 @@ returns-clause-found c =
     ap (λ (r : Rest). r.text) (sym c.new-cursor.ensures) ∙ read.text ∙ ap (λ (l : List ℕ). front ++ l) (sym c.rest.ensures) in
     let taken : take (length c.args.text.now - length c.rest.result.now) c.args.text.now ≡ front =
     ap (λ (n : ℕ). take n c.args.text.now) (place_is c.args.text.now front c.rest.result.now whole) ∙ ap (λ (l : List ℕ). take (length front) l) whole ∙ take-append_seam front c.rest.result.now in
-    subst (λ (l : List ℕ). IsTreeSpelling c.args.language c.args.counties l (tree_of c.in_ok-tree.tree)) (sym taken) (front_spelled c.args.language c.args.counties (tree_of c.in_ok-tree.tree) _ _ read)
+    subst (λ (l : List ℕ). IsTreeSpelling c.args.format c.args.counties l (tree_of c.in_ok-tree.tree)) (sym taken) (front_spelled c.args.format c.args.counties (tree_of c.in_ok-tree.tree) _ _ read)
 
 pub returns-clause-only : goal.returns-clause-only
 returns-clause-only c front rest t begins is =
@@ -44,9 +44,9 @@ returns-clause-only c front rest t begins is =
     let own = text_of_items (items_of_tree tree) in
     let whole : c.args.text.now ≡ own ++ c.rest.result.now =
     ap (λ (r : Rest). r.text) (sym c.new-cursor.ensures) ∙ read.text ∙ ap (λ (l : List ℕ). own ++ l) (sym c.rest.ensures) in
-    let spelled = front_spelled c.args.language c.args.counties tree _ _ read in
-    let same : own ≡ front = one_front c.args.language c.args.counties own c.rest.result.now front rest tree t (sym whole ∙ begins) spelled is in
-    let tree_is : tree ≡ t = one_tree c.args.language c.args.counties front tree t (subst (λ (l : List ℕ). IsTreeSpelling c.args.language c.args.counties l tree) same spelled) is in
+    let spelled = front_spelled c.args.format c.args.counties tree _ _ read in
+    let same : own ≡ front = one_front c.args.format c.args.counties own c.rest.result.now front rest tree t (sym whole ∙ begins) spelled is in
+    let tree_is : tree ≡ t = one_tree c.args.format c.args.counties front tree t (subst (λ (l : List ℕ). IsTreeSpelling c.args.format c.args.counties l tree) same spelled) is in
     let place : length c.args.text.now - length c.rest.result.now ≡ length front = place_is c.args.text.now own c.rest.result.now whole ∙ ap length same in
     cc (tree_is, place)
 
@@ -54,5 +54,5 @@ pub returns-in_err-tree-clause-only : goal.returns-in_err-tree-clause-only
 returns-in_err-tree-clause-only c front rest t begins is =
     let p = err_from_is_err_and c.from_residual.result c.from_residual.ensures.1 in
     let here = c.in_err-tree.ensures in
-    rw (p.1, p.2) (memory_refused (want.Tree c.args.language c.args.counties ∷ []) c.args.text.now front rest (items_of_tree t) _ is.fits is.text_is begins
-    (λ mem more. ap (items_at (want.Tree c.args.language c.args.counties ∷ more)) (sym c.new-cursor.ensures) ∙ here.read mem more))
+    rw (p.1, p.2) (memory_refused (want.Tree c.args.format c.args.counties ∷ []) c.args.text.now front rest (items_of_tree t) _ is.fits is.text_is begins
+    (λ mem more. ap (items_at (want.Tree c.args.format c.args.counties ∷ more)) (sym c.new-cursor.ensures) ∙ here.read mem more))

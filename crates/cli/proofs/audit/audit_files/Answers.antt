@@ -5,7 +5,7 @@ use Rattle.grouping_laws.specs.Grouping.{Grouping}
 use Rattle.pl94_counties.specs.declared.blocks.Block.{Block}
 use Rattle.baf_auditor.specs.declared.assignments.Assignment.{Assignment}
 use Rattle.cli_words.specs.declared.words.AuditWords.{AuditWords}
-use Rattle.cli_shelves.specs.Files.{Files}
+use Rattle.cli_file_stores.specs.Files.{Files}
 use Rattle.cli_answers.specs.Answers.{Comes, AnswerMeets}
 use Rattle.cli_runs.specs.Course.{Course, ◌>>=◌}
 use Rattle.cli_runs.specs.ProblemCourse.{problem_course, grouping_of}
@@ -36,11 +36,11 @@ with_problem files words v = blocks_of files words.problem.common >>= with_block
 pub returns-in_err-blocks-clause-course : goal.returns-in_err-blocks-clause-course
 unfolding seen with_grouping with_blocks with_problem
 returns-in_err-blocks-clause-course g c =
-    let files = g.H.Shelf.contents c.args.shelf.now in
+    let files = g.H.FileStore.contents c.args.file_store.now in
     let words = c.args.words in
-    let before = g.H.Shelf.history c.args.shelf.now in
-    let built = g.H.Shelf.history c.load_problem.new.shelf in
-    let after = g.H.Shelf.history c.load_blocks.new.shelf in
+    let before = g.H.FileStore.history c.args.file_store.now in
+    let built = g.H.FileStore.history c.load_problem.new.file_store in
+    let after = g.H.FileStore.history c.load_blocks.new.file_store in
     let v = c.in_ok-problem.problem in
     let met = subst (λ (f : Option Files). AnswerMeets c.in_err-blocks.field-0.0 (λ a. blocks_of f words.problem.common built after (Err a))) c.load_problem.ensures.same c.in_err-blocks.ensures.course in
     went_on seen c.from_residual-in_err-blocks.result (problem_course files words.problem) (with_problem files words) v before built after c.in_ok-problem.ensures.course
@@ -49,16 +49,16 @@ returns-in_err-blocks-clause-course g c =
 pub returns-in_err-grouping-clause-course : goal.returns-in_err-grouping-clause-course
 unfolding seen with_grouping with_blocks with_problem
 returns-in_err-grouping-clause-course g c =
-    let files = g.H.Shelf.contents c.args.shelf.now in
+    let files = g.H.FileStore.contents c.args.file_store.now in
     let words = c.args.words in
-    let before = g.H.Shelf.history c.args.shelf.now in
-    let built = g.H.Shelf.history c.load_problem.new.shelf in
-    let read = g.H.Shelf.history c.load_blocks.new.shelf in
-    let after = g.H.Shelf.history c.load_grouping.new.shelf in
+    let before = g.H.FileStore.history c.args.file_store.now in
+    let built = g.H.FileStore.history c.load_problem.new.file_store in
+    let read = g.H.FileStore.history c.load_blocks.new.file_store in
+    let after = g.H.FileStore.history c.load_grouping.new.file_store in
     let v = c.in_ok-problem.problem in
     let blocks = c.in_ok-blocks.blocks.items in
     let listed = subst (λ (f : Option Files). blocks_of f words.problem.common built read (Ok blocks)) c.load_problem.ensures.same c.in_ok-blocks.ensures.course in
-    let same = subst (λ (f : Option Files). g.H.Shelf.contents c.load_blocks.new.shelf ≡ f) c.load_problem.ensures.same c.load_blocks.ensures.same in
+    let same = subst (λ (f : Option Files). g.H.FileStore.contents c.load_blocks.new.file_store ≡ f) c.load_problem.ensures.same c.load_blocks.ensures.same in
     let met = subst (λ (f : Option Files). AnswerMeets c.in_err-grouping.field-0.0 (λ a. grouping_of f words.grouping.now read after (Err a))) same c.in_err-grouping.ensures.course in
     went_on seen c.from_residual-in_err-grouping.result (problem_course files words.problem) (with_problem files words) v before built after c.in_ok-problem.ensures.course
     (went_on seen c.from_residual-in_err-grouping.result (blocks_of files words.problem.common) (with_blocks files words v) blocks built read after listed
@@ -67,20 +67,20 @@ returns-in_err-grouping-clause-course g c =
 pub returns-in_err-lines-clause-course : goal.returns-in_err-lines-clause-course
 unfolding seen with_grouping with_blocks with_problem
 returns-in_err-lines-clause-course g c =
-    let files = g.H.Shelf.contents c.args.shelf.now in
+    let files = g.H.FileStore.contents c.args.file_store.now in
     let words = c.args.words in
-    let before = g.H.Shelf.history c.args.shelf.now in
-    let built = g.H.Shelf.history c.load_problem.new.shelf in
-    let read = g.H.Shelf.history c.load_blocks.new.shelf in
-    let then = g.H.Shelf.history c.load_grouping.new.shelf in
-    let after = g.H.Shelf.history c.load_assignments.new.shelf in
+    let before = g.H.FileStore.history c.args.file_store.now in
+    let built = g.H.FileStore.history c.load_problem.new.file_store in
+    let read = g.H.FileStore.history c.load_blocks.new.file_store in
+    let then = g.H.FileStore.history c.load_grouping.new.file_store in
+    let after = g.H.FileStore.history c.load_assignments.new.file_store in
     let v = c.in_ok-problem.problem in
     let blocks = c.in_ok-blocks.blocks.items in
     let groups = c.in_ok-grouping.grouping.groups.items in
     let listed = subst (λ (f : Option Files). blocks_of f words.problem.common built read (Ok blocks)) c.load_problem.ensures.same c.in_ok-blocks.ensures.course in
-    let same = subst (λ (f : Option Files). g.H.Shelf.contents c.load_blocks.new.shelf ≡ f) c.load_problem.ensures.same c.load_blocks.ensures.same in
+    let same = subst (λ (f : Option Files). g.H.FileStore.contents c.load_blocks.new.file_store ≡ f) c.load_problem.ensures.same c.load_blocks.ensures.same in
     let grouped = subst (λ (f : Option Files). grouping_of f words.grouping.now read then (Ok groups)) same c.in_ok-grouping.ensures.course in
-    let still = subst (λ (f : Option Files). g.H.Shelf.contents c.load_grouping.new.shelf ≡ f) same c.load_grouping.ensures.same in
+    let still = subst (λ (f : Option Files). g.H.FileStore.contents c.load_grouping.new.file_store ≡ f) same c.load_grouping.ensures.same in
     let met = subst (λ (f : Option Files). AnswerMeets c.in_err-lines.field-0.0 (λ a. plan_assignments f words.assignments.now then after (Err a))) still c.in_err-lines.ensures.course in
     went_on seen c.from_residual-in_err-lines.result (problem_course files words.problem) (with_problem files words) v before built after c.in_ok-problem.ensures.course
     (went_on seen c.from_residual-in_err-lines.result (blocks_of files words.problem.common) (with_blocks files words v) blocks built read after listed
@@ -90,21 +90,21 @@ returns-in_err-lines-clause-course g c =
 pub returns-clause-course : goal.returns-clause-course
 unfolding seen with_grouping with_blocks with_problem
 returns-clause-course g c =
-    let files = g.H.Shelf.contents c.args.shelf.now in
+    let files = g.H.FileStore.contents c.args.file_store.now in
     let words = c.args.words in
-    let before = g.H.Shelf.history c.args.shelf.now in
-    let built = g.H.Shelf.history c.load_problem.new.shelf in
-    let read = g.H.Shelf.history c.load_blocks.new.shelf in
-    let then = g.H.Shelf.history c.load_grouping.new.shelf in
-    let after = g.H.Shelf.history c.load_assignments.new.shelf in
+    let before = g.H.FileStore.history c.args.file_store.now in
+    let built = g.H.FileStore.history c.load_problem.new.file_store in
+    let read = g.H.FileStore.history c.load_blocks.new.file_store in
+    let then = g.H.FileStore.history c.load_grouping.new.file_store in
+    let after = g.H.FileStore.history c.load_assignments.new.file_store in
     let v = c.in_ok-problem.problem in
     let blocks = c.in_ok-blocks.blocks.items in
     let groups = c.in_ok-grouping.grouping.groups.items in
     let lines = c.in_ok-lines.lines.items in
     let listed = subst (λ (f : Option Files). blocks_of f words.problem.common built read (Ok blocks)) c.load_problem.ensures.same c.in_ok-blocks.ensures.course in
-    let same = subst (λ (f : Option Files). g.H.Shelf.contents c.load_blocks.new.shelf ≡ f) c.load_problem.ensures.same c.load_blocks.ensures.same in
+    let same = subst (λ (f : Option Files). g.H.FileStore.contents c.load_blocks.new.file_store ≡ f) c.load_problem.ensures.same c.load_blocks.ensures.same in
     let grouped = subst (λ (f : Option Files). grouping_of f words.grouping.now read then (Ok groups)) same c.in_ok-grouping.ensures.course in
-    let still = subst (λ (f : Option Files). g.H.Shelf.contents c.load_grouping.new.shelf ≡ f) same c.load_grouping.ensures.same in
+    let still = subst (λ (f : Option Files). g.H.FileStore.contents c.load_grouping.new.file_store ≡ f) same c.load_grouping.ensures.same in
     let assigned = subst (λ (f : Option Files). plan_assignments f words.assignments.now then after (Ok lines)) still c.in_ok-lines.ensures.course in
     let asked : c.is_some-asked.result ≡ is_some words.districts = search rules in
     let by_asked = subst (λ (b : Bool). Comes seen c.audit_plan.result (audit_step b v groups c.deref.result.now c.deref-2.result.now after after)) asked (c.audit_plan.ensures after) in

@@ -1,13 +1,13 @@
 use Rattle.std.proofs.Common.{refl, length, map}
 use Rattle.share_board.specs.Events.{event_of}
-use Rattle.cli_runs.specs.BoardCourse.{language_of, events_in}
+use Rattle.cli_runs.specs.BoardCourse.{format_of, events_in}
 use Rattle.cli_runs.proofs.RunLemmas.{read_file}
 use Rattle.cli.proofs.board_files.load_events.Goals as goal
 
 pub returns-clause-course : goal.returns-clause-course
 returns-clause-course g c =
-    let files = g.H.Shelf.contents c.args.shelf.now in
-    let before = g.H.Shelf.history c.args.shelf.now in
-    let after = g.H.Shelf.history c.load.new.shelf in
+    let files = g.H.FileStore.contents c.args.file_store.now in
+    let before = g.H.FileStore.history c.args.file_store.now in
+    let after = g.H.FileStore.history c.load.new.file_store in
     read_file (λ v. map event_of v.items) c.events_from.result files c.args.name.now c.in_ok-text.text.items c.in_ok-text.text.items
-    (events_in (language_of c.args.words) (length c.args.problem.now.counties)) before after c.in_ok-text.ensures.course refl (c.events_from.ensures after)
+    (events_in (format_of c.args.words) (length c.args.problem.now.counties)) before after c.in_ok-text.ensures.course refl (c.events_from.ensures after)

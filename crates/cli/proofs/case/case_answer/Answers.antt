@@ -1,6 +1,6 @@
 use Rattle.std.proofs.Common.{◌≡◌, true, rules}
 use Rattle.field_lines.specs.RawPieces.{raw_lines}
-use Rattle.cli_shelves.specs.Memory.{files_of}
+use Rattle.cli_file_stores.specs.Memory.{files_of}
 use Rattle.cli.specs.Case.{case_files, first_case_line, is_case}
 use Rattle.cli.proofs.CaseLemmas.{case_over}
 use Rattle.cli.proofs.case.case_answer.Goals as goal

@@ -1,5 +1,5 @@
 use Rattle.std.proofs.Common.{◌≡◌, ◌++◌, length, option_map}
-use Rattle.cli_shelves.specs.Memory.{files_of}
+use Rattle.cli_file_stores.specs.Memory.{files_of}
 use Rattle.cli.specs.Case.{are_named, with_open, parts_of}
 use Rattle.cli.proofs.case.files_in.Given as goal
 

@@ -1,5 +1,5 @@
 use Rattle.std.proofs.Common.{◌≡◌, ◌++◌, drop}
-use Rattle.cli_shelves.specs.Memory.{files_of}
+use Rattle.cli_file_stores.specs.Memory.{files_of}
 use Rattle.cli.specs.CaseRun.{stored_text}
 use Rattle.cli.proofs.case.push_stored.Given as goal
 

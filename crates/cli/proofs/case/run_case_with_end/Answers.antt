@@ -1,8 +1,8 @@
 use Rattle.std.proofs.lemmas.Bool.{false_from_ne_true}
 use Rattle.std.proofs.Common.{◌≡◌, false, ◌≤◌, ℕ, List, Some, None, ap, refl, inl, inr, rules, subst, length}
 use Rattle.std.specs.Prelude.{Ok, Err, codes}
-use Rattle.cli_shelves.specs.declared.whole_source.WholeFault.{WholeFault}
-use Rattle.cli_shelves.specs.declared.whole_source.WholeFault.TheVariants.{TooLarge, Failed, Memory}
+use Rattle.cli_file_stores.specs.declared.whole_source.WholeFault.{WholeFault}
+use Rattle.cli_file_stores.specs.declared.whole_source.WholeFault.TheVariants.{TooLarge, Failed, Memory}
 use Rattle.cli_answers.specs.Answer.{Answered, memory_answer}
 use Rattle.cli_answers.specs.Answers.{answer_of}
 use Rattle.cli.specs.Delivery.{Delivers}

@@ -6,7 +6,7 @@ use Rattle.county_codes.specs.declared.county.County.{County}
 use Rattle.pl94_counties.specs.Counties.{county_list}
 use Rattle.cli_runs.specs.ProblemCourse.{counties_in, counties_course}
 use Rattle.pl94_counties.specs.Readers.{IsPl94Refused}
-use Rattle.cli_shelves.specs.Files.{Files}
+use Rattle.cli_file_stores.specs.Files.{Files}
 use Rattle.cli_answers.specs.Answers.{AnswerMeets}
 use Rattle.cli_runs.specs.Reading.{OfTexts}
 use Rattle.cli.specs.Streams.{both_given_back}
@@ -15,11 +15,11 @@ use Rattle.cli.proofs.census_files.load_counties.Goals as goal
 
 pub returns-in_err-give_both_back-clause-course : goal.returns-in_err-give_both_back-clause-course
 returns-in_err-give_both_back-clause-course g c =
-    let files = g.H.Shelf.contents c.args.shelf.now in
+    let files = g.H.FileStore.contents c.args.file_store.now in
     let words = c.args.words in
-    let before = g.H.Shelf.history c.args.shelf.now in
-    let between = g.H.Shelf.history c.open_both.new.shelf in
-    let after = g.H.Shelf.history c.give_both_back.new.shelf in
+    let before = g.H.FileStore.history c.args.file_store.now in
+    let between = g.H.FileStore.history c.open_both.new.file_store in
+    let after = g.H.FileStore.history c.give_both_back.new.file_store in
     let refusal = c.in_err-give_both_back.field-0.0 in
     let back = subst (λ (known : Option Files). AnswerMeets refusal (λ a. both_given_back known words.geo.now words.segment.now between after (Err a))) c.open_both.ensures.same c.in_err-give_both_back.ensures.back in
     came_to_end (λ (v : Vec County Global). v.items) (counties_course files words before after) c.from_residual-in_err-give_both_back.result refusal c.from_residual-in_err-give_both_back.ensures.1
@@ -27,11 +27,11 @@ returns-in_err-give_both_back-clause-course g c =
 
 pub returns-clause-course : goal.returns-clause-course
 returns-clause-course g c =
-    let files = g.H.Shelf.contents c.args.shelf.now in
+    let files = g.H.FileStore.contents c.args.file_store.now in
     let words = c.args.words in
-    let before = g.H.Shelf.history c.args.shelf.now in
-    let between = g.H.Shelf.history c.open_both.new.shelf in
-    let after = g.H.Shelf.history c.give_both_back.new.shelf in
+    let before = g.H.FileStore.history c.args.file_store.now in
+    let between = g.H.FileStore.history c.open_both.new.file_store in
+    let after = g.H.FileStore.history c.give_both_back.new.file_store in
     let read = c.read_counties_from-read.result in
     let x = g.H.Reader.Source.given c.into_parts-geo_reader.result.0 in
     let y = g.H.Reader.Source.given c.into_parts-segment_reader.result.0 in

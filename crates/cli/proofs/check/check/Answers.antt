@@ -10,18 +10,18 @@ use Rattle.cli.proofs.check.check.Goals as goal
 pub returns-in_err-reported : goal.returns-in_err-reported
 returns-in_err-reported g c = (
   [],
-  none_stored (g.H.Shelf.contents c.args.shelf.now) (g.H.Shelf.contents c.check_files.new.shelf) (g.H.Shelf.stored c.args.shelf.now) (g.H.Shelf.stored c.check_files.new.shelf) c.check_files.ensures.same c.check_files.ensures.kept,
-  refused_run (check_course (g.H.Shelf.contents c.args.shelf.now) c.args.words) (λ r. named_file c.args.words.table r.table) (λ r. r.answer) (g.H.Shelf.history c.args.shelf.now) (g.H.Shelf.history c.check_files.new.shelf) c.in_err-reported.field-0.0 c.from_residual.result c.from_residual.ensures.1 c.in_err-reported.ensures.course,
+  none_stored (g.H.FileStore.contents c.args.file_store.now) (g.H.FileStore.contents c.check_files.new.file_store) (g.H.FileStore.stored c.args.file_store.now) (g.H.FileStore.stored c.check_files.new.file_store) c.check_files.ensures.same c.check_files.ensures.kept,
+  refused_run (check_course (g.H.FileStore.contents c.args.file_store.now) c.args.words) (λ r. named_file c.args.words.table r.table) (λ r. r.answer) (g.H.FileStore.history c.args.file_store.now) (g.H.FileStore.history c.check_files.new.file_store) c.in_err-reported.field-0.0 c.from_residual.result c.from_residual.ensures.1 c.in_err-reported.ensures.course,
 )
 
 pub returns : goal.returns
 returns g c =
-    let files = g.H.Shelf.contents c.args.shelf.now in
-    let before = g.H.Shelf.history c.args.shelf.now in
-    let between = g.H.Shelf.history c.check_files.new.shelf in
-    let after = g.H.Shelf.history c.store_reported.new.shelf in
+    let files = g.H.FileStore.contents c.args.file_store.now in
+    let before = g.H.FileStore.history c.args.file_store.now in
+    let between = g.H.FileStore.history c.check_files.new.file_store in
+    let after = g.H.FileStore.history c.store_reported.new.file_store in
     let end = c.store_reported.ensures in (
       end.0,
-      from_start files (g.H.Shelf.contents c.check_files.new.shelf) (g.H.Shelf.contents c.store_reported.new.shelf) (g.H.Shelf.stored c.args.shelf.now) (g.H.Shelf.stored c.check_files.new.shelf) (g.H.Shelf.stored c.store_reported.new.shelf) end.0 c.check_files.ensures.same c.check_files.ensures.kept end.2,
+      from_start files (g.H.FileStore.contents c.check_files.new.file_store) (g.H.FileStore.contents c.store_reported.new.file_store) (g.H.FileStore.stored c.args.file_store.now) (g.H.FileStore.stored c.check_files.new.file_store) (g.H.FileStore.stored c.store_reported.new.file_store) end.0 c.check_files.ensures.same c.check_files.ensures.kept end.2,
       said_run (check_course files c.args.words) (λ r. named_file c.args.words.table r.table) (λ r. r.answer) (reported_of c.in_ok-reported.reported) before between after end.0 end.1 (said_by c.store_reported.result) c.in_ok-reported.ensures.course end.3 end.4,
     )

@@ -12,7 +12,7 @@ returns g c =
         run.0,
         run.1,
         run.2,
-        run_tells (g.H.Shelf.contents c.args.shelf.now) (texts c.args.words.now) (g.H.Shelf.history c.args.shelf.now) (g.H.Shelf.history c.words_answer-said.new.shelf) run.0 said run.2,
+        run_tells (g.H.FileStore.contents c.args.file_store.now) (texts c.args.words.now) (g.H.FileStore.history c.args.file_store.now) (g.H.FileStore.history c.words_answer-said.new.file_store) run.0 said run.2,
         c.deliver_said-status.ensures,
       );
     }

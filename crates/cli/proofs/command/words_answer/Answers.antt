@@ -7,11 +7,11 @@ use Rattle.cli.proofs.command.words_answer.Goals as goal
 
 pub returns-in-Err : goal.returns-in-Err
 returns-in-Err g c =
-    let files = g.H.Shelf.contents c.args.shelf.now in
-    let listed = g.H.Shelf.stored c.args.shelf.now in (
+    let files = g.H.FileStore.contents c.args.file_store.now in
+    let listed = g.H.FileStore.stored c.args.file_store.now in (
       [],
       none_stored files files listed listed refl refl,
-      ended_words files (texts c.args.words.now) (g.H.Shelf.history c.args.shelf.now) c.in-Err.words_end c.words_end_answer.result c.in-Err.ensures.ends c.in-Err.ensures.taken c.words_end_answer.ensures,
+      ended_words files (texts c.args.words.now) (g.H.FileStore.history c.args.file_store.now) c.in-Err.words_end c.words_end_answer.result c.in-Err.ensures.ends c.in-Err.ensures.taken c.words_end_answer.ensures,
     )
 
 pub returns-in-Ok : goal.returns-in-Ok
@@ -19,6 +19,6 @@ returns-in-Ok g c =
     let run = c.answer_as_asked.ensures in (
       run.0,
       run.1,
-      meant_run (g.H.Shelf.contents c.args.shelf.now) (texts c.args.words.now) (g.H.Shelf.history c.args.shelf.now) (g.H.Shelf.history c.answer_as_asked.new.shelf) run.0 (said_of c.answer_as_asked.result) c.in-Ok.command
+      meant_run (g.H.FileStore.contents c.args.file_store.now) (texts c.args.words.now) (g.H.FileStore.history c.args.file_store.now) (g.H.FileStore.history c.answer_as_asked.new.file_store) run.0 (said_of c.answer_as_asked.result) c.in-Ok.command
           c.in-Ok.ensures.said c.in-Ok.ensures.ends run.2,
     )

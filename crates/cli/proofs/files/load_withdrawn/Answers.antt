@@ -6,8 +6,8 @@ use Rattle.cli.proofs.files.load_withdrawn.Goals as goal
 
 pub returns-in_ok-text-in-Some-clause-course : goal.returns-in_ok-text-in-Some-clause-course
 returns-in_ok-text-in-Some-clause-course g c =
-    let files = g.H.Shelf.contents c.args.shelf.now in
-    let before = g.H.Shelf.history c.args.shelf.now in
-    let after = g.H.Shelf.history c.load.new.shelf in
+    let files = g.H.FileStore.contents c.args.file_store.now in
+    let before = g.H.FileStore.history c.args.file_store.now in
+    let after = g.H.FileStore.history c.load.new.file_store in
     subst (λ (name : Option (Bor (List ℕ))). Comes (λ v. v.items) c.withdrawn_from.result (withdrawn_of files name before after)) (sym c.in-Some.is)
     (read_file (λ v. v.items) c.withdrawn_from.result files c.in-Some.name.now c.in_ok-text-in-Some.text.items c.in_ok-text-in-Some.text.items withdrawn_in before after c.in_ok-text-in-Some.ensures.course refl (c.withdrawn_from.ensures after))

@@ -2,7 +2,7 @@ use Rattle.std.proofs.Common.{◌≡◌, Option, subst}
 use Rattle.std.specs.Prelude.{Ok, Err, option_map}
 use Rattle.grouping_laws.specs.Grouping.{Grouping}
 use Rattle.cli_words.specs.declared.words.JudgeWords.{JudgeWords}
-use Rattle.cli_shelves.specs.Files.{Files}
+use Rattle.cli_file_stores.specs.Files.{Files}
 use Rattle.cli_answers.specs.Answers.{AnswerMeets}
 use Rattle.cli_runs.specs.Course.{Course, ◌>>=◌}
 use Rattle.cli_runs.specs.ProblemCourse.{grouping_of}
@@ -25,11 +25,11 @@ with_problem files words t = grouping_of files words.grouping.now >>= with_group
 pub returns-in_err-grouping-clause-course : goal.returns-in_err-grouping-clause-course
 unfolding with_grouping with_problem
 returns-in_err-grouping-clause-course g c =
-    let files = g.H.Shelf.contents c.args.shelf.now in
+    let files = g.H.FileStore.contents c.args.file_store.now in
     let words = c.args.words in
-    let before = g.H.Shelf.history c.args.shelf.now in
-    let built = g.H.Shelf.history c.load_tabled_problem.new.shelf in
-    let after = g.H.Shelf.history c.load_grouping.new.shelf in
+    let before = g.H.FileStore.history c.args.file_store.now in
+    let built = g.H.FileStore.history c.load_tabled_problem.new.file_store in
+    let after = g.H.FileStore.history c.load_grouping.new.file_store in
     let t = tabled_of c.in_ok-tabled.tabled in
     let met = subst (λ (f : Option Files). AnswerMeets c.in_err-grouping.field-0.0 (λ a. grouping_of f words.grouping.now built after (Err a))) c.load_tabled_problem.ensures.same c.in_err-grouping.ensures.course in
     went_on reported_of c.from_residual-in_err-grouping.result (tabled_problem_in files words.problem words.table) (with_problem files words) t before built after c.in_ok-tabled.ensures.course
@@ -38,15 +38,15 @@ returns-in_err-grouping-clause-course g c =
 pub returns-in_err-certificate-clause-course : goal.returns-in_err-certificate-clause-course
 unfolding with_grouping with_problem
 returns-in_err-certificate-clause-course g c =
-    let files = g.H.Shelf.contents c.args.shelf.now in
+    let files = g.H.FileStore.contents c.args.file_store.now in
     let words = c.args.words in
-    let before = g.H.Shelf.history c.args.shelf.now in
-    let built = g.H.Shelf.history c.load_tabled_problem.new.shelf in
-    let read = g.H.Shelf.history c.load_grouping.new.shelf in
-    let after = g.H.Shelf.history c.load_certificate.new.shelf in
+    let before = g.H.FileStore.history c.args.file_store.now in
+    let built = g.H.FileStore.history c.load_tabled_problem.new.file_store in
+    let read = g.H.FileStore.history c.load_grouping.new.file_store in
+    let after = g.H.FileStore.history c.load_certificate.new.file_store in
     let t = tabled_of c.in_ok-tabled.tabled in
     let groups = c.in_ok-grouping.grouping.groups.items in
-    let same = subst (λ (f : Option Files). g.H.Shelf.contents c.load_grouping.new.shelf ≡ f) c.load_tabled_problem.ensures.same c.load_grouping.ensures.same in
+    let same = subst (λ (f : Option Files). g.H.FileStore.contents c.load_grouping.new.file_store ≡ f) c.load_tabled_problem.ensures.same c.load_grouping.ensures.same in
     let grouped = subst (λ (f : Option Files). grouping_of f words.grouping.now built read (Ok groups)) c.load_tabled_problem.ensures.same c.in_ok-grouping.ensures.course in
     let met = subst (λ (f : Option Files). AnswerMeets c.in_err-certificate.field-0.0 (λ a. certificate_text_of f words.certificate read after (Err a))) same c.in_err-certificate.ensures.course in
     went_on reported_of c.from_residual-in_err-certificate.result (tabled_problem_in files words.problem words.table) (with_problem files words) t before built after c.in_ok-tabled.ensures.course
@@ -56,16 +56,16 @@ returns-in_err-certificate-clause-course g c =
 pub returns-clause-course : goal.returns-clause-course
 unfolding with_grouping with_problem
 returns-clause-course g c =
-    let files = g.H.Shelf.contents c.args.shelf.now in
+    let files = g.H.FileStore.contents c.args.file_store.now in
     let words = c.args.words in
-    let before = g.H.Shelf.history c.args.shelf.now in
-    let built = g.H.Shelf.history c.load_tabled_problem.new.shelf in
-    let read = g.H.Shelf.history c.load_grouping.new.shelf in
-    let after = g.H.Shelf.history c.load_certificate.new.shelf in
+    let before = g.H.FileStore.history c.args.file_store.now in
+    let built = g.H.FileStore.history c.load_tabled_problem.new.file_store in
+    let read = g.H.FileStore.history c.load_grouping.new.file_store in
+    let after = g.H.FileStore.history c.load_certificate.new.file_store in
     let t = tabled_of c.in_ok-tabled.tabled in
     let groups = c.in_ok-grouping.grouping.groups.items in
     let text = option_map (λ t. t.items) c.in_ok-certificate.certificate in
-    let same = subst (λ (f : Option Files). g.H.Shelf.contents c.load_grouping.new.shelf ≡ f) c.load_tabled_problem.ensures.same c.load_grouping.ensures.same in
+    let same = subst (λ (f : Option Files). g.H.FileStore.contents c.load_grouping.new.file_store ≡ f) c.load_tabled_problem.ensures.same c.load_grouping.ensures.same in
     let grouped = subst (λ (f : Option Files). grouping_of f words.grouping.now built read (Ok groups)) c.load_tabled_problem.ensures.same c.in_ok-grouping.ensures.course in
     let held = subst (λ (f : Option Files). certificate_text_of f words.certificate read after (Ok text)) same c.in_ok-certificate.ensures.course in
     went_on reported_of c.verdict.result (tabled_problem_in files words.problem words.table) (with_problem files words) t before built after c.in_ok-tabled.ensures.course

@@ -9,9 +9,9 @@ use Rattle.cli.proofs.list.store_listed.Goals as goal
 
 pub returns : goal.returns
 returns g c =
-    let before = g.H.Shelf.history c.args.shelf.now in
-    let between = g.H.Shelf.history c.store_named.new.shelf in
-    let after = g.H.Shelf.history c.store_named-2.new.shelf in
+    let before = g.H.FileStore.history c.args.file_store.now in
+    let between = g.H.FileStore.history c.store_named.new.file_store in
+    let after = g.H.FileStore.history c.store_named-2.new.file_store in
     let words = c.args.words in
     let listed = c.args.listed.now in
     let first = c.in_ok-store_named.ensures in
@@ -22,14 +22,14 @@ returns g c =
     let steps = subst₂ (λ (name : Option (Bor (List ℕ))) (o : Option (List ℕ)). store_steps (named_file name o) before between first.0 None) c.out_in-out.ensures grouping first.2 in
     let end = subst (λ (o : Option (List ℕ)). store_steps (named_file words.groupings o) between after last.0 (refusal_by c.store_named-2.result)) table last.2 in (
       first.0 ++ last.0,
-      stored_after (g.H.Shelf.contents c.args.shelf.now) (g.H.Shelf.contents c.store_named.new.shelf) (g.H.Shelf.contents c.store_named-2.new.shelf) (g.H.Shelf.stored c.args.shelf.now) (g.H.Shelf.stored c.store_named.new.shelf) (g.H.Shelf.stored c.store_named-2.new.shelf) first.0 last.0 first.1 last.1,
+      stored_after (g.H.FileStore.contents c.args.file_store.now) (g.H.FileStore.contents c.store_named.new.file_store) (g.H.FileStore.contents c.store_named-2.new.file_store) (g.H.FileStore.stored c.args.file_store.now) (g.H.FileStore.stored c.store_named.new.file_store) (g.H.FileStore.stored c.store_named-2.new.file_store) first.0 last.0 first.1 last.1,
       stores_on (named_file out (option_map (λ t. t.items) listed.grouping)) (named_file words.groupings (option_map (λ t. t.items) listed.table)) before between after first.0 last.0 (refusal_by c.store_named-2.result) steps end,
     )
 
 pub returns-in_err-store_named : goal.returns-in_err-store_named
 returns-in_err-store_named g c =
-    let before = g.H.Shelf.history c.args.shelf.now in
-    let after = g.H.Shelf.history c.store_named.new.shelf in
+    let before = g.H.FileStore.history c.args.file_store.now in
+    let after = g.H.FileStore.history c.store_named.new.file_store in
     let words = c.args.words in
     let listed = c.args.listed.now in
     let first = c.in_err-store_named.ensures in

@@ -5,7 +5,7 @@ use Rattle.cli.proofs.plan_files.load_assignments.Goals as goal
 
 pub returns-clause-course : goal.returns-clause-course
 returns-clause-course g c =
-    let files = g.H.Shelf.contents c.args.shelf.now in
-    let before = g.H.Shelf.history c.args.shelf.now in
-    let after = g.H.Shelf.history c.load.new.shelf in
+    let files = g.H.FileStore.contents c.args.file_store.now in
+    let before = g.H.FileStore.history c.args.file_store.now in
+    let after = g.H.FileStore.history c.load.new.file_store in
     read_file (λ v. v.items) c.assignments_from.result files c.args.name.now c.in_ok-text.text.items c.in_ok-text.text.items assignments_in before after c.in_ok-text.ensures.course refl (c.assignments_from.ensures.course after)

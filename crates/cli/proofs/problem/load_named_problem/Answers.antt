@@ -4,7 +4,7 @@ use Rattle.county_codes.specs.declared.county.County.{County}
 use Rattle.pl94_counties.specs.declared.county_names.NamedCounty.{NamedCounty}
 use Rattle.pl94_counties.specs.CountyNames.{county_name}
 use Rattle.grouping_table.specs.Table.{unnamed_counties as bare_of}
-use Rattle.cli_shelves.specs.Files.{Files}
+use Rattle.cli_file_stores.specs.Files.{Files}
 use Rattle.cli_answers.specs.Answers.{AnswerMeets}
 use Rattle.cli_runs.specs.Course.{value_step}
 use Rattle.cli_runs.specs.ProblemCourse.{problem_over}
@@ -17,11 +17,11 @@ use Rattle.cli.proofs.problem.load_named_problem.Goals as goal
 
 pub returns-in_err-problem-clause-course : goal.returns-in_err-problem-clause-course
 returns-in_err-problem-clause-course g c =
-    let files = g.H.Shelf.contents c.args.shelf.now in
+    let files = g.H.FileStore.contents c.args.file_store.now in
     let words = c.args.words in
-    let before = g.H.Shelf.history c.args.shelf.now in
-    let between = g.H.Shelf.history c.load_named_counties.new.shelf in
-    let after = g.H.Shelf.history c.load_problem_over.new.shelf in
+    let before = g.H.FileStore.history c.args.file_store.now in
+    let between = g.H.FileStore.history c.load_named_counties.new.file_store in
+    let after = g.H.FileStore.history c.load_problem_over.new.file_store in
     let named = map county_name c.in_ok-named.named.items in
     let listed : List County = c.deref-3.result.now in
     let same : listed ≡ bare_of named =
@@ -33,11 +33,11 @@ returns-in_err-problem-clause-course g c =
 
 pub returns-clause-course : goal.returns-clause-course
 returns-clause-course g c =
-    let files = g.H.Shelf.contents c.args.shelf.now in
+    let files = g.H.FileStore.contents c.args.file_store.now in
     let words = c.args.words in
-    let before = g.H.Shelf.history c.args.shelf.now in
-    let between = g.H.Shelf.history c.load_named_counties.new.shelf in
-    let after = g.H.Shelf.history c.load_problem_over.new.shelf in
+    let before = g.H.FileStore.history c.args.file_store.now in
+    let between = g.H.FileStore.history c.load_named_counties.new.file_store in
+    let after = g.H.FileStore.history c.load_problem_over.new.file_store in
     let named = map county_name c.in_ok-named.named.items in
     let v = c.in_ok-problem.problem in
     let listed : List County = c.deref-3.result.now in

@@ -4,7 +4,7 @@ use Rattle.county_codes.specs.declared.county.County.{County}
 use Rattle.county_codes.specs.declared.withdrawn.Withdrawn.{Withdrawn}
 use Rattle.county_problem.specs.ProblemValue.{ProblemValue, codes_of}
 use Rattle.cli_words.specs.declared.words.ProblemWords.{ProblemWords}
-use Rattle.cli_shelves.specs.Files.{Files}
+use Rattle.cli_file_stores.specs.Files.{Files}
 use Rattle.cli_answers.specs.Answers.{Comes, AnswerMeets}
 use Rattle.cli_runs.specs.Course.{Course, ◌>>=◌}
 use Rattle.cli_runs.specs.ProblemCourse.{adjacency_of, withdrawn_of, build_step}
@@ -18,10 +18,10 @@ with_pairs files words counties pairs = withdrawn_of files words.withdrawn >>= b
 pub returns-in_err-withdrawn-clause-course : goal.returns-in_err-withdrawn-clause-course
 unfolding with_pairs
 returns-in_err-withdrawn-clause-course g c =
-    let files = g.H.Shelf.contents c.args.shelf.now in
-    let before = g.H.Shelf.history c.args.shelf.now in
-    let then = g.H.Shelf.history c.load_adjacency.new.shelf in
-    let after = g.H.Shelf.history c.load_withdrawn.new.shelf in
+    let files = g.H.FileStore.contents c.args.file_store.now in
+    let before = g.H.FileStore.history c.args.file_store.now in
+    let then = g.H.FileStore.history c.load_adjacency.new.file_store in
+    let after = g.H.FileStore.history c.load_withdrawn.new.file_store in
     let counties = c.args.counties.now in
     let pairs = c.in_ok-pairs.pairs.items in
     let met = subst (λ (f : Option Files). AnswerMeets c.in_err-withdrawn.field-0.0 (λ a. withdrawn_of f c.args.words.withdrawn then after (Err a))) c.load_adjacency.ensures.same c.in_err-withdrawn.ensures.course in
@@ -31,10 +31,10 @@ returns-in_err-withdrawn-clause-course g c =
 pub returns-clause-course : goal.returns-clause-course
 unfolding with_pairs
 returns-clause-course g c =
-    let files = g.H.Shelf.contents c.args.shelf.now in
-    let before = g.H.Shelf.history c.args.shelf.now in
-    let then = g.H.Shelf.history c.load_adjacency.new.shelf in
-    let after = g.H.Shelf.history c.load_withdrawn.new.shelf in
+    let files = g.H.FileStore.contents c.args.file_store.now in
+    let before = g.H.FileStore.history c.args.file_store.now in
+    let then = g.H.FileStore.history c.load_adjacency.new.file_store in
+    let after = g.H.FileStore.history c.load_withdrawn.new.file_store in
     let chamber = c.args.words.common.chamber in
     let window = c.args.words.common.window in
     let counties = c.args.counties.now in

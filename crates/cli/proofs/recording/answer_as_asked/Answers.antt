@@ -1,5 +1,5 @@
 use Rattle.std.proofs.Common.{◌≡◌, List, ℕ, Option, Some, None, subst}
-use Rattle.cli_shelves.specs.Files.{NamedFile}
+use Rattle.cli_file_stores.specs.Files.{NamedFile}
 use Rattle.cli_record.specs.RecordFiles.{record_name_of}
 use Rattle.cli_runs.specs.Storing.{HasStored}
 use Rattle.cli_runs.specs.Run.{RunsAsAsked}
@@ -9,22 +9,22 @@ use Rattle.cli.proofs.recording.answer_as_asked.Goals as goal
 
 pub returns-in-Some : goal.returns-in-Some
 returns-in-Some g c =
-    let files = g.H.Shelf.contents c.args.shelf.now in
-    let later = g.H.Shelf.contents c.answer_with_record.new.shelf in
-    let listed = g.H.Shelf.stored c.args.shelf.now in
-    let last = g.H.Shelf.stored c.answer_with_record.new.shelf in
+    let files = g.H.FileStore.contents c.args.file_store.now in
+    let later = g.H.FileStore.contents c.answer_with_record.new.file_store in
+    let listed = g.H.FileStore.stored c.args.file_store.now in
+    let last = g.H.FileStore.stored c.answer_with_record.new.file_store in
     let is : Some c.in-Some.name.now ≡ record_name_of c.args.command = c.in-Some.ensures in
     subst (λ (name : Option (List ℕ)). (stored : List NamedFile) × HasStored files later listed last stored
-    × RunsAsAsked files (texts c.args.words.now) c.args.command name (g.H.Shelf.history c.args.shelf.now) (g.H.Shelf.history c.answer_with_record.new.shelf) stored (said_of c.answer_with_record.result)) is
+    × RunsAsAsked files (texts c.args.words.now) c.args.command name (g.H.FileStore.history c.args.file_store.now) (g.H.FileStore.history c.answer_with_record.new.file_store) stored (said_of c.answer_with_record.result)) is
     c.answer_with_record.ensures
 
 pub returns-in-None : goal.returns-in-None
 returns-in-None g c =
-    let files = g.H.Shelf.contents c.args.shelf.now in
-    let later = g.H.Shelf.contents c.command_answer.new.shelf in
-    let listed = g.H.Shelf.stored c.args.shelf.now in
-    let last = g.H.Shelf.stored c.command_answer.new.shelf in
+    let files = g.H.FileStore.contents c.args.file_store.now in
+    let later = g.H.FileStore.contents c.command_answer.new.file_store in
+    let listed = g.H.FileStore.stored c.args.file_store.now in
+    let last = g.H.FileStore.stored c.command_answer.new.file_store in
     let is : None ≡ record_name_of c.args.command = c.in-None.ensures in
     subst (λ (name : Option (List ℕ)). (stored : List NamedFile) × HasStored files later listed last stored
-    × RunsAsAsked files (texts c.args.words.now) c.args.command name (g.H.Shelf.history c.args.shelf.now) (g.H.Shelf.history c.command_answer.new.shelf) stored (said_of c.command_answer.result)) is
+    × RunsAsAsked files (texts c.args.words.now) c.args.command name (g.H.FileStore.history c.args.file_store.now) (g.H.FileStore.history c.command_answer.new.file_store) stored (said_of c.command_answer.result)) is
     c.command_answer.ensures

@@ -1,7 +1,7 @@
 use Rattle.std.proofs.Common.{◌++◌, [], Option, sym, subst, refl}
 use Rattle.std.proofs.lemmas.List.{append-nil}
-use Rattle.cli_shelves.specs.Files.{Files}
-use Rattle.cli_shelves.specs.History.{History}
+use Rattle.cli_file_stores.specs.Files.{Files}
+use Rattle.cli_file_stores.specs.History.{History}
 use Rattle.cli_answers.specs.Answer.{memory_answer}
 use Rattle.cli_answers.specs.Answers.{answer_of}
 use Rattle.cli_runs.specs.Run.{CommandRun}
@@ -13,15 +13,15 @@ use Rattle.cli.proofs.recording.answer_with_record.Goals as goal
 
 pub returns-in-Ok : goal.returns-in-Ok
 returns-in-Ok g c =
-    let before = g.H.Shelf.history c.args.shelf.now in
-    let between = g.H.Shelf.history c.command_answer.new.shelf in
+    let before = g.H.FileStore.history c.args.file_store.now in
+    let between = g.H.FileStore.history c.command_answer.new.file_store in
     let run = c.in-Ok.ensures in
     let end = c.store_record.ensures before c.events-first.ensures in
-    let own = from_start (g.H.Shelf.contents c.args.shelf.now) (g.H.Shelf.contents c.keep_sums.new.self) (g.H.Shelf.contents c.command_answer.new.shelf) (g.H.Shelf.stored c.args.shelf.now) (g.H.Shelf.stored c.keep_sums.new.self) (g.H.Shelf.stored c.command_answer.new.shelf) run.0 c.keep_sums.ensures.same c.keep_sums.ensures.kept run.1 in
-    let begun = subst (λ (n : History). CommandRun (g.H.Shelf.contents c.keep_sums.new.self) c.args.command n between run.0 (answer_of c.in-Ok.answer)) c.keep_sums.ensures.still run.2 in
+    let own = from_start (g.H.FileStore.contents c.args.file_store.now) (g.H.FileStore.contents c.keep_sums.new.self) (g.H.FileStore.contents c.command_answer.new.file_store) (g.H.FileStore.stored c.args.file_store.now) (g.H.FileStore.stored c.keep_sums.new.self) (g.H.FileStore.stored c.command_answer.new.file_store) run.0 c.keep_sums.ensures.same c.keep_sums.ensures.kept run.1 in
+    let begun = subst (λ (n : History). CommandRun (g.H.FileStore.contents c.keep_sums.new.self) c.args.command n between run.0 (answer_of c.in-Ok.answer)) c.keep_sums.ensures.still run.2 in
     let told = subst (λ (files : Option Files). CommandRun files c.args.command before between run.0 (answer_of c.in-Ok.answer)) c.keep_sums.ensures.same begun in (
       run.0 ++ end.0,
-      stored_after (g.H.Shelf.contents c.args.shelf.now) (g.H.Shelf.contents c.command_answer.new.shelf) (g.H.Shelf.contents c.store_record.new.shelf) (g.H.Shelf.stored c.args.shelf.now) (g.H.Shelf.stored c.command_answer.new.shelf) (g.H.Shelf.stored c.store_record.new.shelf) run.0 end.0 own end.1,
+      stored_after (g.H.FileStore.contents c.args.file_store.now) (g.H.FileStore.contents c.command_answer.new.file_store) (g.H.FileStore.contents c.store_record.new.file_store) (g.H.FileStore.stored c.args.file_store.now) (g.H.FileStore.stored c.command_answer.new.file_store) (g.H.FileStore.stored c.store_record.new.file_store) run.0 end.0 own end.1,
       record {
         said = answer_of c.in-Ok.answer;
         between = between;
@@ -35,11 +35,11 @@ returns-in-Ok g c =
 
 pub returns-in-Err : goal.returns-in-Err
 returns-in-Err g c =
-    let before = g.H.Shelf.history c.args.shelf.now in
-    let between = g.H.Shelf.history c.command_answer.new.shelf in
+    let before = g.H.FileStore.history c.args.file_store.now in
+    let between = g.H.FileStore.history c.command_answer.new.file_store in
     let run = c.in-Err.ensures in
-    let own = from_start (g.H.Shelf.contents c.args.shelf.now) (g.H.Shelf.contents c.keep_sums.new.self) (g.H.Shelf.contents c.command_answer.new.shelf) (g.H.Shelf.stored c.args.shelf.now) (g.H.Shelf.stored c.keep_sums.new.self) (g.H.Shelf.stored c.command_answer.new.shelf) run.0 c.keep_sums.ensures.same c.keep_sums.ensures.kept run.1 in
-    let begun = subst (λ (n : History). CommandRun (g.H.Shelf.contents c.keep_sums.new.self) c.args.command n between run.0 memory_answer) c.keep_sums.ensures.still run.2 in
+    let own = from_start (g.H.FileStore.contents c.args.file_store.now) (g.H.FileStore.contents c.keep_sums.new.self) (g.H.FileStore.contents c.command_answer.new.file_store) (g.H.FileStore.stored c.args.file_store.now) (g.H.FileStore.stored c.keep_sums.new.self) (g.H.FileStore.stored c.command_answer.new.file_store) run.0 c.keep_sums.ensures.same c.keep_sums.ensures.kept run.1 in
+    let begun = subst (λ (n : History). CommandRun (g.H.FileStore.contents c.keep_sums.new.self) c.args.command n between run.0 memory_answer) c.keep_sums.ensures.still run.2 in
     let told = subst (λ (files : Option Files). CommandRun files c.args.command before between run.0 memory_answer) c.keep_sums.ensures.same begun in (
       run.0,
       own,

@@ -18,9 +18,9 @@ of_counties chamber window counties = build_step chamber window counties [] [] >
 pub returns-in_err-problem-clause-course : goal.returns-in_err-problem-clause-course
 unfolding of_counties
 returns-in_err-problem-clause-course g c =
-    let files = g.H.Shelf.contents c.args.shelf.now in
-    let before = g.H.Shelf.history c.args.shelf.now in
-    let after = g.H.Shelf.history c.load_counties.new.shelf in
+    let files = g.H.FileStore.contents c.args.file_store.now in
+    let before = g.H.FileStore.history c.args.file_store.now in
+    let after = g.H.FileStore.history c.load_counties.new.file_store in
     let counties = c.in_ok-counties.counties.items in
     let met = subst (λ (listed : List County). AnswerMeets c.in_err-problem.field-0.0 (λ a. build_step c.args.words.chamber c.args.words.window listed [] [] after after (Err a))) c.deref.ensures.value (c.in_err-problem.ensures after) in
     went_on answer_of c.from_residual-in_err-problem.result (counties_course files c.args.words) (of_counties c.args.words.chamber c.args.words.window) counties before after after c.in_ok-counties.ensures.course
@@ -29,9 +29,9 @@ returns-in_err-problem-clause-course g c =
 pub returns-clause-course : goal.returns-clause-course
 unfolding of_counties
 returns-clause-course g c =
-    let files = g.H.Shelf.contents c.args.shelf.now in
-    let before = g.H.Shelf.history c.args.shelf.now in
-    let after = g.H.Shelf.history c.load_counties.new.shelf in
+    let files = g.H.FileStore.contents c.args.file_store.now in
+    let before = g.H.FileStore.history c.args.file_store.now in
+    let after = g.H.FileStore.history c.load_counties.new.file_store in
     let counties = c.in_ok-counties.counties.items in
     let given = subst (λ (listed : List County). build_step c.args.words.chamber c.args.words.window listed [] [] after after (Ok c.in_ok-problem.problem)) c.deref.ensures.value (c.in_ok-problem.ensures after) in
     let text : success c.in_ok-text.text.items ≡ success (size_text c.in_ok-problem.problem) = ap success c.in_ok-text.ensures in

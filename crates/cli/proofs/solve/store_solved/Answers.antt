@@ -8,10 +8,10 @@ use Rattle.cli.proofs.solve.store_solved.Goals as goal
 
 pub returns : goal.returns
 returns g c =
-    let before = g.H.Shelf.history c.args.shelf.now in
-    let between = g.H.Shelf.history c.store_named.new.shelf in
-    let then = g.H.Shelf.history c.store_named-2.new.shelf in
-    let after = g.H.Shelf.history c.store_named-3.new.shelf in
+    let before = g.H.FileStore.history c.args.file_store.now in
+    let between = g.H.FileStore.history c.store_named.new.file_store in
+    let then = g.H.FileStore.history c.store_named-2.new.file_store in
+    let after = g.H.FileStore.history c.store_named-3.new.file_store in
     let words = c.args.words in
     let solved = c.args.solved.now in
     let first = c.in_ok-store_named.ensures in
@@ -25,17 +25,17 @@ returns g c =
     let end = subst (λ (o : Option (List ℕ)). store_steps (named_file words.table o) then after last.0 (refusal_by c.store_named-3.result)) table last.2 in
     let files = named_file words.out (option_map (λ t. t.items) solved.grouping) in
     let tables = named_file words.table (option_map (λ t. t.items) solved.table) in
-    let behind = stored_after (g.H.Shelf.contents c.store_named.new.shelf) (g.H.Shelf.contents c.store_named-2.new.shelf) (g.H.Shelf.contents c.store_named-3.new.shelf) (g.H.Shelf.stored c.store_named.new.shelf) (g.H.Shelf.stored c.store_named-2.new.shelf) (g.H.Shelf.stored c.store_named-3.new.shelf) next.0 last.0 next.1 last.1 in (
+    let behind = stored_after (g.H.FileStore.contents c.store_named.new.file_store) (g.H.FileStore.contents c.store_named-2.new.file_store) (g.H.FileStore.contents c.store_named-3.new.file_store) (g.H.FileStore.stored c.store_named.new.file_store) (g.H.FileStore.stored c.store_named-2.new.file_store) (g.H.FileStore.stored c.store_named-3.new.file_store) next.0 last.0 next.1 last.1 in (
       first.0 ++ (next.0 ++ last.0),
-      stored_after (g.H.Shelf.contents c.args.shelf.now) (g.H.Shelf.contents c.store_named.new.shelf) (g.H.Shelf.contents c.store_named-3.new.shelf) (g.H.Shelf.stored c.args.shelf.now) (g.H.Shelf.stored c.store_named.new.shelf) (g.H.Shelf.stored c.store_named-3.new.shelf) first.0 (next.0 ++ last.0) first.1 behind,
+      stored_after (g.H.FileStore.contents c.args.file_store.now) (g.H.FileStore.contents c.store_named.new.file_store) (g.H.FileStore.contents c.store_named-3.new.file_store) (g.H.FileStore.stored c.args.file_store.now) (g.H.FileStore.stored c.store_named.new.file_store) (g.H.FileStore.stored c.store_named-3.new.file_store) first.0 (next.0 ++ last.0) first.1 behind,
       stores_on (named_file words.certificate (option_map (λ t. t.items) solved.certificate)) (files ++ tables) before between after first.0 (next.0 ++ last.0) (refusal_by c.store_named-3.result) steps
           (stores_on files tables between then after next.0 last.0 (refusal_by c.store_named-3.result) later end),
     )
 
 pub returns-in_err-store_named : goal.returns-in_err-store_named
 returns-in_err-store_named g c =
-    let before = g.H.Shelf.history c.args.shelf.now in
-    let after = g.H.Shelf.history c.store_named.new.shelf in
+    let before = g.H.FileStore.history c.args.file_store.now in
+    let after = g.H.FileStore.history c.store_named.new.file_store in
     let words = c.args.words in
     let solved = c.args.solved.now in
     let first = c.in_err-store_named.ensures in
@@ -48,9 +48,9 @@ returns-in_err-store_named g c =
 
 pub returns-in_err-store_named-2 : goal.returns-in_err-store_named-2
 returns-in_err-store_named-2 g c =
-    let before = g.H.Shelf.history c.args.shelf.now in
-    let between = g.H.Shelf.history c.store_named.new.shelf in
-    let after = g.H.Shelf.history c.store_named-2.new.shelf in
+    let before = g.H.FileStore.history c.args.file_store.now in
+    let between = g.H.FileStore.history c.store_named.new.file_store in
+    let after = g.H.FileStore.history c.store_named-2.new.file_store in
     let words = c.args.words in
     let solved = c.args.solved.now in
     let first = c.in_ok-store_named.ensures in
@@ -62,7 +62,7 @@ returns-in_err-store_named-2 g c =
     let files = named_file words.out (option_map (λ t. t.items) solved.grouping) in
     let tables = named_file words.table (option_map (λ t. t.items) solved.table) in (
       first.0 ++ next.0,
-      stored_after (g.H.Shelf.contents c.args.shelf.now) (g.H.Shelf.contents c.store_named.new.shelf) (g.H.Shelf.contents c.store_named-2.new.shelf) (g.H.Shelf.stored c.args.shelf.now) (g.H.Shelf.stored c.store_named.new.shelf) (g.H.Shelf.stored c.store_named-2.new.shelf) first.0 next.0 first.1 next.1,
+      stored_after (g.H.FileStore.contents c.args.file_store.now) (g.H.FileStore.contents c.store_named.new.file_store) (g.H.FileStore.contents c.store_named-2.new.file_store) (g.H.FileStore.stored c.args.file_store.now) (g.H.FileStore.stored c.store_named.new.file_store) (g.H.FileStore.stored c.store_named-2.new.file_store) first.0 next.0 first.1 next.1,
       stores_on (named_file words.certificate (option_map (λ t. t.items) solved.certificate)) (files ++ tables) before between after first.0 next.0 (refusal_by c.from_residual-in_err-store_named-2.result) steps
           (stops_with files tables between after next.0 c.in_err-store_named-2.field-0.0 c.from_residual-in_err-store_named-2.result c.from_residual-in_err-store_named-2.ensures.1 later),
     )

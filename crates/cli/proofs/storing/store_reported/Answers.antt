@@ -8,8 +8,8 @@ use Rattle.cli.proofs.storing.store_reported.Goals as goal
 
 pub returns-in-Ok : goal.returns-in-Ok
 returns-in-Ok g c =
-    let before = g.H.Shelf.history c.args.shelf.now in
-    let after = g.H.Shelf.history c.store_named.new.shelf in
+    let before = g.H.FileStore.history c.args.file_store.now in
+    let after = g.H.FileStore.history c.store_named.new.file_store in
     let end = c.in-Ok.ensures in
     let table = sym (seen_lent (λ t. t.items) c.as_ref.result) ∙ ap (option_map (λ t. t.items)) c.as_ref.ensures.value in
     let steps = subst (λ (o : Option (List ℕ)). store_steps (named_file c.args.name o) before after end.0 None) table end.2 in
@@ -17,8 +17,8 @@ returns-in-Ok g c =
 
 pub returns : goal.returns
 returns g c =
-    let before = g.H.Shelf.history c.args.shelf.now in
-    let after = g.H.Shelf.history c.store_named.new.shelf in
+    let before = g.H.FileStore.history c.args.file_store.now in
+    let after = g.H.FileStore.history c.store_named.new.file_store in
     let end = c.in-Err.ensures in
     let table = sym (seen_lent (λ t. t.items) c.as_ref.result) ∙ ap (option_map (λ t. t.items)) c.as_ref.ensures.value in
     let steps = subst (λ (o : Option (List ℕ)). store_steps (named_file c.args.name o) before after end.0 (refusal_by (Err c.in-Err.refusal))) table end.2 in

@@ -1,6 +1,6 @@
 use Rattle.std.proofs.Common.{◌≡◌, drop, map}
 use Rattle.std.specs.Prelude.{find}
-use Rattle.cli_shelves.specs.Sums.{sum_value}
+use Rattle.cli_file_stores.specs.Sums.{sum_value}
 use Rattle.cli_record.specs.RecordFiles.{is_of}
 use Rattle.cli_record.proofs.reads.first_of.Given as goal
 

@@ -1,5 +1,5 @@
 use Rattle.std.proofs.Common.{map}
-use Rattle.cli_shelves.specs.Sums.{sum_value}
+use Rattle.cli_file_stores.specs.Sums.{sum_value}
 use Rattle.cli_record_text.specs.declared.run.ReadFile.TheVariants as files
 use Rattle.cli_record.specs.RunRecord.{read_line_of}
 use Rattle.cli_record.specs.RecordFiles.{if_named, problem_and}

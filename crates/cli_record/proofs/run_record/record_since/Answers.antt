@@ -1,5 +1,5 @@
 use Rattle.std.proofs.Common.{List, map, subst}
-use Rattle.cli_shelves.specs.Sums.{SumOfEvent}
+use Rattle.cli_file_stores.specs.Sums.{SumOfEvent}
 use Rattle.cli_record.specs.RunRecord.{IsRecord}
 use Rattle.cli_record.proofs.run_record.record_since.Goals as goal
 

@@ -1,6 +1,6 @@
 use Rattle.std.proofs.Common.{◌≡◌, ◌++◌, drop, filter, map}
-use Rattle.cli_shelves.specs.declared.sums.EventKind.TheVariants.{Taken}
-use Rattle.cli_shelves.specs.Sums.{sum_value}
+use Rattle.cli_file_stores.specs.declared.sums.EventKind.TheVariants.{Taken}
+use Rattle.cli_file_stores.specs.Sums.{sum_value}
 use Rattle.cli_record.specs.RunRecord.{stored_line_of}
 use Rattle.cli_record.specs.RecordFiles.{files_stored, went, with_options}
 use Rattle.cli_record.proofs.stores.with_options.Given as goal

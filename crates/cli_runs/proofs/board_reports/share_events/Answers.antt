@@ -13,4 +13,4 @@ returns-clause-fault c =
     let shape = c.shape_for-shape in
     no_board c.args.problem.now c.args.grouping.now.groups.items c.args.words c.args.budget
     (λ round. IsShared p (depth_of c.args.words) c.args.budget round events) (λ round. IsShared p shape.result.depth c.args.budget round events)
-    shape.result.language shape.result.limit shape.result.depth c.share.result shape.ensures.language shape.ensures.limit shape.ensures.depth c.share.ensures
+    shape.result.format shape.result.limit shape.result.depth c.share.result shape.ensures.format shape.ensures.limit shape.ensures.depth c.share.ensures

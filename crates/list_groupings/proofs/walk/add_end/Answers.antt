@@ -34,7 +34,7 @@ returns-then-falls_short c = record {
       let f = count_at c.args.input.now.wanted.now in
       let lines = map allowance_of c.args.lines.now in
       let short : falls_short p s (wanted r.target) 1 0 lines ≡ true =
-      sym (short_of p r s f lines c.requires.input.wanted_is) ∙ (sym (c.falls_short.ensures.value r.language p s h.0 (bounds_of p r s f lines c.requires.input.wanted_is h.1.proves)) ∙ c.if-falls_short.true) in
+      sym (short_of p r s f lines c.requires.input.wanted_is) ∙ (sym (c.falls_short.ensures.value r.format p s h.0 (bounds_of p r s f lines c.requires.input.wanted_is h.1.proves)) ∙ c.if-falls_short.true) in
       walked_short p r s lines c.args.found.now (record { line = c.args.found.now.line + (1 + length c.args.lines.now); list = c.args.found.now.list }) (omega (arith, length-map c.args.lines.now allowance_of)) short refl;
 }
 
@@ -46,7 +46,7 @@ returns-then-not-is_empty c = record {
       let f = count_at c.args.input.now.wanted.now in
       let lines = map allowance_of c.args.lines.now in
       let short : falls_short p s (wanted r.target) 1 0 lines ≡ false =
-      sym (short_of p r s f lines c.requires.input.wanted_is) ∙ (sym (c.falls_short.ensures.value r.language p s h.0 (bounds_of p r s f lines c.requires.input.wanted_is h.1.proves)) ∙ c.if-falls_short.false) in
+      sym (short_of p r s f lines c.requires.input.wanted_is) ∙ (sym (c.falls_short.ensures.value r.format p s h.0 (bounds_of p r s f lines c.requires.input.wanted_is h.1.proves)) ∙ c.if-falls_short.false) in
       let some : 1 ≤ length c.args.position.now.rest.items = grind (arith, nat_tests) in
       ((bound_end p r s lines short, some_left p s c.args.position.now h.0 some), refl);
 }
@@ -67,7 +67,7 @@ returns-in_default-seated c = record {
       let f = count_at c.args.input.now.wanted.now in
       let lines = map allowance_of c.args.lines.now in
       let short : falls_short p s (wanted r.target) 1 0 lines ≡ false =
-      sym (short_of p r s f lines c.requires.input.wanted_is) ∙ (sym (c.falls_short.ensures.value r.language p s h.0 (bounds_of p r s f lines c.requires.input.wanted_is h.1.proves)) ∙ c.if-falls_short.false) in
+      sym (short_of p r s f lines c.requires.input.wanted_is) ∙ (sym (c.falls_short.ensures.value r.format p s h.0 (bounds_of p r s f lines c.requires.input.wanted_is h.1.proves)) ∙ c.if-falls_short.false) in
       let none : length c.args.position.now.rest.items ≡ 0 = grind (arith, nat_tests) in
       let off : (ks : List ℕ) → SuitAll p c.deref.result.now ks → sum_by (λ k. k) ks ≡ p.seats_left → ⊥ = none_given _ c.in-Ok.seated c.in_default-seated.not-Some c.in-Ok.ensures.lawful in
       ((bound_end p r s lines short, (none_left p r s c.args.position.now h.1.state h.0 none, subst (λ (z : List (List ℕ)). (ks : List ℕ) → SuitAll p z ks → sum_by (λ k. k) ks ≡ p.seats_left → ⊥) (c.deref.ensures.value ∙ h.0.closed) off)), refl);
@@ -81,7 +81,7 @@ returns c = record {
       let f = count_at c.args.input.now.wanted.now in
       let lines = map allowance_of c.args.lines.now in
       let short : falls_short p s (wanted r.target) 1 0 lines ≡ false =
-      sym (short_of p r s f lines c.requires.input.wanted_is) ∙ (sym (c.falls_short.ensures.value r.language p s h.0 (bounds_of p r s f lines c.requires.input.wanted_is h.1.proves)) ∙ c.if-falls_short.false) in
+      sym (short_of p r s f lines c.requires.input.wanted_is) ∙ (sym (c.falls_short.ensures.value r.format p s h.0 (bounds_of p r s f lines c.requires.input.wanted_is h.1.proves)) ∙ c.if-falls_short.false) in
       let none : length c.args.position.now.rest.items ≡ 0 = grind (arith, nat_tests) in
       let g = c.in-Some.grouping in
       let lawful : Lawful p g.groups.items = rw c.in-Some.is at c.in-Ok.ensures.lawful in

@@ -13,7 +13,7 @@ returns-clause-leaf g c =
     let s = state_at c.args.ordered.now.order g.C.CountySet.test c.args.state.now in
     let k = c.in-Some.wanted in
     given_end p round s c.requires.limit c.args.size k Room _ c.requires.size c.requires.small c.requires.none c.in-Some.ensures
-    (room_fewer round.language p s c.args.size k c.in_ok-room.room c.from.result c.in_ok-room.ensures.value c.from.ensures c.if-room-from.false) c.in_ok-ending_leaf.ensures
+    (room_fewer round.format p s c.args.size k c.in_ok-room.room c.from.result c.in_ok-room.ensures.value c.from.ensures c.if-room-from.false) c.in_ok-ending_leaf.ensures
 
 pub returns-clause-complete : goal.returns-clause-complete
 returns-clause-complete g c =
@@ -21,4 +21,4 @@ returns-clause-complete g c =
     let round = round_of c.args.round.now in
     let s = state_at c.args.ordered.now.order g.C.CountySet.test c.args.state.now in
     let k = c.in-Some.wanted in
-    complete_end p round s c.args.size k Room _ c.in-Some.ensures (room_fewer round.language p s c.args.size k c.in_ok-room.room c.from.result c.in_ok-room.ensures.value c.from.ensures c.if-room-from.false) c.in_ok-ending_leaf.ensures
+    complete_end p round s c.args.size k Room _ c.in-Some.ensures (room_fewer round.format p s c.args.size k c.in_ok-room.room c.from.result c.in_ok-room.ensures.value c.from.ensures c.if-room-from.false) c.in_ok-ending_leaf.ensures

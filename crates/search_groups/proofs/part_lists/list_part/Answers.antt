@@ -15,6 +15,6 @@ returns-clause-list g c =
     let groups = c.in_ok-groups.groups in
     let same : (test c.in_ok-copy.field-0) ≡ (test c.args.part.now) = fun_ext c.in_ok-copy.ensures.places in
     record {
-      groups = λ round order language. subst (λ s. AreGroupsOf p round s size (lists_of n test groups.items)) (c.in_ok-state.ensures.value ∙ ap (λ z. alone z size) (sym same)) (c.in_ok-groups.ensures.groups round order language);
+      groups = λ round order format. subst (λ s. AreGroupsOf p round s size (lists_of n test groups.items)) (c.in_ok-state.ensures.value ∙ ap (λ z. alone z size) (sym same)) (c.in_ok-groups.ensures.groups round order format);
       below = c.in_ok-groups.ensures.below;
     }

@@ -28,7 +28,7 @@ returns-then-branch-clause-groups g c =
     let round = round_of c.args.round.now in
     let whole = c.requires.graph.order in
     let at : IsStateAt order (in_codes order t) t = states_have_codes.there order t (order_once p order whole) c.requires.placed.rest in
-    let next = next_by_places p order (in_codes order t) t size c.args.round.now.language c.requires.wide whole at c.requires.none c.requires.no_stuck (c.in_ok-all_open.ensures c.if-branch.true) in
+    let next = next_by_places p order (in_codes order t) t size c.args.round.now.format c.requires.wide whole at c.requires.none c.requires.no_stuck (c.in_ok-all_open.ensures c.if-branch.true) in
     IfOk-weaker c.rest_groups.result
     (λ v. AreNextGroups test (problem_at c.args.graph.now.ordered.now) (length order) (test c.args.state.now.rest) size v.items)
     (λ v. AreGroupsOf p round (in_codes order t) size (codes_of_sets order test v.items))

@@ -20,7 +20,7 @@ pub part_groups-requires-clause-apart : goal.part_groups-requires-clause-apart
 part_groups-requires-clause-apart g c = λ x. omega (arith, c.in_ok-parts.ensures.parts.once x, digit_one (g.C.CountySet.test c.args.rest.now x), ap (λ z. count_in x (lists_of (length c.args.graph.now.ordered.now.order) g.C.CountySet.test z)) c.deref.ensures.value)
 
 pub returns-clause-groups : goal.returns-clause-groups
-returns-clause-groups g c = λ s rest next round order language.
+returns-clause-groups g c = λ s rest next round order format.
     let C = g.row.C.Denot in
     let test = g.C.CountySet.test in
     let p = problem_at c.args.graph.now.ordered.now in
@@ -30,7 +30,7 @@ returns-clause-groups g c = λ s rest next round order language.
     let groups = c.in_ok-groups.groups.items in
     let are : AreParts p s.rest (lists_of n test parts) = subst (λ z. AreParts p z (lists_of n test parts)) (sym rest) c.in_ok-parts.ensures.parts in
     let found : ArePartGroups test p n size parts groups = subst (λ z. ArePartGroups test p n size z groups) c.deref.ensures.value c.in_ok-groups.ensures.groups in
-    found_groups C test p n size s parts groups c.in_ok-sorted.field-0.items c.requires.graph.rows.problem next are found c.in_ok-sorted.ensures.same (c.in_ok-sorted.ensures.sorted n found.below) round order language
+    found_groups C test p n size s parts groups c.in_ok-sorted.field-0.items c.requires.graph.rows.problem next are found c.in_ok-sorted.ensures.same (c.in_ok-sorted.ensures.sorted n found.below) round order format
 
 pub returns-clause-below : goal.returns-clause-below
 returns-clause-below g c =

@@ -63,7 +63,7 @@ open_branch-returns-clause-opened g t c =
     let kept = are_opened_kept test p round (depth - 1) s groups takes first (length middle) middle last opened c.in-Ok-open_tree.ensures.kept in
     let behind = subst (λ z. IsOpened test p round (depth - 1) z raised (length middle) (length last) last) c.raise_place.ensures.value c.in-Ok-open_tree.ensures.opened in
     subst (λ z. IsOpened test p round depth s z first (length last) last) (sym c.in_ok-branched.ensures)
-    (branch_opened test p round depth s county groups takes raised first (length middle) (length last) last c.requires.some (plain_names round.language c.requires.plain) is.can is.groups kept behind)
+    (branch_opened test p round depth s county groups takes raised first (length middle) (length last) last c.requires.some (plain_names round.format c.requires.plain) is.can is.groups kept behind)
 
 pub open_branch-returns-clause-kept : goal.open_branch-returns-clause-kept
 open_branch-returns-clause-kept g t c = λ k u h. c.in-Ok-open_tree.ensures.kept k u (c.in-Ok.ensures.kept k u h)

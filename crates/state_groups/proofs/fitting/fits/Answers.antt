@@ -8,7 +8,7 @@ use Rattle.grouping_laws.specs.SeatWindow.{IsRun, seat_run}
 use Rattle.grouping_laws.proofs.WindowLemmas.{window_law}
 use Rattle.county_problem.specs.ProblemValue.{ProblemValue, problem_of}
 use Rattle.county_problem.specs.OrderedValue.{problem_at}
-use Rattle.certificate_data.specs.declared.language.Language.TheVariants.{Plain, Wide}
+use Rattle.certificate_data.specs.declared.format.Format.TheVariants.{Plain, Wide}
 use Rattle.state_groups.specs.StateValue.{state_of}
 use Rattle.certificate_laws.specs.State.{open_to}
 use Rattle.certificate_laws.specs.Fitting.{Fits, IsLive}
@@ -50,7 +50,7 @@ returns-in-Wide g c =
     subst (IsRun (Suits p people)) (sym (c.seats_range.ensures.value ∙ ap (λ (v : ProblemValue). seat_run (problem_of v) people) c.problem.ensures.value)) (window_law p problem.tolerated problem.some_people people) in
     let k = one_suits p people c.seats_range.result law c.if-is_none.ensures in
     let inside = subst (λ m. Inside (open_to s (length (places_of m t))) (places_of m t)) c.requires.places (c.is_open.ensures.0 c.if-not-is_open.false) in
-    if_ok c.is_live.result (λ live. IsTrue live ↔ IsLive p s (places_of n t)) (λ live. IsTrue live ↔ Fits c.args.language p s (places_of n t))
+    if_ok c.is_live.result (λ live. IsTrue live ↔ IsLive p s (places_of n t)) (λ live. IsTrue live ↔ Fits c.args.format p s (places_of n t))
     (λ live h. (
       λ e. subst (λ l. Fits l p s (places_of n t)) (sym c.in-Wide.is) (fits_by Wide p s n t refl c.requires.connected (k.0, subst (λ z. Suits p z k.0) c.requires.people k.1) inside (h.0 e)),
       λ f. h.1 ((subst (λ l. Fits l p s (places_of n t)) c.in-Wide.is f).kept),

@@ -27,13 +27,13 @@ returns-clause-groups g c =
     let limit = c.args.limit in
     let at = c.args.place in
     let region = test c.in_ok-region.region in
-    let k = decided c.args.language p n limit false s c.requires.graph.rows.problem refl c.requires.rest in
+    let k = decided c.args.format p n limit false s c.requires.graph.rows.problem refl c.requires.rest in
     let listed = c.in_ok-search.ensures.listed k.0 k.1 in
     let more = listed.more ∙ ap (λ (z : List g.row.C.Denot). z ++ listed.added) c.new-sets.ensures.items in
     let kept : AreKept p n limit k.0 (only at) (others region at) (lists_of n test c.search.new.groups.items) = subst (λ (z : List g.row.C.Denot). AreKept p n limit k.0 (only at) (others region at) (lists_of n test z)) (sym more) listed.kept in
     let up : IsSortedBy (λ g' h. is_lt (slice_cmp nat_cmp (sort_key g') (sort_key h))) (lists_of n test c.in_ok-sorted.field-0.items) =
     c.in_ok-sorted.ensures.sorted n (subst (λ (z : List g.row.C.Denot). AreBelow n test z) (sym more) listed.below) in
-    kept_groups g.row.C.Denot test c.args.language p n limit at s (only at) (others region at) k.0 c.search.new.groups.items c.in_ok-sorted.field-0.items k.1 (starts_open n at limit s region c.requires.rest c.in_ok-region.ensures c.requires.there) kept c.in_ok-sorted.ensures.same up
+    kept_groups g.row.C.Denot test c.args.format p n limit at s (only at) (others region at) k.0 c.search.new.groups.items c.in_ok-sorted.field-0.items k.1 (starts_open n at limit s region c.requires.rest c.in_ok-region.ensures c.requires.there) kept c.in_ok-sorted.ensures.same up
 
 pub returns-clause-below : goal.returns-clause-below
 returns-clause-below g c =
@@ -41,7 +41,7 @@ returns-clause-below g c =
     let p = problem_at c.args.graph.now.ordered.now in
     let n = length c.args.graph.now.ordered.now.order in
     let s = state_of test c.args.state.now in
-    let k = decided c.args.language p n c.args.limit false s c.requires.graph.rows.problem refl c.requires.rest in
+    let k = decided c.args.format p n c.args.limit false s c.requires.graph.rows.problem refl c.requires.rest in
     let listed = c.in_ok-search.ensures.listed k.0 k.1 in
     let more = listed.more ∙ ap (λ (z : List g.row.C.Denot). z ++ listed.added) c.new-sets.ensures.items in
     all_moved (λ (z : g.row.C.Denot). (x : ℕ) → test z x ≡ true → x < n) c.search.new.groups.items c.in_ok-sorted.field-0.items c.in_ok-sorted.ensures.same

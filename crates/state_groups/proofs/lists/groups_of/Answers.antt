@@ -53,7 +53,7 @@ search-requires-clause-tables g c =
     let test = g.C.CountySet.test in
     let p = problem_at c.args.graph.now.ordered.now in
     let n = length c.args.graph.now.ordered.now.order in
-    fewer_tables c.args.language p n c.args.size (test c.args.state.now.rest) (test c.in_ok-region.region) (test c.in_ok-left.left) c.in_ok-tables.tables
+    fewer_tables c.args.format p n c.args.size (test c.args.state.now.rest) (test c.in_ok-region.region) (test c.in_ok-left.left) c.in_ok-tables.tables
     (λ x e. c.in_ok-region.ensures x ∙ c.loop-place.invariant.left x (sym (c.in_ok-left.ensures.places x) ∙ e)) c.in_ok-tables.ensures
 
 pub loop-place-smaller : goal.loop-place-smaller
@@ -138,10 +138,10 @@ returns-clause-groups g c =
     let s = state_of test c.args.state.now in
     let i = c.args.size in
     let inv = c.loop-place.invariant in
-    let k = decided c.args.language p n i true s c.requires.graph.rows.problem refl c.requires.rest in
+    let k = decided c.args.format p n i true s c.requires.graph.rows.problem refl c.requires.rest in
     let found = inv.found k.0 k.1 in
     let up : IsSortedBy (λ g' h. is_lt (slice_cmp nat_cmp (sort_key g') (sort_key h))) (lists_of n test c.in_ok-sorted.field-0.items) = c.in_ok-sorted.ensures.sorted n found.below in
-    found_groups g.row.C.Denot test c.args.language p n s i k.0 (test c.loop-place.region) c.loop-place.sets.items c.in_ok-sorted.field-0.items k.1 c.in_default.ensures found c.in_ok-sorted.ensures.same up
+    found_groups g.row.C.Denot test c.args.format p n s i k.0 (test c.loop-place.region) c.loop-place.sets.items c.in_ok-sorted.field-0.items k.1 c.in_default.ensures found c.in_ok-sorted.ensures.same up
 
 pub returns-clause-below : goal.returns-clause-below
 returns-clause-below g c =
@@ -151,7 +151,7 @@ returns-clause-below g c =
     let s = state_of test c.args.state.now in
     let i = c.args.size in
     let inv = c.loop-place.invariant in
-    let k = decided c.args.language p n i true s c.requires.graph.rows.problem refl c.requires.rest in
+    let k = decided c.args.format p n i true s c.requires.graph.rows.problem refl c.requires.rest in
     all_moved (λ (z : g.row.C.Denot). (x : ℕ) → test z x ≡ true → x < n) c.loop-place.sets.items c.in_ok-sorted.field-0.items c.in_ok-sorted.ensures.same (inv.found k.0 k.1).below
 
 pub returns-clause-counted : goal.returns-clause-counted

@@ -10,7 +10,7 @@ use Rattle.state_groups.proofs.lists.groups_of.Given as goal
 abbrev pub invariant-loop-place : goal.invariant-loop-place
 invariant-loop-place g l = record {
   left : IsOpen (state_of (g.C.CountySet.test) l.state) l.size (g.C.CountySet.test l.region);
-  found : (keep : List ℕ → Bool) → Decides l.language (problem_at l.graph.ordered.now) (length l.graph.ordered.now.order) l.size true (state_of (g.C.CountySet.test) l.state) keep
+  found : (keep : List ℕ → Bool) → Decides l.format (problem_at l.graph.ordered.now) (length l.graph.ordered.now.order) l.size true (state_of (g.C.CountySet.test) l.state) keep
       → IsFound g.row.C.Denot (g.C.CountySet.test) (problem_at l.graph.ordered.now) (length l.graph.ordered.now.order) (state_of (g.C.CountySet.test) l.state) l.size (g.C.CountySet.test l.region) keep l.sets.items;
   stepped : OneStepEach (Begun (problem_at l.graph.ordered.now) (length l.graph.ordered.now.order) (state_of (g.C.CountySet.test) l.state) l.size (g.C.CountySet.test l.region)) l.fn.steps.used l.steps.used;
   counted : l.fn.steps.used + length l.sets.items ≤ l.steps.used;

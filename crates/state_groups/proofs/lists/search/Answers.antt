@@ -93,6 +93,6 @@ grow-requires-clause-knows g c =
     let freed : (x : ℕ) → test growth.free x ≡ others (test c.args.region) c.args.place x = λ x. ap (λ (z : g.row.C.Denot). test z x) c.in_ok-growth.ensures.free ∙ c.without-free.ensures.places x in (
       c.requires.places,
       c.requires.rest,
-      fewer_tables c.args.language p n c.args.limit (test c.args.state.now.rest) (test c.args.region) (test growth.free) c.args.tables.now
+      fewer_tables c.args.format p n c.args.limit (test c.args.state.now.rest) (test c.args.region) (test growth.free) c.args.tables.now
           (λ x e. (and_parts (test c.args.region x) (not (x == c.args.place)) (sym (freed x) ∙ e)).0) c.requires.tables,
     )

@@ -9,7 +9,7 @@ returns g c =
     let test = g.C.CountySet.test in
     let input = c.args.input.now in
     let it = c.args.test.now in
-    none_fits_ok it.language (problem_at input.graph.now.ordered.now) (length input.graph.now.ordered.now.order) input.limit it.exact (state_of test it.state.now) (test c.args.growth.now.set) (test c.args.growth.now.free) c.strands.result c.strands.ensures
+    none_fits_ok it.format (problem_at input.graph.now.ordered.now) (length input.graph.now.ordered.now.order) input.limit it.exact (state_of test it.state.now) (test c.args.growth.now.set) (test c.args.growth.now.free) c.strands.result c.strands.ensures
 
 pub returns-then-not-may_grow : goal.returns-then-not-may_grow
 returns-then-not-may_grow g c =
@@ -21,4 +21,4 @@ returns-then-not-may_grow g c =
     let growth = c.args.growth.now in
     let none : not c.may_grow.result ≡ true = search rules in
     λ yes keep d.
-    none_grows it.language p n input.limit it.exact (state_of test it.state.now) keep (test growth.set) (test growth.free) (test c.in_ok-reach.reach) c.may_grow.result d none c.in_ok-reach.ensures.all c.may_grow.ensures
+    none_grows it.format p n input.limit it.exact (state_of test it.state.now) keep (test growth.set) (test growth.free) (test c.in_ok-reach.reach) c.may_grow.result d none c.in_ok-reach.ensures.all c.may_grow.ensures

@@ -28,7 +28,7 @@ returns-clause-groups g c =
     let whole = c.requires.graph.order in
     let at : IsStateAt order (in_codes order t) t = states_have_codes.there order t (order_once p order whole) c.requires.placed.rest in
     IfOk-weaker c.groups_of.result
-    (λ v. (r : Round) → r.order ≡ places_below (length order) → r.language ≡ c.args.round.now.language → AreGroupsOf (problem_at c.args.graph.now.ordered.now) r t size (lists_of (length order) test v.items))
+    (λ v. (r : Round) → r.order ≡ places_below (length order) → r.format ≡ c.args.round.now.format → AreGroupsOf (problem_at c.args.graph.now.ordered.now) r t size (lists_of (length order) test v.items))
     (λ v. AreGroupsOf p round (in_codes order t) size (codes_of_sets order test v.items))
     (λ v are. subst (λ z. AreGroupsOf p round (in_codes order t) size z) (map_twice (codes_at order) (λ (z : g.row.C.Denot). places_of (length order) (test z)) v.items) (groups_by_codes p order round (in_codes order t) t size (lists_of (length order) test v.items) c.requires.order whole at are))
     c.groups_of.ensures.groups

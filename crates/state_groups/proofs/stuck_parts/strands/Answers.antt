@@ -1,7 +1,7 @@
 use Rattle.std.proofs.Common.{◌∙◌, ◌&&◌, ℕ, not, ap, sym, subst, length}
 use Rattle.std.specs.Prelude.{IsTrue}
 use Rattle.county_problem.specs.OrderedValue.{problem_at}
-use Rattle.certificate_data.specs.declared.language.Language.{Language}
+use Rattle.certificate_data.specs.declared.format.Format.{Format}
 use Rattle.state_groups.specs.StateValue.{state_of}
 use Rattle.state_groups.specs.Stranding.{NoneFits, StrandedPart}
 use Rattle.state_groups.proofs.FitLemmas.{if_ok, below_listed}
@@ -17,6 +17,6 @@ returns-in_ok-copy-in-Wide g c =
     let set = test c.args.set.now in
     let free = test c.args.free.now in
     let left = test c.minus-left.result in
-    if_ok c.has_stranded_part.result (λ found. IsTrue found → StrandedPart p s left free) (λ none. IsTrue none → (limit : ℕ) → NoneFits c.args.language p n limit s set free)
-    (λ b h e limit. subst (λ (l : Language). NoneFits l p n limit s set free) (sym c.in-Wide.is) (stranded p s n limit set left free (λ x. c.minus-left.ensures.places x ∙ ap (λ z. z && not (set x)) (c.in_ok-copy-in-Wide.ensures.places x)) c.requires.graph.rows.problem (λ x r. below_listed n x (c.requires.below x r)) (h e)))
+    if_ok c.has_stranded_part.result (λ found. IsTrue found → StrandedPart p s left free) (λ none. IsTrue none → (limit : ℕ) → NoneFits c.args.format p n limit s set free)
+    (λ b h e limit. subst (λ (l : Format). NoneFits l p n limit s set free) (sym c.in-Wide.is) (stranded p s n limit set left free (λ x. c.minus-left.ensures.places x ∙ ap (λ z. z && not (set x)) (c.in_ok-copy-in-Wide.ensures.places x)) c.requires.graph.rows.problem (λ x r. below_listed n x (c.requires.below x r)) (h e)))
     c.has_stranded_part.ensures

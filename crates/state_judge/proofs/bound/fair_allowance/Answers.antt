@@ -14,9 +14,9 @@ pub returns-in_ok-weight-in-Weigh-clause-line : goal.returns-in_ok-weight-in-Wei
 returns-in_ok-weight-in-Weigh-clause-line g c =
     let p = problem_of c.args.graph.now.ordered.now.problem in
     let s = state_at c.args.graph.now.ordered.now.order g.C.CountySet.test c.args.state.now in
-    let language = c.args.round.now.language in
-    subst (λ (z : Allowance). IsFair language p s c.args.size (allowance_of z) × (c.shared.result ≡ allowance p s c.args.size c.args.used (allowance_of z))) (sym c.in-Weigh.is)
-    (weighed language p s c.args.size c.args.used c.in-Weigh.quota c.as_slice.result.now c.in-Weigh.weights c.in_ok-most.field-0 c.from.result c.in_ok-weight-in-Weigh.weight c.shared.result c.as_slice.ensures c.in_ok-most.ensures.value c.from.ensures c.in_ok-weight-in-Weigh.ensures.weights c.shared.ensures)
+    let format = c.args.round.now.format in
+    subst (λ (z : Allowance). IsFair format p s c.args.size (allowance_of z) × (c.shared.result ≡ allowance p s c.args.size c.args.used (allowance_of z))) (sym c.in-Weigh.is)
+    (weighed format p s c.args.size c.args.used c.in-Weigh.quota c.as_slice.result.now c.in-Weigh.weights c.in_ok-most.field-0 c.from.result c.in_ok-weight-in-Weigh.weight c.shared.result c.as_slice.ensures c.in_ok-most.ensures.value c.from.ensures c.in_ok-weight-in-Weigh.ensures.weights c.shared.ensures)
 
 pub returns-in_ok-weight-in-Weigh-clause-steps : goal.returns-in_ok-weight-in-Weigh-clause-steps
 returns-in_ok-weight-in-Weigh-clause-steps g c =

@@ -14,6 +14,6 @@ returns g c =
     let it = c.args.self.now in
     record {
       kept = IfOk-weaker c.fits_and_is_asked.result _ _
-          (λ kept h keep d. kept_test it.language p n c.args.input.now.limit it.exact (state_of test it.state.now) keep (test growth.set) (test growth.free) kept d c.requires.growth.growth c.requires.whole h)
+          (λ kept h keep d. kept_test it.format p n c.args.input.now.limit it.exact (state_of test it.state.now) keep (test growth.set) (test growth.free) kept d c.requires.growth.growth c.requires.whole h)
           c.fits_and_is_asked.ensures;
     }

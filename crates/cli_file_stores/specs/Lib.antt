@@ -1,0 +1,5 @@
+pub mod Files
+pub mod FileStore
+pub mod History
+pub mod Sums
+pub mod Memory

@@ -1,7 +1,0 @@
-use Rattle.std.proofs.Common.{◌≡◌, drop}
-use Rattle.cli_shelves.specs.Files.{held}
-use Rattle.cli_shelves.specs.Memory.{files_of}
-use Rattle.cli_shelves.proofs.memory.file_named.Given as goal
-
-abbrev pub invariant-loop-file : goal.invariant-loop-file
-invariant-loop-file l = held (files_of (drop l.file-index l.files)) l.name ≡ held (files_of l.files) l.name
