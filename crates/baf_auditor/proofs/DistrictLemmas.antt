@@ -11,7 +11,7 @@ use Rattle.std.specs.Str.{bytes_eq}
 use Rattle.std.proofs.lemmas.Map.Views.{Contains-from_lookup, lookup-from_Contains}
 use Rattle.std.proofs.lemmas.Map.Keys.{IsDistinct-from_sorted}
 use Rattle.grouping_laws.specs.Sets.{indicator, sum_by, contains}
-use Rattle.place_laws.proofs.Sums.{total_ones, total_same}
+use Rattle.place_sets.proofs.Sums.{total_ones, total_same}
 use Rattle.pl94_counties.specs.declared.blocks.Block.{Block}
 use Rattle.pl94_counties.proofs.TraceLemmas.{contains_head, contains_tail, contains_nil, contains_cases}
 use Rattle.baf_auditor.specs.Labels.{assigns}

@@ -2,7 +2,7 @@
 use Rattle.std.proofs.Common.{◌≡◌, ℕ, ◌+◌, ◌≤◌, ◌<◌, Bool, true, false, cond, List, [], ◌∷◌, ◌++◌, ◌==◌, refl, ap, ◌∙◌, arith, ◌⊎◌, inl, inr, Contains, Option, Some, None}
 use Rattle.std.proofs.lemmas.Bool.{eq-eqb, eqb-true, cases_lt}
 use Rattle.grouping_laws.specs.Sets.{indicator, count}
-use Rattle.place_laws.proofs.Sums.{sum_by-append}
+use Rattle.place_sets.proofs.Sums.{sum_by-append}
 use Rattle.grouping_laws.proofs.Digits.{true_digit}
 use Rattle.grouping_laws.proofs.Elements.{Has, has_from_contains}
 use Rattle.board_laws.specs.Skeleton.{Skeleton, waits, proved, split, Parts, no_part, part, onto, pieces, pieces_in, waiting, waiting_in, put, put_in}

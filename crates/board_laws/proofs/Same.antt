@@ -4,7 +4,7 @@ use Rattle.std.proofs.lemmas.Bool.{eq-eqb, eqb-true}
 use Rattle.grouping_laws.specs.Sets.{indicator, count_in, contains}
 use Rattle.grouping_laws.specs.Problem.{Problem}
 use Rattle.grouping_laws.specs.GroupsFrom.{IsBefore, IsLesser, place}
-use Rattle.place_laws.proofs.Sums.{often_some}
+use Rattle.place_sets.proofs.Sums.{often_some}
 use Rattle.grouping_laws.proofs.Digits.{true_digit}
 use Rattle.grouping_laws.proofs.Elements.{Has, has_left, has_right, contains_from_has}
 use Rattle.certificate_data.specs.Round.{Round}

@@ -8,8 +8,8 @@ use Rattle.grouping_laws.proofs.Elements.{Has, all_from_has, has_from_contains, 
 use Rattle.grouping_laws.proofs.Parts.{has-filter}
 use Rattle.grouping_laws.proofs.Places.{has_member}
 use Rattle.grouping_laws.proofs.PlaceCodes.{member_has, mapped_has, has_mapped}
-use Rattle.place_laws.specs.PlaceSets.{places_of}
-use Rattle.place_laws.proofs.Sums.{total_same, total_ones}
+use Rattle.place_sets.specs.PlaceSets.{places_of}
+use Rattle.place_sets.proofs.Sums.{total_same, total_ones}
 use Rattle.certificate_data.specs.declared.format.Format.{Format}
 use Rattle.certificate_laws.specs.Regions.{listed}
 use Rattle.certificate_laws.specs.State.{State, open_to}

@@ -11,7 +11,7 @@ use Rattle.grouping_laws.proofs.Elements.{Has, has_get, has_all, contains_from_h
 use Rattle.grouping_laws.proofs.Places.{has_member, place_at, places_are_codes}
 use Rattle.grouping_laws.proofs.PlaceCodes.{Below, mapped_has, has_mapped, member_code, code_place}
 use Rattle.grouping_laws.proofs.PlaceProblem.{order_once}
-use Rattle.place_laws.specs.PlaceSets.{places_of}
+use Rattle.place_sets.specs.PlaceSets.{places_of}
 use Rattle.connected_laws.proofs.PlaceLists.{placed, placed_test, placed_below}
 use Rattle.certificate_data.specs.Round.{Round}
 use Rattle.certificate_laws.specs.State.{State}

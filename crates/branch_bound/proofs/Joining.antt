@@ -1,7 +1,7 @@
 -- A branch behind those of a search so far.
 use Rattle.std.proofs.Common.{◌≡◌, ℕ, ◌≤◌, List, [], ◌∷◌, ◌++◌, filter, All, AllPairs, Option, Some, None, refl, ap, sym, ◌∙◌, subst, arith}
 use Rattle.std.specs.List.{AllByRecursion}
-use Rattle.place_laws.proofs.AllLists.{all_append}
+use Rattle.place_sets.proofs.AllLists.{all_append}
 use Rattle.grouping_laws.specs.Problem.{Problem}
 use Rattle.grouping_laws.specs.Sets.{contains}
 use Rattle.grouping_laws.specs.Grouping.{Grouping, sets_of}

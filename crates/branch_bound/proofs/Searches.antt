@@ -36,7 +36,7 @@ use Rattle.certificate_text.specs.TreeItems.{FitsInTree}
 use Rattle.branch_bound.specs.Searching.{search_state, IsPositionAt, IsEnd, IsProof, IsBetter, IsTakeOf, AreTakesOf, IsChoice}
 use Rattle.branch_bound.specs.declared.input.SearchInput.{SearchInput}
 use Rattle.branch_bound.specs.declared.position.Position.{Position}
-use Rattle.place_laws.proofs.AllLists.{all_append}
+use Rattle.place_sets.proofs.AllLists.{all_append}
 use Rattle.branch_bound.proofs.Joining.{take_step, branch_step, complete_step, lines_step}
 
 -- a position is at its own state

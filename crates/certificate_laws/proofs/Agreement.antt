@@ -5,7 +5,7 @@ use Rattle.county_codes.specs.declared.group.Group.{Group}
 use Rattle.grouping_laws.specs.Sets.{indicator, sum_by, count, count_in, contains, SameSet}
 use Rattle.grouping_laws.specs.Problem.{Problem, Suits, people_of, Connected, LawfulGroup}
 use Rattle.grouping_laws.specs.Grouping.{Grouping, Lawful, counts, sets_of, seats_of}
-use Rattle.place_laws.proofs.Sums.{sum_by-map, total_alike, often_some, digit_one}
+use Rattle.place_sets.proofs.Sums.{sum_by-map, total_alike, often_some, digit_one}
 use Rattle.grouping_laws.proofs.Elements.{Has, has_all, has_from_contains, contains_from_has, has_set}
 use Rattle.grouping_laws.proofs.Digits.{digit_true, true_digit}
 use Rattle.grouping_laws.proofs.Sizes.{stands_some, count-le-count_in}

@@ -5,7 +5,7 @@ use Rattle.county_codes.specs.declared.group.Group.{Group}
 use Rattle.grouping_laws.specs.Sets.{indicator, sum_by, count, count_in, contains}
 use Rattle.grouping_laws.specs.Problem.{Problem}
 use Rattle.grouping_laws.specs.Grouping.{Grouping, Lawful, counts, sets_of}
-use Rattle.place_laws.proofs.Sums.{total_same, total_ones, sum_by-append}
+use Rattle.place_sets.proofs.Sums.{total_same, total_ones, sum_by-append}
 use Rattle.grouping_laws.proofs.Elements.{Has, has-map}
 use Rattle.grouping_laws.proofs.Sizes.{share, below, below_more, below-le, below_all, below_same, same_sizes}
 use Rattle.certificate_data.specs.declared.format.Format.{Format}

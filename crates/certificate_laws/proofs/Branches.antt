@@ -7,7 +7,7 @@ use Rattle.grouping_laws.specs.Sets.{indicator, count, contains, Inside, SameSet
 use Rattle.grouping_laws.specs.Problem.{Problem, LawfulGroup}
 use Rattle.grouping_laws.specs.Grouping.{Grouping, Lawful}
 use Rattle.grouping_laws.specs.GroupsFrom.{IsOrder}
-use Rattle.place_laws.proofs.Sums.{sum_by-append, total_le, total_times, total_ones, digit_one}
+use Rattle.place_sets.proofs.Sums.{sum_by-append, total_le, total_times, total_ones, digit_one}
 use Rattle.grouping_laws.proofs.Elements.{Has, has_all, all_from_has, has_left, has_right, has_append, contains_from_has}
 use Rattle.grouping_laws.proofs.Digits.{true_digit}
 use Rattle.grouping_laws.proofs.Alike.{member_same}

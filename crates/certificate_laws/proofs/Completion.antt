@@ -6,7 +6,7 @@ use Rattle.county_codes.specs.declared.group.Group.{Group}
 use Rattle.grouping_laws.specs.Sets.{indicator, sum_by, count_in, contains, Inside}
 use Rattle.grouping_laws.specs.Problem.{Problem, Suits, people_of, Connected, LawfulGroup}
 use Rattle.grouping_laws.specs.Grouping.{Grouping, sets_of, seats_of}
-use Rattle.place_laws.proofs.Sums.{digit_one}
+use Rattle.place_sets.proofs.Sums.{digit_one}
 use Rattle.grouping_laws.proofs.Elements.{Has, has-map, has_set}
 use Rattle.grouping_laws.proofs.Digits.{digit_true, true_digit}
 use Rattle.grouping_laws.proofs.Sizes.{stands_some, count-le-count_in}

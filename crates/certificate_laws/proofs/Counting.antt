@@ -2,7 +2,7 @@
 use Rattle.std.proofs.Common.{◌≡◌, ℕ, ◌+◌, ◌≤◌, ◌<◌, Bool, true, false, cond, ◌||◌, ◌==◌, List, [], ◌∷◌, length, filter, refl, sym, ap, subst, arith}
 use Rattle.std.proofs.lemmas.Bool.{false≢true, eqb-true}
 use Rattle.grouping_laws.specs.Sets.{indicator, sum_by, count, contains}
-use Rattle.place_laws.proofs.Sums.{total_le, often_none, often_some, total_within, total_ones}
+use Rattle.place_sets.proofs.Sums.{total_le, often_none, often_some, total_within, total_ones}
 
 -- a sum over what a test keeps
 pub sum_by-filter : (f : ℕ → ℕ) (q : ℕ → Bool) (xs : List ℕ) → sum_by f (filter q xs) ≡ sum_by (λ x. cond (q x) (f x) 0) xs

@@ -7,7 +7,7 @@ use Rattle.grouping_laws.specs.Problem.{Problem, Suits, people_of}
 use Rattle.grouping_laws.specs.Parts.{IsPart, AreParts}
 use Rattle.grouping_laws.specs.Ranges.{IsLeast, IsMost, SuitAll, seated}
 use Rattle.grouping_laws.specs.GroupsFrom.{IsLesser, IsBefore, place, IsOrder}
-use Rattle.place_laws.proofs.Sums.{sum_by-append, total_alike, digit_one}
+use Rattle.place_sets.proofs.Sums.{sum_by-append, total_alike, digit_one}
 use Rattle.grouping_laws.proofs.Elements.{Has, has_all, has_from_contains, contains_from_has}
 use Rattle.grouping_laws.proofs.Digits.{true_digit}
 use Rattle.grouping_laws.proofs.Alike.{Alike, length_alike, alike_from_same, in_order_alike, member_same, member_alike, lawful_alike}

@@ -8,7 +8,7 @@ use Rattle.grouping_laws.specs.Problem.{Problem, Suits, people_of, Connected, La
 use Rattle.grouping_laws.specs.Grouping.{Grouping, counts, sets_of}
 use Rattle.grouping_laws.specs.Parts.{IsPart, AreParts}
 use Rattle.grouping_laws.specs.Ranges.{IsLeast, IsMost, HasRange, seated, SuitAll}
-use Rattle.place_laws.proofs.Sums.{sum_by-append}
+use Rattle.place_sets.proofs.Sums.{sum_by-append}
 use Rattle.grouping_laws.proofs.Elements.{Has, has_all, all_from_has, contains_from_has, has_append, has_left, has_right}
 use Rattle.grouping_laws.proofs.Digits.{true_digit}
 use Rattle.grouping_laws.proofs.Ranges.{seats_to}

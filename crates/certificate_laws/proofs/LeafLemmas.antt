@@ -4,7 +4,7 @@ use Rattle.grouping_laws.specs.Sets.{count_in, contains}
 use Rattle.grouping_laws.specs.Problem.{Problem, Suits, people_of}
 use Rattle.grouping_laws.specs.Grouping.{Grouping, sets_of, seats_of}
 use Rattle.grouping_laws.specs.Parts.{IsPart}
-use Rattle.place_laws.proofs.Sums.{sum_by-append, digit_one}
+use Rattle.place_sets.proofs.Sums.{sum_by-append, digit_one}
 use Rattle.grouping_laws.proofs.Elements.{has_all}
 use Rattle.grouping_laws.proofs.Digits.{true_digit}
 use Rattle.grouping_laws.proofs.Parts.{FillRegion, inner, part_suits, has_from_stands, has_hit, within_part}

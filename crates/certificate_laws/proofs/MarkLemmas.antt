@@ -8,7 +8,7 @@ use Rattle.grouping_laws.specs.Sets.{indicator, sum_by, count, contains, Inside}
 use Rattle.grouping_laws.specs.Problem.{Problem, LawfulGroup, Suits, people_of}
 use Rattle.grouping_laws.specs.Grouping.{Grouping, Lawful, counts, sets_of}
 use Rattle.grouping_laws.specs.GroupsFrom.{BeginsWith, IsGroupFrom, AreGroupsFrom, IsSetFrom}
-use Rattle.place_laws.proofs.Sums.{sum_by-append, digit_one}
+use Rattle.place_sets.proofs.Sums.{sum_by-append, digit_one}
 use Rattle.grouping_laws.proofs.Elements.{Has, contains_from_has}
 use Rattle.grouping_laws.proofs.Digits.{true_digit}
 use Rattle.grouping_laws.proofs.Alike.{begins, head_same}

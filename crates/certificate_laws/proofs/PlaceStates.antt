@@ -7,7 +7,7 @@ use Rattle.grouping_laws.specs.Problem.{Problem}
 use Rattle.grouping_laws.specs.GroupsFrom.{IsOrder, place}
 use Rattle.grouping_laws.specs.Places.{places_below, codes_at}
 use Rattle.county_problem.specs.OrderedValue.{code_at, at_places}
-use Rattle.place_laws.proofs.Sums.{often_none, often_some}
+use Rattle.place_sets.proofs.Sums.{often_none, often_some}
 use Rattle.grouping_laws.proofs.Elements.{has_get}
 use Rattle.grouping_laws.proofs.Places.{has_member, place_at, places_are_codes}
 use Rattle.grouping_laws.proofs.PlaceCodes.{member_code}

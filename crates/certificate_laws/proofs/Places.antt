@@ -7,13 +7,13 @@ use Rattle.grouping_laws.specs.Problem.{Problem, IsProblem}
 use Rattle.grouping_laws.specs.Parts.{IsPart, AreParts}
 use Rattle.grouping_laws.specs.GroupsFrom.{IsOrder, IsBefore, place}
 use Rattle.grouping_laws.specs.Places.{places_below, codes_at}
-use Rattle.place_laws.specs.PlaceSets.{places_of}
+use Rattle.place_sets.specs.PlaceSets.{places_of}
 use Rattle.county_problem.specs.OrderedValue.{code_at, at_places}
-use Rattle.place_laws.proofs.Sums.{often_none, often_some, member_from_often, total_alike, sum_by-map}
+use Rattle.place_sets.proofs.Sums.{often_none, often_some, member_from_often, total_alike, sum_by-map}
 use Rattle.grouping_laws.proofs.Elements.{Has, has_get, has_all, all_from_has, has_from_contains, contains_from_has}
 use Rattle.grouping_laws.proofs.Digits.{digit_true, often_member}
 use Rattle.grouping_laws.proofs.Places.{has_member, places_are_codes, filter_members}
-use Rattle.place_laws.proofs.PlaceSets.{often_below, often_tested}
+use Rattle.place_sets.proofs.PlaceSets.{often_below, often_tested}
 use Rattle.grouping_laws.proofs.PlaceCodes.{Below, member_has, mapped_has, has_mapped, often_code, member_code, code_place}
 use Rattle.grouping_laws.proofs.PlaceProblem.{below_ordered, places_ordered, order_once, suits_codes, suits_places, connected_codes, connected_places, ordered_codes, places_for, codes_for}
 use Rattle.grouping_laws.proofs.PlaceGroups.{before_codes, codes_pairs}

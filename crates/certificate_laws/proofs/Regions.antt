@@ -4,7 +4,7 @@ use Rattle.std.proofs.lemmas.Bool.{and_parts, and_from, false≢true, eqb-true}
 use Rattle.grouping_laws.specs.Sets.{indicator, count, contains, Inside}
 use Rattle.grouping_laws.specs.Problem.{Problem, Connected, IsProblem}
 use Rattle.grouping_laws.specs.Parts.{IsPart, AreParts}
-use Rattle.place_laws.proofs.Sums.{often_none}
+use Rattle.place_sets.proofs.Sums.{often_none}
 use Rattle.grouping_laws.proofs.Elements.{has_all, all_from_has}
 use Rattle.grouping_laws.proofs.Parts.{member_head, member_tail}
 use Rattle.grouping_laws.proofs.Fill.{one, grown, member_cases}

@@ -3,10 +3,10 @@ use Rattle.std.proofs.Common.{◌≡◌, ℕ, ◌+◌, ◌≤◌, ◌<◌, Bool,
 use Rattle.std.proofs.lemmas.Bool.{lt-ltb, ltb-true, ltb-false, cases_lt}
 use Rattle.std.proofs.lemmas.List.{map_push, get_or_past}
 use Rattle.grouping_laws.specs.Sets.{contains}
-use Rattle.place_laws.specs.PlaceSets.{places_of}
-use Rattle.place_laws.specs.Lists.{places_below}
-use Rattle.place_laws.proofs.Sums.{often_none, often_some}
-use Rattle.place_laws.proofs.PlaceSets.{contains-places_of, often_below, often_above}
+use Rattle.place_sets.specs.PlaceSets.{places_of}
+use Rattle.place_sets.specs.Lists.{places_below}
+use Rattle.place_sets.proofs.Sums.{often_none, often_some}
+use Rattle.place_sets.proofs.PlaceSets.{contains-places_of, often_below, often_above}
 
 -- the places of a set that has only places below n are its own
 pub own_places : (n : ℕ) (t : ℕ → Bool) → ((x : ℕ) → t x ≡ true → x < n) → (x : ℕ) → contains (places_of n t) x ≡ t x

@@ -6,7 +6,7 @@ use Rattle.county_codes.specs.declared.group.Group.{Group}
 use Rattle.grouping_laws.specs.Sets.{indicator, sum_by, count, contains}
 use Rattle.grouping_laws.specs.Problem.{Problem, Suits, people_of}
 use Rattle.grouping_laws.specs.Grouping.{Grouping, counts, sets_of}
-use Rattle.place_laws.proofs.Sums.{sum_by-append, sum_by-map, total_alike}
+use Rattle.place_sets.proofs.Sums.{sum_by-append, sum_by-map, total_alike}
 use Rattle.grouping_laws.proofs.Elements.{Has}
 use Rattle.grouping_laws.proofs.Alike.{Alike, length_alike, member_alike}
 use Rattle.certificate_laws.specs.Regions.{without}

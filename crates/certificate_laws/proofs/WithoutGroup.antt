@@ -4,7 +4,7 @@ use Rattle.std.proofs.lemmas.Bool.{and_parts, false≢true}
 use Rattle.grouping_laws.specs.Sets.{indicator, count, contains}
 use Rattle.grouping_laws.specs.Problem.{Problem}
 use Rattle.grouping_laws.specs.Parts.{IsPart}
-use Rattle.place_laws.proofs.Sums.{often_none, often_some}
+use Rattle.place_sets.proofs.Sums.{often_none, often_some}
 use Rattle.certificate_laws.specs.Regions.{without}
 
 and_yes : (b : Bool) → indicator (b && not false) ≡ indicator b

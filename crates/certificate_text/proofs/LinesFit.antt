@@ -18,7 +18,7 @@ use Rattle.certificate_lines.specs.declared.item.Wanted.TheVariants as want
 use Rattle.certificate_data.specs.TreeValue.{declared_allowance}
 use Rattle.certificate_text.specs.Trees.{items_of_tree, items_of_takes}
 use Rattle.certificate_text.specs.TreeItems.{FitsInTree, HasLines}
-use Rattle.place_laws.proofs.AllLists.{all_append}
+use Rattle.place_sets.proofs.AllLists.{all_append}
 
 branch_lines : (format : Format) (levels county : ℕ) (limit : Option ℕ) → IsWanted (want.Tree format levels) (item.Opens (opening.Branch county limit)) → IsWanted (want.Tree format 1) (item.Opens (opening.Branch county limit))
 branch_lines Plain levels county None f = (f.0, omega arith)

@@ -2,7 +2,7 @@
 use Rattle.std.proofs.Common.{◌≡◌, ℕ, ◌<◌, ◌≤◌, Bool, true, false, ◌||◌, ◌&&◌, not, ◌==◌, length, arith, refl, sym, ap, ◌∙◌, ◌⊎◌, inl, inr, ⊎_elim}
 use Rattle.std.proofs.lemmas.Bool.{and_parts, and_from, false≢true, eqb-true, eq-eqb}
 use Rattle.grouping_laws.specs.Problem.{Problem}
-use Rattle.place_laws.specs.PlaceSets.{places_of}
+use Rattle.place_sets.specs.PlaceSets.{places_of}
 use Rattle.connected_laws.specs.Growing.{IsGrowth, IsCandidate, IsWhole, IsMove, IsFront, only}
 
 or_cases : (a b : Bool) → (a || b) ≡ true → (a ≡ true) ⊎ (b ≡ true)

@@ -4,13 +4,13 @@ use Rattle.std.proofs.lemmas.Bool.{eqb-true, eq-eqb, ne_eqb, false≢true}
 use Rattle.grouping_laws.specs.Sets.{indicator, count, contains}
 use Rattle.grouping_laws.specs.Problem.{Problem, HasBorder}
 use Rattle.grouping_laws.specs.Places.{places_below}
-use Rattle.place_laws.specs.PlaceSets.{places_of}
-use Rattle.place_laws.proofs.Sums.{often_none, often_some, total_within, total_ones}
+use Rattle.place_sets.specs.PlaceSets.{places_of}
+use Rattle.place_sets.proofs.Sums.{often_none, often_some, total_within, total_ones}
 use Rattle.grouping_laws.proofs.Alike.{connected_alike, length_alike}
 use Rattle.grouping_laws.proofs.Sizes.{count-filter}
 use Rattle.grouping_laws.proofs.Fill.{grown}
 use Rattle.grouping_laws.proofs.Elements.{Has, has_from_contains, contains_from_has, has_left, has_right, has_append}
-use Rattle.place_laws.proofs.PlaceSets.{often_in, often_out, places_same}
+use Rattle.place_sets.proofs.PlaceSets.{often_in, often_out, places_same}
 use Rattle.connected_laws.specs.Growing.{IsExtension, AreKept, IsGrowth, IsCandidate, IsWhole, IsMove}
 use Rattle.connected_laws.proofs.PlaceLists.{often_placed, placed, placed_test, same_tests, some_member}
 use Rattle.connected_laws.proofs.Distinct.{Distinct, distinct_append, distinct_pairs, distinct_from_pairs}

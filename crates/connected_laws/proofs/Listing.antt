@@ -3,7 +3,7 @@ use Rattle.std.proofs.Common.{◌≡◌, ℕ, ◌+◌, ◌<◌, Bool, true, List
 use Rattle.std.proofs.lemmas.List.{map-append}
 use Rattle.std.proofs.lemmas.List.Elements.{All-append}
 use Rattle.grouping_laws.specs.Problem.{Problem}
-use Rattle.place_laws.specs.PlaceSets.{places_of}
+use Rattle.place_sets.specs.PlaceSets.{places_of}
 use Rattle.grouping_laws.proofs.Elements.{Has, has_all, all_from_has}
 use Rattle.connected_laws.specs.Growing.{IsExtension, IsGrowth, IsMove, IsWhole, AreKept}
 use Rattle.connected_laws.proofs.Growing.{leaf_kept, leaf_only, fork_kept, extension_taken, extension_left, parts_differ}

@@ -4,9 +4,9 @@ use Rattle.std.proofs.lemmas.Bool.{false≢true, ltb-true}
 use Rattle.grouping_laws.specs.Sets.{contains}
 use Rattle.grouping_laws.specs.Problem.{Problem, Suits, people_of, IsProblem}
 use Rattle.grouping_laws.specs.SeatWindow.{people_bounds}
-use Rattle.place_laws.specs.PlaceSets.{places_of}
-use Rattle.place_laws.proofs.Sums.{total_alike}
-use Rattle.place_laws.proofs.PlaceSets.{total_with}
+use Rattle.place_sets.specs.PlaceSets.{places_of}
+use Rattle.place_sets.proofs.Sums.{total_alike}
+use Rattle.place_sets.proofs.PlaceSets.{total_with}
 use Rattle.grouping_laws.proofs.PruneLemmas.{stays_small}
 use Rattle.connected_laws.specs.Growing.{AreKept, IsGrowth, IsMove, IsExtension, IsStart}
 use Rattle.connected_laws.specs.Listing.{HasMost}

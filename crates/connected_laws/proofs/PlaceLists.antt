@@ -3,9 +3,9 @@ use Rattle.std.proofs.Common.{◌≡◌, ℕ, ◌≤◌, ◌<◌, Bool, true, fa
 use Rattle.std.proofs.lemmas.Bool.{and_parts, eq-eqb, ltb-true}
 use Rattle.std.proofs.lemmas.Bool.Decides.{nat_tests}
 use Rattle.grouping_laws.specs.Sets.{count, contains}
-use Rattle.place_laws.specs.PlaceSets.{places_of}
-use Rattle.place_laws.proofs.Sums.{digit_one}
-use Rattle.place_laws.proofs.PlaceSets.{count-places_of, contains-places_of}
+use Rattle.place_sets.specs.PlaceSets.{places_of}
+use Rattle.place_sets.proofs.Sums.{digit_one}
+use Rattle.place_sets.proofs.PlaceSets.{count-places_of, contains-places_of}
 
 pub often_placed : (n c : ℕ) (t : ℕ → Bool) → count c (places_of n t) ≤ 1
 often_placed n c t = omega (arith, count-places_of n c t, digit_one (nat_lt c n && t c))

@@ -4,12 +4,12 @@ use Rattle.std.proofs.lemmas.Bool.{eqb-true, eq-eqb, false≢true, ltb-true, ltb
 use Rattle.grouping_laws.specs.Sets.{indicator, count, contains}
 use Rattle.grouping_laws.specs.Problem.{Problem, Suits, people_of}
 use Rattle.grouping_laws.specs.Places.{places_below}
-use Rattle.place_laws.specs.PlaceSets.{places_of}
+use Rattle.place_sets.specs.PlaceSets.{places_of}
 use Rattle.grouping_laws.specs.GroupsFrom.{BeginsWith, IsGroupFrom, IsSetFrom}
 use Rattle.grouping_laws.proofs.Fill.{one}
 use Rattle.grouping_laws.proofs.Alike.{connected_alike, length_alike}
 use Rattle.grouping_laws.proofs.Places.{filter_map_suc}
-use Rattle.place_laws.proofs.PlaceSets.{often_in, often_out}
+use Rattle.place_sets.proofs.PlaceSets.{often_in, often_out}
 use Rattle.connected_laws.specs.Growing.{IsExtension, IsGrowth, IsStart}
 use Rattle.connected_laws.proofs.PlaceLists.{often_placed, placed_below}
 

@@ -4,8 +4,8 @@ use Rattle.std.specs.Prelude.{length, AllPairs, Contains, ◌⊎◌, ◌↔◌}
 use Rattle.grouping_laws.specs.Sets.{contains}
 use Rattle.grouping_laws.specs.Problem.{Problem, Suits, people_of, Connected}
 use Rattle.grouping_laws.specs.Places.{places_below}
-use Rattle.place_laws.specs.PlaceSets.{places_of}
-pub use Rattle.place_laws.specs.PlaceSets.{sort_key}
+use Rattle.place_sets.specs.PlaceSets.{places_of}
+pub use Rattle.place_sets.specs.PlaceSets.{sort_key}
 
 -- a connected list of places, ascending, that has all of a set, else only free places, and is not too long
 pub record IsExtension (p : Problem) (n limit : ℕ) (set free : ℕ → Bool) (g : List ℕ) : Type 0 where

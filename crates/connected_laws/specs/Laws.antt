@@ -6,7 +6,7 @@ use Rattle.std.specs.List.Sorted.{IsSortedBy, IsPermutation}
 use Rattle.grouping_laws.specs.Sets.{contains}
 use Rattle.grouping_laws.specs.Problem.{Problem}
 use Rattle.grouping_laws.specs.Places.{places_below}
-use Rattle.place_laws.specs.PlaceSets.{places_of}
+use Rattle.place_sets.specs.PlaceSets.{places_of}
 use Rattle.grouping_laws.specs.GroupsFrom.{AreGroupsFrom, IsSetFrom}
 use Rattle.connected_laws.specs.Growing.{IsExtension, AreKept, IsGrowth, IsWhole, IsMove, IsStart, TestsSuiting}
 use Rattle.connected_laws.specs.Growing.{sort_key}

@@ -1,7 +1,7 @@
 -- What a search puts behind the sets that were there, and the steps that it takes.
 use Rattle.std.specs.Prelude.{ℕ, ◌+◌, ◌≡◌, ◌≢◌, ◌≤◌, Bool, true, List, ◌++◌, length, All, AllPairs}
 use Rattle.grouping_laws.specs.Problem.{Problem}
-pub use Rattle.place_laws.specs.PlaceSets.{lists_of, AreBelow}
+pub use Rattle.place_sets.specs.PlaceSets.{lists_of, AreBelow}
 use Rattle.connected_laws.specs.Growing.{AreKept, IsExtension}
 
 -- no free place has more people than this number

@@ -2,9 +2,9 @@
 use Rattle.std.proofs.Common.{◌≡◌, ℕ, zero, suc, ◌+◌, ◌≤◌, ◌<◌, Bool, true, false, ◌||◌, ◌&&◌, not, ◌==◌, length, refl, sym, ap, ◌∙◌, arith}
 use Rattle.std.proofs.lemmas.Bool.{and_parts, and_from, false≢true, eqb-true, eq-eqb}
 use Rattle.std.proofs.lemmas.List.{length-map}
-use Rattle.place_laws.specs.Lists.{places_below}
-use Rattle.place_laws.specs.PlaceSets.{places_of}
-use Rattle.place_laws.proofs.Sums.{total_ones}
+use Rattle.place_sets.specs.Lists.{places_below}
+use Rattle.place_sets.specs.PlaceSets.{places_of}
+use Rattle.place_sets.proofs.Sums.{total_ones}
 use Rattle.grouping_laws.specs.Sets.{contains}
 use Rattle.grouping_laws.specs.Problem.{Problem}
 use Rattle.grouping_laws.specs.Parts.{IsPart}
@@ -15,7 +15,7 @@ use Rattle.connected_laws.proofs.PlaceLists.{often_placed, placed, placed_test}
 use Rattle.connected_laws.proofs.Starts.{start_growth}
 use Rattle.connected_laws.specs.Growing.{later}
 use Rattle.connected_laws.proofs.StartSets.{starts_as}
-use Rattle.place_laws.proofs.PlaceSums.{total_all}
+use Rattle.place_sets.proofs.PlaceSums.{total_all}
 
 length_below : (n : ℕ) → length (places_below n) ≡ n
 length_below zero = refl

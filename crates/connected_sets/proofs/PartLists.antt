@@ -2,9 +2,9 @@
 use Rattle.std.proofs.Common.{◌≡◌, ℕ, ◌+◌, ◌<◌, Bool, true, false, nat_lt, ◌&&◌, not, ◌==◌, List, [], ◌∷◌, ◌++◌, length, refl, sym, ap, ◌∙◌, arith, ⊎_elim, subst}
 use Rattle.std.proofs.lemmas.Bool.{and_from, and_parts, false≢true, eqb-true, ltb-true}
 use Rattle.std.proofs.lemmas.Bool.Decides.{nat_tests}
-use Rattle.place_laws.specs.PlaceSets.{places_of}
-use Rattle.place_laws.proofs.Sums.{sum_by-append, total_ones}
-use Rattle.place_laws.proofs.PlaceSets.{count-places_of, total_part, total_without}
+use Rattle.place_sets.specs.PlaceSets.{places_of}
+use Rattle.place_sets.proofs.Sums.{sum_by-append, total_ones}
+use Rattle.place_sets.proofs.PlaceSets.{count-places_of, total_part, total_without}
 use Rattle.grouping_laws.specs.Sets.{indicator, count, count_in}
 use Rattle.grouping_laws.specs.Problem.{Problem}
 use Rattle.grouping_laws.specs.Parts.{IsPart, AreParts}

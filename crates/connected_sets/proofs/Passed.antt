@@ -1,6 +1,6 @@
 -- A set that is passed over is one of its own extensions, so that its step is its own.
 use Rattle.std.proofs.Common.{◌≡◌, ℕ, ◌+◌, Bool, List, [], ◌∷◌, length, refl, subst, arith, inr, ⊎_elim}
-use Rattle.place_laws.specs.PlaceSets.{places_of}
+use Rattle.place_sets.specs.PlaceSets.{places_of}
 use Rattle.grouping_laws.specs.Problem.{Problem}
 use Rattle.connected_laws.specs.Growing.{IsExtension, IsGrowth}
 use Rattle.connected_laws.specs.Listing.{HasStepped}

@@ -1,6 +1,6 @@
 -- What a growth looks at, and where it stands.
 use Rattle.std.specs.Prelude.{ℕ, ◌≡◌, Bool, length}
-use Rattle.place_laws.specs.PlaceSets.{places_of}
+use Rattle.place_sets.specs.PlaceSets.{places_of}
 use Rattle.grouping_laws.specs.Problem.{Problem, people_of}
 use Rattle.connected_laws.specs.Growing.{IsGrowth, IsFront}
 use Rattle.connected_sets.specs.Graphs.{graph_places, place_problem}

@@ -1,7 +1,7 @@
 //! What a growth keeps, what it passes over, and which place joins its set next.
 
 ghost use Rattle.std.specs.Prelude.{◌≡◌, ℕ, Bool, List, [], true, false, ◌<◌, MatchOption, IfOk, IsTrue, length};
-ghost use Rattle.place_laws.specs.PlaceSets.{places_of};
+ghost use Rattle.place_sets.specs.PlaceSets.{places_of};
 ghost use Rattle.grouping_laws.specs.Problem.{Problem};
 ghost use Rattle.connected_laws.specs.Growing.{IsWhole, AreKept};
 ghost use Rattle.connected_sets.specs.Growths.{problem_in, places_in, IsSoundGrowth};

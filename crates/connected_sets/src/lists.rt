@@ -1,7 +1,7 @@
 //! The places of a set as a list.
 
 ghost use Rattle.std.specs.Prelude.{◌≡◌, ℕ, true, ◌<◌, ◌≤◌, IfOk};
-ghost use Rattle.place_laws.specs.PlaceSets.{places_of};
+ghost use Rattle.place_sets.specs.PlaceSets.{places_of};
 
 use place_sets::CountySet;
 use smallvec::SmallVec;

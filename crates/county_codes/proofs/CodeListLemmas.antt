@@ -1,9 +1,9 @@
 -- What searches in lists of codes say.
 use Rattle.std.proofs.Common.{◌≡◌, ℕ, ◌+◌, ◌≤◌, ◌==◌, Bool, true, false, not, cond, ◌||◌, List, [], ◌∷◌, ◌++◌, None, Some, if◌then◌else◌, refl, sym, ap, ◌∙◌, subst, arith, append_assoc}
 use Rattle.std.proofs.lemmas.Bool.{eqb-true, eq-eqb, false≢true}
-use Rattle.place_laws.specs.Lists.{indicator, count, contains}
+use Rattle.place_sets.specs.Lists.{indicator, count, contains}
 use Rattle.county_codes.specs.CodeLists.{repeated_after, first_unlisted}
-use Rattle.place_laws.proofs.Sums.{sum_by-append, often_none, often_some}
+use Rattle.place_sets.proofs.Sums.{sum_by-append, often_none, often_some}
 
 -- a code that doesn't stand before stands once more at most
 often_added : (before : List ℕ) (x c : ℕ) → contains before x ≡ false → count c before ≤ 1 → count c (before ++ x ∷ []) ≤ 1

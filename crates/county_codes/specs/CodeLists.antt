@@ -1,6 +1,6 @@
 -- Codes in lists of codes.
 use Rattle.std.specs.Prelude.{ℕ, not, List, [], ◌∷◌, ◌++◌, Option, Some, None, find, if◌then◌else◌}
-use Rattle.place_laws.specs.Lists.{contains}
+use Rattle.place_sets.specs.Lists.{contains}
 
 -- the first code of a list that stands before, in the list or among `before`
 abbrev pub repeated_after : List ℕ → List ℕ → Option ℕ

@@ -1,7 +1,7 @@
 -- Lists of counties: their codes and their people.
 use Rattle.std.specs.Prelude.{ℕ, ◌==◌, List, map, if◌then◌else◌}
 use Rattle.county_codes.specs.declared.county.County.{County}
-use Rattle.place_laws.specs.Lists.{sum_by}
+use Rattle.place_sets.specs.Lists.{sum_by}
 
 -- the codes of counties
 abbrev pub codes_of : List County → List ℕ

@@ -1,7 +1,7 @@
 //! Questions about lists of county codes: membership, the first repeated code, the first unlisted code.
 
 ghost use Rattle.std.specs.Prelude.{◌≡◌, ℕ, IfOk};
-ghost use Rattle.place_laws.specs.Lists.{contains};
+ghost use Rattle.place_sets.specs.Lists.{contains};
 ghost use Rattle.county_codes.specs.CodeLists.{first_repeated, first_unlisted};
 ghost use Rattle.county_codes.specs.Counties.{codes_of};
 

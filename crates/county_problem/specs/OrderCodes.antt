@@ -1,6 +1,6 @@
 -- The codes of sets of places of an order.
 use Rattle.std.specs.Prelude.{ℕ, Bool, List, map, length}
-use Rattle.place_laws.specs.PlaceSets.{places_of}
+use Rattle.place_sets.specs.PlaceSets.{places_of}
 use Rattle.grouping_laws.specs.Places.{codes_at}
 
 -- the codes of a set's places, in their order

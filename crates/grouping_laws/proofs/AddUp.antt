@@ -4,7 +4,7 @@ use Rattle.grouping_laws.specs.Sets.{indicator, sum_by, count, count_in, contain
 use Rattle.grouping_laws.specs.Problem.{Problem, Suits, people_of, IsProblem}
 use Rattle.grouping_laws.specs.Grouping.{sets_of}
 use Rattle.grouping_laws.specs.Totals.{WindowsAddUp, SizesAddUp, GroupsFit}
-use Rattle.place_laws.proofs.Sums.{total_within, total_ones, often_none, often_some}
+use Rattle.place_sets.proofs.Sums.{total_within, total_ones, often_none, often_some}
 use Rattle.grouping_laws.proofs.Elements.{has_all}
 use Rattle.grouping_laws.proofs.Sizes.{same_sizes}
 use Rattle.grouping_laws.proofs.Windows.{suits_sum}

@@ -5,7 +5,7 @@ use Rattle.grouping_laws.specs.Sets.{indicator, count, contains, Inside, SameSet
 use Rattle.grouping_laws.specs.Problem.{Problem, Suits, Connected, HasBorder, LawfulGroup}
 use Rattle.std.proofs.lemmas.List.Elements.{filter_agree}
 use Rattle.grouping_laws.specs.GroupsFrom.{BeginsWith, IsGroupFrom}
-use Rattle.place_laws.proofs.Sums.{often_none, often_some, member_from_often, total_alike, total_ones}
+use Rattle.place_sets.proofs.Sums.{often_none, often_some, member_from_often, total_alike, total_ones}
 use Rattle.grouping_laws.proofs.Sizes.{count-filter}
 use Rattle.grouping_laws.proofs.Digits.{true_digit}
 

@@ -4,7 +4,7 @@ use Rattle.std.proofs.lemmas.Bool.{eqb-true, eq-eqb, false≢true}
 use Rattle.grouping_laws.specs.Sets.{indicator, count, contains}
 use Rattle.grouping_laws.specs.Problem.{Problem, Connected}
 use Rattle.grouping_laws.specs.Parts.{IsPart}
-use Rattle.place_laws.proofs.Sums.{often_none, often_some, total_within, total_ones, sum_by-take_out, take_out}
+use Rattle.place_sets.proofs.Sums.{often_none, often_some, total_within, total_ones, sum_by-take_out, take_out}
 use Rattle.grouping_laws.proofs.Alike.{connected_alike, length_alike, alike_from_same}
 use Rattle.grouping_laws.proofs.Fill.{whole, same_from}
 

@@ -1,7 +1,7 @@
 -- Tests as numbers.
 use Rattle.std.proofs.Common.{◌≡◌, ℕ, ◌≤◌, Bool, true, false, List, refl, ap, arith}
 use Rattle.grouping_laws.specs.Sets.{indicator, count, contains}
-use Rattle.place_laws.proofs.Sums.{often_none, often_some}
+use Rattle.place_sets.proofs.Sums.{often_none, often_some}
 
 pub digit_true : (b : Bool) → 1 ≤ indicator b → b ≡ true
 digit_true true h = refl

@@ -6,7 +6,7 @@ use Rattle.grouping_laws.specs.Problem.{Problem, Suits, people_of, Connected, Ha
 use Rattle.county_codes.specs.declared.group.Group.{Group}
 use Rattle.grouping_laws.specs.Grouping.{Grouping, sets_of, seats_of}
 use Rattle.grouping_laws.specs.Parts.{IsPart}
-use Rattle.place_laws.proofs.Sums.{sum_by-map, total_alike, often_none, often_some}
+use Rattle.place_sets.proofs.Sums.{sum_by-map, total_alike, often_none, often_some}
 use Rattle.grouping_laws.proofs.Elements.{Has, has-map}
 use Rattle.grouping_laws.proofs.Sizes.{flat, every, sum_by-flat}
 use Rattle.grouping_laws.proofs.Windows.{suits_sum}

@@ -7,11 +7,11 @@ use Rattle.grouping_laws.specs.Problem.{Problem, Suits, people_of}
 use Rattle.grouping_laws.specs.GroupsFrom.{IsOrder, place, IsLesser, IsBefore, IsGroupFrom, AreGroupsFrom, IsSetFrom}
 use Rattle.grouping_laws.specs.Places.{places_below, codes_at}
 use Rattle.grouping_laws.specs.PlaceProblem.{code_at, at_places}
-use Rattle.place_laws.proofs.Sums.{often_some, member_from_often, total_within}
+use Rattle.place_sets.proofs.Sums.{often_some, member_from_often, total_within}
 use Rattle.grouping_laws.proofs.Digits.{digit_true}
 use Rattle.grouping_laws.proofs.Elements.{Has, has_get, has_from_contains, contains_from_has}
 use Rattle.grouping_laws.proofs.Places.{has_member}
-use Rattle.place_laws.proofs.PlaceSets.{often_below}
+use Rattle.place_sets.proofs.PlaceSets.{often_below}
 use Rattle.grouping_laws.proofs.PlaceCodes.{Below, member_has, mapped_has, has_mapped, places_here, code_place, places_back, codes_injective}
 use Rattle.grouping_laws.proofs.PlaceProblem.{below_ordered, often_kept, below_once, order_once, people_codes, suits_codes, suits_places, ordered_codes, places_for, codes_for, set_codes, set_places}
 

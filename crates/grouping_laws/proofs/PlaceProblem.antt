@@ -6,15 +6,15 @@ use Rattle.grouping_laws.specs.Sets.{count, contains}
 use Rattle.grouping_laws.specs.Problem.{Problem, Suits, people_of, Connected, HasBorder, IsProblem}
 use Rattle.grouping_laws.specs.GroupsFrom.{IsOrder, place, BeginsWith, IsSetFrom}
 use Rattle.grouping_laws.specs.Places.{places_below, codes_at}
-use Rattle.place_laws.specs.PlaceSets.{places_of}
+use Rattle.place_sets.specs.PlaceSets.{places_of}
 use Rattle.grouping_laws.specs.PlaceProblem.{code_at, at_places}
-use Rattle.place_laws.proofs.Sums.{often_some, digit_one, sum_by-map}
+use Rattle.place_sets.proofs.Sums.{often_some, digit_one, sum_by-map}
 use Rattle.grouping_laws.proofs.Digits.{often_member}
 use Rattle.grouping_laws.proofs.Alike.{head_same}
 use Rattle.grouping_laws.proofs.Elements.{Has}
 use Rattle.grouping_laws.proofs.Places.{has_member, filter_members, place_at, places_are_codes}
 use Rattle.grouping_laws.proofs.Parts.{has-filter}
-use Rattle.place_laws.proofs.PlaceSets.{often_below, often_above, often_tested, contains-places_of}
+use Rattle.place_sets.proofs.PlaceSets.{often_below, often_above, often_tested, contains-places_of}
 use Rattle.grouping_laws.proofs.PlaceCodes.{Below, member_has, mapped_has, member_code, code_place}
 
 -- the places below n, and what a list in their order has

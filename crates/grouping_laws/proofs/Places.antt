@@ -4,7 +4,7 @@ use Rattle.std.proofs.lemmas.Bool.{eqb-true, eq-eqb, false≢true}
 use Rattle.grouping_laws.specs.Sets.{indicator, count, contains}
 use Rattle.grouping_laws.specs.GroupsFrom.{place}
 use Rattle.grouping_laws.specs.Places.{places_below, codes_at, PlacesAreCodes}
-use Rattle.place_laws.proofs.Sums.{often_some}
+use Rattle.place_sets.proofs.Sums.{often_some}
 use Rattle.grouping_laws.proofs.Elements.{Has, has_all, has_get}
 
 tail_once : (x : ℕ) (xs : List ℕ) → ((c : ℕ) → count c (x ∷ xs) ≤ 1) → (c : ℕ) → count c xs ≤ 1

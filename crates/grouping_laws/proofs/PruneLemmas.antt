@@ -3,13 +3,13 @@ use Rattle.std.proofs.Common.{◌≡◌, ℕ, ◌+◌, ◌-◌, ◌*◌, ◌≤�
 use Rattle.grouping_laws.specs.Sets.{indicator, sum_by, count, contains}
 use Rattle.grouping_laws.specs.Problem.{Problem, Suits, people_of}
 use Rattle.grouping_laws.specs.Places.{places_below}
-use Rattle.place_laws.specs.PlaceSets.{places_of}
+use Rattle.place_sets.specs.PlaceSets.{places_of}
 use Rattle.grouping_laws.specs.SeatWindow.{people_bounds}
-use Rattle.place_laws.proofs.Sums.{total_alike, total_ones}
+use Rattle.place_sets.proofs.Sums.{total_alike, total_ones}
 use Rattle.grouping_laws.proofs.Elements.{Has}
 use Rattle.grouping_laws.proofs.Places.{has_member}
 use Rattle.grouping_laws.proofs.Parts.{has-filter, sum_by-split}
-use Rattle.place_laws.proofs.PlaceSets.{often_tested, count-places_of}
+use Rattle.place_sets.proofs.PlaceSets.{often_tested, count-places_of}
 use Rattle.grouping_laws.proofs.WindowLemmas.{above_quotient}
 
 -- a sum over a list in which nothing has more than a bound

@@ -7,7 +7,7 @@ use Rattle.grouping_laws.specs.Grouping.{Grouping, Lawful, sets_of, seats_of}
 use Rattle.std.specs.List.{AllZip}
 use Rattle.grouping_laws.specs.Parts.{IsPart}
 use Rattle.grouping_laws.specs.Ranges.{IsLeast, IsMost, SuitAll, seated, PartsAreLawful}
-use Rattle.place_laws.proofs.Sums.{often_none, often_some, digit_one}
+use Rattle.place_sets.proofs.Sums.{often_none, often_some, digit_one}
 use Rattle.grouping_laws.proofs.Elements.{Has, has_all, all_from_has, has_set}
 use Rattle.grouping_laws.proofs.Digits.{digit_true}
 use Rattle.grouping_laws.proofs.Sizes.{stands_some}

@@ -4,7 +4,7 @@ use Rattle.std.proofs.lemmas.Bool.{eqb-true, lt-ltb, le-ltb, false≢true}
 use Rattle.std.proofs.lemmas.Bool.Decides.{nat_tests}
 use Rattle.grouping_laws.specs.Sets.{indicator, sum_by, count, count_in, contains, Inside}
 use Rattle.grouping_laws.specs.Grouping.{counts}
-use Rattle.place_laws.proofs.Sums.{sum_by-append, total_add, total_times, total_same, total_ones, often_none, often_some, total_within, total_alike}
+use Rattle.place_sets.proofs.Sums.{sum_by-append, total_add, total_times, total_same, total_ones, often_none, often_some, total_within, total_alike}
 use Rattle.grouping_laws.proofs.Elements.{Has}
 
 pub stands_some : (c : ℕ) (sets : List (List ℕ)) (g : List ℕ) → Has sets g → contains g c ≡ true → 1 ≤ count_in c sets

@@ -2,7 +2,7 @@
 use Rattle.std.specs.Prelude.{ℕ, ◌≡◌, ◌≤◌, ◌<◌, Bool, true, List, map, filter, length, get_or, All}
 use Rattle.grouping_laws.specs.Sets.{count, contains}
 use Rattle.grouping_laws.specs.GroupsFrom.{place}
-pub use Rattle.place_laws.specs.Lists.{places_below}
+pub use Rattle.place_sets.specs.Lists.{places_below}
 
 -- the codes at places of an order
 abbrev pub codes_at : List ℕ → List ℕ → List ℕ

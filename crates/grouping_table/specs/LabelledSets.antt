@@ -1,6 +1,6 @@
 -- Withdrawn sets and groups, as the table labels them.
 use Rattle.std.specs.Prelude.{ℕ, ◌+◌, List, [], ◌∷◌, ◌++◌, Option, filter, find, codes, decimal}
-use Rattle.place_laws.specs.Lists.{contains}
+use Rattle.place_sets.specs.Lists.{contains}
 use Rattle.county_codes.specs.Counties.{people_in}
 use Rattle.county_codes.specs.declared.county.County.{County}
 use Rattle.county_codes.specs.declared.group.Group.{Group}

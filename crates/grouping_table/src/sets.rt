@@ -2,7 +2,7 @@
 
 ghost use Rattle.std.specs.Prelude.{◌≡◌, ◌++◌, IfOk, OnOk, map, codes as bytes_of, decimal};
 ghost use Rattle.std.specs.Option.{option_copied};
-ghost use Rattle.place_laws.specs.Lists.{contains};
+ghost use Rattle.place_sets.specs.Lists.{contains};
 ghost use Rattle.pl94_counties.specs.CountyNames.{county_name};
 ghost use Rattle.grouping_table.specs.Table.{unnamed_counties};
 ghost use Rattle.grouping_table.specs.LabelledSets.{people_of_set as people_of_set, set_under, numbered_groups};

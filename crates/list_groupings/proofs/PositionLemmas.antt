@@ -6,7 +6,7 @@ use Rattle.grouping_laws.specs.Sets.{sum_by, contains}
 use Rattle.grouping_laws.specs.Problem.{Problem}
 use Rattle.grouping_laws.proofs.Elements.{Has}
 use Rattle.grouping_laws.proofs.Places.{has_member}
-use Rattle.place_laws.proofs.Sums.{sum_by-map, sum_by-append, total_ones}
+use Rattle.place_sets.proofs.Sums.{sum_by-map, sum_by-append, total_ones}
 use Rattle.certificate_laws.specs.State.{State, close, raise, open_to}
 use Rattle.certificate_laws.specs.Regions.{without, listed}
 use Rattle.certificate_data.proofs.ListLaws.{taken_more}

@@ -14,8 +14,8 @@ use Rattle.grouping_laws.proofs.Digits.{often_member}
 use Rattle.grouping_laws.proofs.Elements.{Has, has_all, all_from_has, contains_from_has}
 use Rattle.grouping_laws.proofs.PlaceCodes.{mapped_has, has_mapped}
 use Rattle.grouping_laws.proofs.Seated.{seated_lawful}
-use Rattle.place_laws.proofs.Sums.{sum_by-map, total_alike, often_some, often_none}
-use Rattle.place_laws.proofs.PlaceSets.{often_tested}
+use Rattle.place_sets.proofs.Sums.{sum_by-map, total_alike, often_some, often_none}
+use Rattle.place_sets.proofs.PlaceSets.{often_tested}
 use Rattle.connected_laws.proofs.Distinct.{distinct_from_pairs}
 use Rattle.connected_laws.proofs.Sorting.{sorted_before}
 use Rattle.county_problem.specs.Allotting.{SuitEach}

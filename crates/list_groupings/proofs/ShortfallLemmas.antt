@@ -6,7 +6,7 @@ use Rattle.county_codes.specs.Limits.{most_counties}
 use Rattle.grouping_laws.specs.Sets.{indicator, sum_by}
 use Rattle.grouping_laws.specs.Problem.{Problem}
 use Rattle.grouping_laws.specs.Grouping.{counts}
-use Rattle.place_laws.proofs.Sums.{sum_by-append}
+use Rattle.place_sets.proofs.Sums.{sum_by-append}
 use Rattle.certificate_data.specs.declared.format.Format.{Format}
 use Rattle.certificate_laws.specs.State.{State, open_to}
 use Rattle.certificate_laws.specs.Regions.{listed}

@@ -12,8 +12,8 @@ use Rattle.grouping_laws.proofs.Digits.{false_digit}
 use Rattle.grouping_laws.proofs.Elements.{Has, all_from_has}
 use Rattle.grouping_laws.proofs.Parts.{has-filter}
 use Rattle.grouping_laws.proofs.Seated.{AllZip-append}
-use Rattle.place_laws.proofs.Sums.{often_some}
-use Rattle.place_laws.proofs.PlaceSets.{often_tested}
+use Rattle.place_sets.proofs.Sums.{often_some}
+use Rattle.place_sets.proofs.PlaceSets.{often_tested}
 use Rattle.certificate_data.specs.Round.{Round}
 use Rattle.certificate_laws.specs.State.{State, IsState}
 use Rattle.certificate_data.specs.Tree.{Allowance, leaf, bound}

@@ -7,7 +7,7 @@ use Rattle.grouping_laws.specs.Sets.{count_in, contains, SameSet}
 use Rattle.grouping_laws.specs.Problem.{Problem}
 use Rattle.grouping_laws.specs.Grouping.{Grouping, Lawful, sets_of}
 use Rattle.grouping_laws.specs.GroupsFrom.{IsBefore, IsLesser, place}
-use Rattle.place_laws.proofs.Sums.{digit_one}
+use Rattle.place_sets.proofs.Sums.{digit_one}
 use Rattle.grouping_laws.proofs.Elements.{Has, has_all, has_right, has_from_contains, contains_from_has, has_set}
 use Rattle.grouping_laws.proofs.Sizes.{count-le-count_in}
 use Rattle.certificate_data.specs.Round.{Round}

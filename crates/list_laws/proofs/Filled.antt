@@ -6,7 +6,7 @@ use Rattle.grouping_laws.specs.Sets.{indicator, count_in, contains, SameSet}
 use Rattle.grouping_laws.specs.Problem.{Problem, Connected, LawfulGroup}
 use Rattle.grouping_laws.specs.Grouping.{Grouping, Lawful, counts, sets_of}
 use Rattle.grouping_laws.specs.Ranges.{seated}
-use Rattle.place_laws.proofs.Sums.{digit_one}
+use Rattle.place_sets.proofs.Sums.{digit_one}
 use Rattle.grouping_laws.proofs.Elements.{Has, has_all, all_from_has, has_from_contains, contains_from_has, has-map, has_set}
 use Rattle.grouping_laws.proofs.Digits.{false_digit}
 use Rattle.grouping_laws.proofs.Sizes.{stands_some}

@@ -9,7 +9,7 @@ use Rattle.grouping_laws.specs.Grouping.{sets_of}
 use Rattle.county_problem.specs.ProblemValue.{problem_of, codes_of}
 use Rattle.grouping_laws.proofs.Elements.{has_set, all_from_has}
 use Rattle.grouping_laws.proofs.Sizes.{count-le-count_in}
-use Rattle.place_laws.proofs.Sums.{total_add, often_some, digit_one}
+use Rattle.place_sets.proofs.Sums.{total_add, often_some, digit_one}
 use Rattle.list_report.specs.Listing.{people_inside}
 use Rattle.list_report.specs.GroupPeople.{PeopleAreOfGroups}
 

@@ -10,7 +10,7 @@ use Rattle.grouping_laws.specs.Grouping.{Grouping, Lawful, sets_of}
 use Rattle.grouping_laws.proofs.Elements.{Has, has_from_contains, has_all}
 use Rattle.grouping_laws.proofs.Digits.{digit_true}
 use Rattle.grouping_laws.proofs.Sizes.{stands_some}
-use Rattle.place_laws.proofs.Sums.{often_some, digit_one}
+use Rattle.place_sets.proofs.Sums.{often_some, digit_one}
 use Rattle.list_report.specs.SharedSets.{has_set, first_sets, shared_sets, unshared_sets}
 use Rattle.list_report.specs.Regions.{unshared_counties}
 use Rattle.list_report.specs.Chains.{RegionsAreJoined}

@@ -4,7 +4,7 @@ ghost use Rattle.std.specs.Prelude.{◌≡◌, ℕ, map, IfOk};
 ghost use Rattle.std.specs.Cmp.Lexicographic.{slice_cmp};
 ghost use Rattle.std.specs.Ordering.{nat_cmp, is_lt};
 ghost use Rattle.std.specs.List.Sorted.{IsPermutation, IsSortedBy};
-ghost use Rattle.place_laws.specs.PlaceSets.{lists_of, sort_key, AreBelow};
+ghost use Rattle.place_sets.specs.PlaceSets.{lists_of, sort_key, AreBelow};
 
 use crate::county_set::CountySet;
 use crate::size_order::by_size_and_places;

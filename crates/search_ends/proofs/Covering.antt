@@ -5,8 +5,8 @@ use Rattle.grouping_laws.specs.Problem.{Problem, people_of}
 use Rattle.grouping_laws.specs.GroupsFrom.{IsOrder}
 use Rattle.grouping_laws.specs.Places.{places_below, codes_at}
 use Rattle.grouping_laws.specs.PlaceProblem.{at_places}
-use Rattle.place_laws.proofs.Sums.{sum_by-append, total_alike, total_ones, often_some, digit_one}
-use Rattle.place_laws.proofs.PlaceSums.{every}
+use Rattle.place_sets.proofs.Sums.{sum_by-append, total_alike, total_ones, often_some, digit_one}
+use Rattle.place_sets.proofs.PlaceSums.{every}
 use Rattle.grouping_laws.proofs.Elements.{Has}
 use Rattle.grouping_laws.proofs.Places.{places_are_codes}
 use Rattle.grouping_laws.proofs.PlaceProblem.{order_once, people_codes}

@@ -6,7 +6,7 @@ use Rattle.grouping_laws.specs.Sets.{indicator, sum_by, count, contains, SameSet
 use Rattle.grouping_laws.specs.Problem.{Problem, Suits, people_of, Connected, IsProblem}
 use Rattle.grouping_laws.specs.Grouping.{Grouping, Lawful, counts, sets_of}
 use Rattle.grouping_laws.specs.Ranges.{seated, SuitAll}
-use Rattle.place_laws.proofs.Sums.{sum_by-map}
+use Rattle.place_sets.proofs.Sums.{sum_by-map}
 use Rattle.grouping_laws.proofs.Elements.{Has, has_all, all_from_has, has_from_contains, contains_from_has, has-map, has_set}
 use Rattle.grouping_laws.proofs.Ranges.{people_have_ranges}
 use Rattle.grouping_laws.proofs.Seated.{seated_sets, seated_find, seated_lawful}

@@ -13,7 +13,7 @@ use Rattle.grouping_laws.proofs.Parts.{has-filter}
 use Rattle.grouping_laws.proofs.Places.{has_member, place_at}
 use Rattle.grouping_laws.proofs.PlaceCodes.{has_mapped}
 use Rattle.grouping_laws.proofs.PlaceProblem.{order_once}
-use Rattle.place_laws.proofs.Sums.{often_none, often_some}
+use Rattle.place_sets.proofs.Sums.{often_none, often_some}
 use Rattle.certificate_laws.proofs.Kept.{head_before, tail_pairs, filter_pairs}
 use Rattle.certificate_lines.specs.Lines.{ascend}
 use Rattle.certificate_data.specs.declared.weights.Weight.{Weight}

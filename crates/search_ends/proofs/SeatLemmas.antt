@@ -7,7 +7,7 @@ use Rattle.grouping_laws.specs.Ranges.{SuitAll}
 use Rattle.grouping_laws.specs.GroupsFrom.{IsOrder}
 use Rattle.grouping_laws.specs.Places.{places_below}
 use Rattle.grouping_laws.specs.PlaceProblem.{at_places}
-use Rattle.place_laws.proofs.Sums.{sum_by-map}
+use Rattle.place_sets.proofs.Sums.{sum_by-map}
 use Rattle.county_problem.specs.Allotting.{SuitEach}
 use Rattle.state_groups.specs.PlacedValues.{codes_of_set, codes_of_sets}
 use Rattle.search_ends.specs.FinishedStates.{CoverOnce}

@@ -8,8 +8,8 @@ use Rattle.grouping_laws.specs.PlaceProblem.{code_at}
 use Rattle.grouping_laws.proofs.Elements.{Has, has_all, has_get, has_append, all_from_has}
 use Rattle.grouping_laws.proofs.Places.{has_member}
 use Rattle.grouping_laws.proofs.PlaceCodes.{Below, member_code, code_place}
-use Rattle.place_laws.specs.PlaceSets.{places_of, Meets}
-use Rattle.place_laws.proofs.PlaceSets.{places_same, contains-places_of}
+use Rattle.place_sets.specs.PlaceSets.{places_of, Meets}
+use Rattle.place_sets.proofs.PlaceSets.{places_same, contains-places_of}
 use Rattle.connected_laws.specs.Listing.{AreBelow}
 use Rattle.connected_laws.proofs.PlaceLists.{placed_test, placed_below}
 use Rattle.state_groups.specs.PlacedValues.{codes_of_set, codes_of_sets}

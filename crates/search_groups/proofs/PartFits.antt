@@ -3,7 +3,7 @@ use Rattle.std.proofs.Common.{◌≡◌, ℕ, ◌+◌, ◌*◌, ◌≤◌, ◌<�
 use Rattle.std.proofs.lemmas.Bool.{and_from, false≢true, cases_lt}
 use Rattle.std.proofs.lemmas.List.{length-append}
 use Rattle.county_codes.specs.declared.group.Group.{Group}
-use Rattle.place_laws.proofs.Sums.{sum_by-append, total_within, total_ones, often_none}
+use Rattle.place_sets.proofs.Sums.{sum_by-append, total_within, total_ones, often_none}
 use Rattle.grouping_laws.specs.Sets.{indicator, count, count_in, contains, Inside}
 use Rattle.grouping_laws.specs.Problem.{Problem, Suits, people_of, Connected, IsProblem}
 use Rattle.grouping_laws.specs.Grouping.{Grouping, sets_of, seats_of}

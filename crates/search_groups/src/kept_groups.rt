@@ -2,7 +2,7 @@
 
 ghost use Rattle.std.specs.Prelude.{◌≡◌, ℕ, ◌+◌, ◌≤◌, ◌<◌, Bool, true, not, List, length, IfOk, IsErrOf};
 ghost use Rattle.std.specs.Fn.{FnReturnsAt};
-ghost use Rattle.place_laws.specs.PlaceSets.{Meets};
+ghost use Rattle.place_sets.specs.PlaceSets.{Meets};
 ghost use Rattle.county_problem.specs.OrderedValue.{code_at};
 ghost use Rattle.connected_sets.specs.Graphs.{graph_problem, graph_order, graph_places, IsGraph};
 ghost use Rattle.connected_laws.specs.Listing.{AreBelow};

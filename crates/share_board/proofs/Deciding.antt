@@ -8,7 +8,7 @@ use Rattle.grouping_laws.specs.Problem.{Problem, IsProblem, Connected, Suits, pe
 use Rattle.grouping_laws.specs.Parts.{IsPart}
 use Rattle.grouping_laws.specs.GroupsFrom.{IsOrder}
 use Rattle.grouping_laws.specs.SeatWindow.{IsRun, seat_run}
-use Rattle.place_laws.proofs.Sums.{often_none, often_some}
+use Rattle.place_sets.proofs.Sums.{often_none, often_some}
 use Rattle.grouping_laws.proofs.Digits.{true_digit, digit_true}
 use Rattle.grouping_laws.proofs.Elements.{Has, has_all}
 use Rattle.grouping_laws.proofs.Parts.{has-filter, member_head, member_tail}

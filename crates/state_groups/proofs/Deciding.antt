@@ -1,7 +1,7 @@
 -- Whether a set is to be kept can be decided.
 use Rattle.std.proofs.Common.{◌≡◌, ℕ, ◌≤◌, ◌<◌, ◌==◌, ◌||◌, Bool, true, false, Option, Some, None, List, [], ◌∷◌, filter, length, refl, sym, ap, ◌∙◌, subst, arith, ◌⊎◌, inl, inr, ⊎_elim}
 use Rattle.std.proofs.lemmas.Bool.{false≢true, eqb-true, eq-eqb, cases_lt, cases_eq, cases_Bool}
-use Rattle.place_laws.specs.Lists.{places_below}
+use Rattle.place_sets.specs.Lists.{places_below}
 use Rattle.grouping_laws.specs.Sets.{contains, count, Inside}
 use Rattle.grouping_laws.specs.Problem.{Problem, Suits, people_of, Connected, IsProblem}
 use Rattle.grouping_laws.specs.SeatWindow.{IsRun, seat_run}

@@ -2,9 +2,9 @@
 use Rattle.std.proofs.Common.{◌≡◌, ℕ, ◌≤◌, ◌<◌, Bool, true, false, nat_le, not, length, refl, sym, ◌∙◌, arith, inl, inr, subst, Result, Ok, Err}
 use Rattle.std.specs.Prelude.{IsTrue, IfOk, ◌↔◌, ◌⊎◌}
 use Rattle.std.proofs.lemmas.Bool.{false≢true, and_parts, and_from, leb-true, le-leb, cases_lt}
-use Rattle.place_laws.specs.PlaceSets.{places_of}
-use Rattle.place_laws.specs.Lists.{places_below}
-use Rattle.place_laws.proofs.PlaceSums.{every}
+use Rattle.place_sets.specs.PlaceSets.{places_of}
+use Rattle.place_sets.specs.Lists.{places_below}
+use Rattle.place_sets.proofs.PlaceSums.{every}
 use Rattle.grouping_laws.specs.Sets.{contains, Inside}
 use Rattle.grouping_laws.specs.Problem.{Problem, Suits, people_of, Connected}
 use Rattle.connected_laws.proofs.PlaceLists.{placed, placed_test, placed_below, often_placed}

@@ -2,7 +2,7 @@
 use Rattle.std.proofs.Common.{◌≡◌, ℕ, Bool, true, false, not, List, [], refl, sym, ◌∙◌}
 use Rattle.std.specs.Prelude.{IsTrue, IfOk, Result, Ok, Err, ◌↔◌}
 use Rattle.std.proofs.lemmas.Bool.{false≢true}
-use Rattle.place_laws.specs.PlaceSets.{places_of}
+use Rattle.place_sets.specs.PlaceSets.{places_of}
 use Rattle.grouping_laws.specs.Problem.{Problem}
 use Rattle.connected_laws.specs.Growing.{IsExtension, IsGrowth, IsWhole, AreKept}
 use Rattle.connected_laws.proofs.Growing.{none_kept, leaf_only}

@@ -4,8 +4,8 @@ use Rattle.std.proofs.Common.{◌≡◌, ℕ, ◌+◌, ◌≤◌, ◌==◌, ◌<
 use Rattle.std.specs.Prelude.{◌⊎◌, Option, Some, None, not}
 use Rattle.std.specs.Option.{is_some}
 use Rattle.std.proofs.lemmas.Bool.{false≢true, cases_lt, or_left, or_right, or_cases, eq-eqb, eqb-true}
-use Rattle.place_laws.specs.PlaceSets.{places_of, IsNext}
-use Rattle.place_laws.proofs.Sums.{take_out, total_le, total_ones, sum_by-take_out, digit_one}
+use Rattle.place_sets.specs.PlaceSets.{places_of, IsNext}
+use Rattle.place_sets.proofs.Sums.{take_out, total_le, total_ones, sum_by-take_out, digit_one}
 use Rattle.grouping_laws.specs.Sets.{indicator, sum_by, contains}
 use Rattle.grouping_laws.specs.Problem.{Problem, Connected}
 use Rattle.connected_laws.specs.Growing.{IsExtension, IsGrowth, IsFront}

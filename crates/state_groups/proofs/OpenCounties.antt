@@ -6,8 +6,8 @@ use Rattle.grouping_laws.specs.Sets.{count}
 use Rattle.grouping_laws.specs.Problem.{Problem, IsProblem}
 use Rattle.grouping_laws.specs.GroupsFrom.{IsOrder, place}
 use Rattle.grouping_laws.specs.Places.{places_below, codes_at}
-use Rattle.place_laws.specs.PlaceSets.{places_of}
-use Rattle.place_laws.proofs.Sums.{total_ones}
+use Rattle.place_sets.specs.PlaceSets.{places_of}
+use Rattle.place_sets.proofs.Sums.{total_ones}
 use Rattle.grouping_laws.specs.PlaceProblem.{code_at, at_places}
 use Rattle.grouping_laws.proofs.PlaceCodes.{Below, code_place}
 use Rattle.grouping_laws.proofs.PlaceProblem.{below_ordered, order_once, connected_codes, ordered_codes}

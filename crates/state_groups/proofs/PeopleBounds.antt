@@ -5,9 +5,9 @@ use Rattle.std.specs.Bool.{⊤}
 use Rattle.std.specs.List.Sorted.{IsNonDecreasingBy}
 use Rattle.std.proofs.Math.Seq.{drop-cons}
 use Rattle.std.proofs.lemmas.Bool.{and_parts, false≢true, eqb-true}
-use Rattle.place_laws.proofs.Sums.{total_alike, sum_by-map, total_ones}
-use Rattle.place_laws.proofs.PlaceSets.{often_in, often_out, total_union}
-use Rattle.place_laws.specs.PlaceSets.{places_of}
+use Rattle.place_sets.proofs.Sums.{total_alike, sum_by-map, total_ones}
+use Rattle.place_sets.proofs.PlaceSets.{often_in, often_out, total_union}
+use Rattle.place_sets.specs.PlaceSets.{places_of}
 use Rattle.grouping_laws.specs.Sets.{indicator, sum_by, count, contains}
 use Rattle.grouping_laws.specs.Problem.{Problem, people_of}
 use Rattle.grouping_laws.proofs.Elements.{Has, has_all, contains_from_has}

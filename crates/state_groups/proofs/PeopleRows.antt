@@ -5,10 +5,10 @@ use Rattle.std.specs.List.Sorted.{IsPermutation, IsNonDecreasingBy}
 use Rattle.std.proofs.lemmas.List.{map-append, length-map}
 use Rattle.std.proofs.lemmas.List.Sums.{sum_by-cons}
 use Rattle.std.proofs.lemmas.List.Sorted.{All-permutation, sum_by-IsPermutation, length_permutation}
-use Rattle.place_laws.specs.PlaceSets.{places_of}
-use Rattle.place_laws.proofs.Sums.{sum_by-map, total_ones}
-use Rattle.place_laws.proofs.PlaceSets.{often_in}
-use Rattle.place_laws.proofs.PlaceSums.{places_step, total_step}
+use Rattle.place_sets.specs.PlaceSets.{places_of}
+use Rattle.place_sets.proofs.Sums.{sum_by-map, total_ones}
+use Rattle.place_sets.proofs.PlaceSets.{often_in}
+use Rattle.place_sets.proofs.PlaceSums.{places_step, total_step}
 use Rattle.grouping_laws.specs.Sets.{indicator, sum_by}
 use Rattle.grouping_laws.specs.Problem.{Problem}
 use Rattle.grouping_laws.proofs.Elements.{Has, all_from_has}

@@ -5,8 +5,8 @@ use Rattle.std.proofs.lemmas.List.{length-map, length-append}
 use Rattle.std.proofs.lemmas.List.Elements.{All-nil}
 use Rattle.grouping_laws.specs.Problem.{Problem}
 use Rattle.grouping_laws.proofs.Elements.{Has, has_all, all_from_has}
-use Rattle.place_laws.specs.PlaceSets.{places_of}
-use Rattle.place_laws.specs.Lists.{places_below, contains}
+use Rattle.place_sets.specs.PlaceSets.{places_of}
+use Rattle.place_sets.specs.Lists.{places_below, contains}
 use Rattle.county_problem.specs.OrderedValue.{at_places}
 use Rattle.connected_sets.proofs.Filling.{few}
 use Rattle.connected_laws.specs.Listing.{lists_of, AreBelow}
@@ -17,7 +17,7 @@ use Rattle.state_groups.specs.StateValue.{state_of}
 use Rattle.certificate_laws.proofs.StateLemmas.{all_below, pushed_places}
 use Rattle.certificate_laws.proofs.Counting.{fewer_kept}
 use Rattle.certificate_laws.proofs.States.{same_state}
-use Rattle.place_laws.proofs.PlaceSets.{places_same}
+use Rattle.place_sets.proofs.PlaceSets.{places_same}
 use Rattle.state_groups.specs.PlacedValues.{IsPlaced, IsClosable}
 
 -- two facts of an answer give a third

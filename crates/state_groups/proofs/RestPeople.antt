@@ -2,9 +2,9 @@
 -- people that the group leaves suit some number of seats, if any place is left.
 use Rattle.std.proofs.Common.{◌≡◌, ℕ, ◌+◌, ◌-◌, ◌≤◌, ◌<◌, ◌==◌, Bool, true, false, ◌||◌, ◌&&◌, not, nat_le, List, [], ◌∷◌, filter, length, refl, sym, ap, ◌∙◌, subst, arith, inl, ⊎_elim, Some}
 use Rattle.std.proofs.lemmas.Bool.{and_parts}
-use Rattle.place_laws.specs.PlaceSets.{places_of}
-use Rattle.place_laws.proofs.Sums.{total_alike, total_ones}
-use Rattle.place_laws.proofs.PlaceSets.{total_union, often_in, often_out}
+use Rattle.place_sets.specs.PlaceSets.{places_of}
+use Rattle.place_sets.proofs.Sums.{total_alike, total_ones}
+use Rattle.place_sets.proofs.PlaceSets.{total_union, often_in, often_out}
 use Rattle.grouping_laws.specs.Sets.{indicator, sum_by, count, contains, Inside}
 use Rattle.grouping_laws.specs.Places.{places_below}
 use Rattle.grouping_laws.specs.Problem.{Problem, Suits, people_of, IsProblem}

@@ -4,7 +4,7 @@ use Rattle.std.specs.Prelude.{IsTrue, ◌↔◌, ◌⊎◌}
 use Rattle.std.specs.List.{AllZip}
 use Rattle.std.proofs.lemmas.Bool.{false≢true, ltb-true, lt-ltb}
 use Rattle.std.proofs.lemmas.List.{take_more, map-append, length-append, length-map, length-take, get_or-map}
-use Rattle.place_laws.proofs.Sums.{sum_by-append}
+use Rattle.place_sets.proofs.Sums.{sum_by-append}
 use Rattle.grouping_laws.specs.Sets.{sum_by}
 use Rattle.grouping_laws.specs.Problem.{Problem, Suits, people_of}
 use Rattle.grouping_laws.specs.Parts.{AreParts}

@@ -13,7 +13,7 @@ use Rattle.grouping_laws.specs.Problem.{Problem}
 use Rattle.grouping_laws.specs.Places.{places_below}
 use Rattle.grouping_laws.specs.GroupsFrom.{IsBefore}
 use Rattle.grouping_laws.proofs.Elements.{Has, has_all, all_from_has, has_append, has_left, has_right, has_from_contains, contains_from_has}
-use Rattle.place_laws.specs.PlaceSets.{places_of}
+use Rattle.place_sets.specs.PlaceSets.{places_of}
 use Rattle.connected_laws.specs.Growing.{only, IsExtension, sort_key}
 use Rattle.connected_laws.proofs.PlaceLists.{some_member}
 use Rattle.connected_laws.specs.Listing.{lists_of, AreBelow, IsListed, OneStepEach, HasStepped}

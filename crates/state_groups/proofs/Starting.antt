@@ -8,7 +8,7 @@ use Rattle.std.proofs.lemmas.List.Sorted.{IsPermutation-map}
 use Rattle.grouping_laws.specs.Problem.{Problem}
 use Rattle.grouping_laws.specs.Places.{places_below}
 use Rattle.grouping_laws.proofs.Elements.{has_all, all_from_has}
-use Rattle.place_laws.specs.PlaceSets.{places_of}
+use Rattle.place_sets.specs.PlaceSets.{places_of}
 use Rattle.connected_laws.specs.Growing.{only, IsExtension, AreKept, sort_key}
 use Rattle.connected_laws.specs.Listing.{lists_of, OneStepEach, HasStepped}
 use Rattle.connected_laws.proofs.Distinct.{distinct_pairs}

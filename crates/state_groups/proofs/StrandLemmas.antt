@@ -1,7 +1,7 @@
 -- Sets that strand a part.
 use Rattle.std.proofs.Common.{◌≡◌, ℕ, ◌*◌, ◌-◌, ◌≤◌, ◌<◌, Bool, true, false, ◌&&◌, ◌||◌, not, List, length, refl, sym, ap, ◌∙◌, arith, inl, inr, ⊎_elim, mul-le-mul_right, mul-le-mul_left}
 use Rattle.std.proofs.lemmas.Bool.{false≢true, and_parts, and_from}
-use Rattle.place_laws.proofs.Sums.{total_within}
+use Rattle.place_sets.proofs.Sums.{total_within}
 use Rattle.grouping_laws.specs.Sets.{contains}
 use Rattle.grouping_laws.specs.Problem.{Problem, Suits, IsProblem, people_of}
 use Rattle.grouping_laws.specs.SeatWindow.{people_bounds}

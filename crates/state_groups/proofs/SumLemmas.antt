@@ -1,8 +1,8 @@
 -- Sums over the places of a set, taken one after another.
 use Rattle.std.proofs.Common.{◌≡◌, ℕ, zero, suc, ◌+◌, ◌-◌, ◌≤◌, ◌<◌, Bool, true, false, cond, ap, ◌∙◌, arith, subst}
-use Rattle.place_laws.specs.Lists.{sum_by}
-use Rattle.place_laws.specs.PlaceSets.{places_of}
-use Rattle.place_laws.proofs.PlaceSums.{total_step}
+use Rattle.place_sets.specs.Lists.{sum_by}
+use Rattle.place_sets.specs.PlaceSets.{places_of}
+use Rattle.place_sets.proofs.PlaceSums.{total_step}
 
 step_none : (f : ℕ → ℕ) (t : ℕ → Bool) (i : ℕ) → t i ≡ false → sum_by f (places_of (i + 1) t) ≡ sum_by f (places_of i t)
 step_none f t i e = omega (arith, total_step f t i, ap (λ b. cond b (f i) 0) e)

@@ -3,7 +3,7 @@ use Rattle.std.specs.Prelude.{ℕ, ◌≡◌, ◌<◌, ◌≤◌, ◌==◌, Bool
 use Rattle.std.specs.List.Sorted.{IsNonDecreasingBy}
 use Rattle.grouping_laws.specs.Sets.{indicator, sum_by}
 use Rattle.grouping_laws.specs.Problem.{Problem, Suits, people_of}
-use Rattle.place_laws.specs.PlaceSets.{places_of}
+use Rattle.place_sets.specs.PlaceSets.{places_of}
 use Rattle.certificate_data.specs.declared.format.Format.{Format}
 use Rattle.certificate_data.specs.declared.format.Format.TheVariants.{Wide}
 use Rattle.state_groups.specs.declared.tables.Tables.{Tables}

@@ -1,6 +1,6 @@
 -- Values of the Rust types `State` and `CountySet` by the places of an order, and what they say by codes.
 use Rattle.std.specs.Prelude.{ℕ, ◌+◌, ◌≡◌, ◌≤◌, ◌<◌, Bool, true, List, length, All}
-use Rattle.place_laws.specs.PlaceSets.{places_of}
+use Rattle.place_sets.specs.PlaceSets.{places_of}
 pub use Rattle.county_problem.specs.OrderCodes.{codes_of_set, codes_of_sets}
 use Rattle.state_groups.specs.declared.state.State.{State as StateHeld}
 use Rattle.certificate_laws.specs.State.{State}

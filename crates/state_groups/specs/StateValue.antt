@@ -1,6 +1,6 @@
 -- The state that a value of the Rust type stands for.
 use Rattle.std.specs.Prelude.{ℕ, Bool, map, length, get_or}
-use Rattle.place_laws.specs.PlaceSets.{places_of}
+use Rattle.place_sets.specs.PlaceSets.{places_of}
 use Rattle.state_groups.specs.declared.state.State.{State as StateHeld}
 use Rattle.certificate_laws.specs.State.{State}
 

@@ -2,7 +2,7 @@
 
 ghost use Rattle.std.specs.Prelude.{◌≡◌, ℕ, true, ◌<◌, ◌≤◌, length, get_or, All, IfOk, IsTrue, ◌↔◌};
 ghost use Rattle.grouping_laws.specs.Sets.{sum_by};
-ghost use Rattle.place_laws.specs.PlaceSets.{places_of};
+ghost use Rattle.place_sets.specs.PlaceSets.{places_of};
 ghost use Rattle.county_problem.specs.OrderedValue.{problem_at};
 ghost use Rattle.state_groups.specs.StateValue.{state_of};
 ghost use Rattle.certificate_laws.specs.BoundLines.{room_at};

@@ -2,7 +2,7 @@
 
 ghost use Rattle.std.specs.Prelude.{◌≡◌, ℕ, true, false, ◌<◌, ◌≤◌, MatchOption, IfOk, IsTrue, ◌↔◌, length};
 ghost use Rattle.grouping_laws.specs.Problem.{Connected, people_of};
-ghost use Rattle.place_laws.specs.PlaceSets.{places_of};
+ghost use Rattle.place_sets.specs.PlaceSets.{places_of};
 ghost use Rattle.connected_sets.specs.Growths.{problem_in, places_in};
 ghost use Rattle.connected_sets.specs.Graphs.{IsGraph};
 ghost use Rattle.state_groups.specs.StateValue.{state_of};

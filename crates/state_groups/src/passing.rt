@@ -4,7 +4,7 @@ ghost use Rattle.std.specs.Prelude.{◌≡◌, ℕ, ◌+◌, ◌^◌, Bool, List
 ghost use Rattle.std.specs.Prelude.{IsTrue, length};
 ghost use Rattle.grouping_laws.specs.Sets.{contains};
 ghost use Rattle.grouping_laws.specs.Problem.{people_of};
-ghost use Rattle.place_laws.specs.PlaceSets.{places_of};
+ghost use Rattle.place_sets.specs.PlaceSets.{places_of};
 ghost use Rattle.grouping_laws.specs.Places.{places_below};
 ghost use Rattle.connected_sets.specs.Growths.{problem_in, places_in};
 ghost use Rattle.connected_sets.specs.Graphs.{IsGraph};

@@ -3,7 +3,7 @@
 ghost use Rattle.std.specs.Prelude.{◌≡◌, ℕ, true, ◌<◌, ◌≤◌, ◌||◌, nat_lt, length, map, All, IfOk, IfSome, IsTrue, ◌↔◌};
 ghost use Rattle.grouping_laws.specs.Problem.{Suits, people_of};
 ghost use Rattle.grouping_laws.specs.SeatWindow.{IsRun};
-ghost use Rattle.place_laws.specs.PlaceSets.{places_of};
+ghost use Rattle.place_sets.specs.PlaceSets.{places_of};
 ghost use Rattle.county_problem.specs.OrderedValue.{problem_at};
 ghost use Rattle.connected_sets.specs.Graphs.{graph_places, place_problem, IsGraph};
 ghost use Rattle.state_groups.specs.StateValue.{state_of};

@@ -6,8 +6,8 @@ use Rattle.grouping_laws.specs.Problem.{Problem}
 use Rattle.grouping_laws.specs.Grouping.{counts}
 use Rattle.grouping_laws.specs.Places.{codes_at}
 use Rattle.grouping_laws.specs.PlaceProblem.{code_at}
-use Rattle.place_laws.specs.PlaceSets.{places_of}
-use Rattle.place_laws.proofs.Sums.{sum_by-map, total_same}
+use Rattle.place_sets.specs.PlaceSets.{places_of}
+use Rattle.place_sets.proofs.Sums.{sum_by-map, total_same}
 use Rattle.certificate_data.specs.declared.format.Format.{Format}
 use Rattle.state_groups.specs.declared.state.State.{State as StateHeld}
 use Rattle.certificate_laws.specs.Regions.{listed}

@@ -10,9 +10,9 @@ use Rattle.grouping_laws.specs.PlaceProblem.{code_at}
 use Rattle.grouping_laws.proofs.Elements.{Has, has_all, all_from_has, has_from_contains, contains_from_has}
 use Rattle.grouping_laws.proofs.Places.{has_member}
 use Rattle.grouping_laws.proofs.PlaceCodes.{mapped_has, has_mapped}
-use Rattle.place_laws.specs.PlaceSets.{places_of}
-use Rattle.place_laws.proofs.Sums.{sum_by-map, often_none, often_some}
-use Rattle.place_laws.proofs.PlaceSets.{places_same}
+use Rattle.place_sets.specs.PlaceSets.{places_of}
+use Rattle.place_sets.proofs.Sums.{sum_by-map, often_none, often_some}
+use Rattle.place_sets.proofs.PlaceSets.{places_same}
 use Rattle.connected_laws.proofs.PlaceLists.{placed_below}
 use Rattle.certificate_data.specs.Round.{Round}
 use Rattle.certificate_laws.specs.Regions.{listed}

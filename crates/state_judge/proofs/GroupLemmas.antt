@@ -9,7 +9,7 @@ use Rattle.grouping_laws.specs.Places.{places_below, codes_at}
 use Rattle.grouping_laws.proofs.Elements.{Has, has_from_contains, contains_from_has, has_all, all_from_has}
 use Rattle.grouping_laws.proofs.PlaceCodes.{Below, mapped_has, has_mapped, member_code, code_place, codes_injective}
 use Rattle.grouping_laws.proofs.PlaceProblem.{order_once, below_ordered, connected_codes, ordered_codes}
-use Rattle.place_laws.specs.PlaceSets.{places_of}
+use Rattle.place_sets.specs.PlaceSets.{places_of}
 use Rattle.county_problem.specs.OrderedValue.{code_at, at_places}
 use Rattle.connected_laws.specs.Listing.{lists_of, AreBelow, OneStepEach}
 use Rattle.connected_laws.proofs.Distinct.{Distinct, no_more_than, distinct_from_pairs}

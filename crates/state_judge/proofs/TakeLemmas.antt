@@ -4,8 +4,8 @@ use Rattle.std.specs.List.{slice_get}
 use Rattle.std.proofs.lemmas.Bool.{false≢true}
 use Rattle.std.proofs.lemmas.List.{append_assoc, append-nil, append_cancel_left, map-append, length-append, drop_more, drop_all, length-map, get_or-map}
 use Rattle.grouping_laws.specs.Places.{codes_at}
-use Rattle.place_laws.specs.PlaceSets.{places_of, IsNext}
-use Rattle.place_laws.proofs.PlaceSums.{places_step}
+use Rattle.place_sets.specs.PlaceSets.{places_of, IsNext}
+use Rattle.place_sets.proofs.PlaceSums.{places_step}
 use Rattle.county_problem.specs.OrderedValue.{code_at}
 use Rattle.checker_laws.specs.Branches as branches
 

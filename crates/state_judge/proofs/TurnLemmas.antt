@@ -7,7 +7,7 @@ use Rattle.grouping_laws.specs.GroupsFrom.{IsOrder, BeginsWith, place}
 use Rattle.grouping_laws.specs.Places.{codes_at}
 use Rattle.grouping_laws.proofs.PlaceProblem.{order_once}
 use Rattle.grouping_laws.proofs.Places.{place_at, places_are_codes}
-use Rattle.place_laws.specs.PlaceSets.{IsNext}
+use Rattle.place_sets.specs.PlaceSets.{IsNext}
 use Rattle.connected_laws.proofs.Starts.{begins_least}
 use Rattle.county_problem.specs.OrderedValue.{code_at}
 use Rattle.certificate_data.specs.declared.format.Format.TheVariants.{Plain, Wide}

@@ -8,7 +8,7 @@ use Rattle.connected_laws.proofs.Fronts.{skipped_front}
 use Rattle.connected_laws.proofs.Growing.{skipped_growth, fewer_free}
 use Rattle.connected_laws.proofs.Listing.{on_ok, listed_none, listed_fork, stepped_none, stepped_taken, stepped_fork}
 use Rattle.grouping_laws.specs.Problem.{people_of}
-use Rattle.place_laws.specs.PlaceSets.{places_of}
+use Rattle.place_sets.specs.PlaceSets.{places_of}
 use Rattle.county_problem.specs.OrderedValue.{problem_at}
 use Rattle.connected_sets.specs.Growths.{IsSoundGrowth}
 use Rattle.connected_sets.specs.declared.stop.Stop.TheVariants.{StepLimit}

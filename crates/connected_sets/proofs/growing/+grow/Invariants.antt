@@ -1,5 +1,5 @@
 use Rattle.std.proofs.Common.{length}
-use Rattle.place_laws.specs.PlaceSets.{places_of}
+use Rattle.place_sets.specs.PlaceSets.{places_of}
 use Rattle.connected_sets.proofs.growing.+grow.Given as goal
 
 abbrev pub decreases-grow : goal.decreases-grow

@@ -1,6 +1,6 @@
 use Rattle.std.proofs.Common.{◌≡◌, ℕ, ◌<◌, inl, Bool, true, false, Option, Some, None, MatchOption, length, tests, arith}
 use Rattle.grouping_laws.specs.Problem.{Problem}
-use Rattle.place_laws.specs.PlaceSets.{places_of}
+use Rattle.place_sets.specs.PlaceSets.{places_of}
 use Rattle.county_problem.specs.OrderedValue.{problem_at}
 use Rattle.connected_laws.specs.Growing.{IsGrowth, IsFront, IsWhole, IsCandidate}
 use Rattle.connected_laws.proofs.Fronts.{whole_front}

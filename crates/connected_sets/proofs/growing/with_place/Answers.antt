@@ -1,6 +1,6 @@
 use Rattle.std.proofs.Common.{◌≡◌, ℕ, ◌<◌, ◌&&◌, not, ◌==◌, length, arith, ap, ◌∙◌}
 use Rattle.std.proofs.lemmas.Result.{IfOk-from_err}
-use Rattle.place_laws.proofs.PlaceSums.{total_all}
+use Rattle.place_sets.proofs.PlaceSums.{total_all}
 use Rattle.county_problem.specs.OrderedValue.{problem_at}
 use Rattle.connected_laws.specs.Growing.{IsMove}
 use Rattle.connected_laws.proofs.Fronts.{grown_front}

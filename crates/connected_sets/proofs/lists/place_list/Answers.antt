@@ -1,6 +1,6 @@
 use Rattle.std.proofs.Common.{◌+◌, append-nil, ◌≡◌, ℕ, ◌∷◌, ◌++◌, [], List, cond, ap, sym, ◌∙◌}
-use Rattle.place_laws.specs.PlaceSets.{places_of}
-use Rattle.place_laws.proofs.PlaceSums.{places_step}
+use Rattle.place_sets.specs.PlaceSets.{places_of}
+use Rattle.place_sets.proofs.PlaceSums.{places_step}
 use Rattle.connected_sets.proofs.lists.place_list.Goals.{then-has+in_ok-push, else-has}
 use Rattle.connected_sets.proofs.lists.place_list.Goals as goal
 

@@ -1,5 +1,5 @@
 use Rattle.std.proofs.Common.{◌≡◌, true, length}
-use Rattle.place_laws.specs.PlaceSets.{places_of}
+use Rattle.place_sets.specs.PlaceSets.{places_of}
 use Rattle.connected_sets.specs.Graphs.{problem_at}
 use Rattle.connected_sets.proofs.Filling.{IsFilled}
 use Rattle.connected_sets.proofs.part.part_around.Given as goal

@@ -3,7 +3,7 @@ use Rattle.std.proofs.lemmas.List.Elements.{All-append}
 use Rattle.grouping_laws.proofs.Elements.{all_from_has}
 use Rattle.std.proofs.lemmas.List.{map-append, length-append}
 use Rattle.std.proofs.lemmas.Result.{IfOk-from_err}
-use Rattle.place_laws.specs.PlaceSets.{places_of}
+use Rattle.place_sets.specs.PlaceSets.{places_of}
 use Rattle.connected_sets.specs.Graphs.{problem_at}
 use Rattle.connected_sets.proofs.Filling.{few}
 use Rattle.connected_sets.proofs.PartLists.{IsParted, parted_start, parted_inside, parted_more, parted_fewer, parted_all}

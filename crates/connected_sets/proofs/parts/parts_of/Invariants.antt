@@ -1,5 +1,5 @@
 use Rattle.std.proofs.Common.{◌≡◌, ◌+◌, ◌≤◌, ℕ, true, map, length, All}
-use Rattle.place_laws.specs.PlaceSets.{places_of}
+use Rattle.place_sets.specs.PlaceSets.{places_of}
 use Rattle.connected_sets.specs.Graphs.{problem_at}
 use Rattle.connected_sets.proofs.PartLists.{IsParted}
 use Rattle.connected_sets.proofs.parts.parts_of.Given as goal

@@ -2,7 +2,7 @@ use Rattle.std.proofs.Common.{◌≡◌, ℕ, ◌+◌, ◌<◌, ◌≤◌, Bool,
 use mathlib.Core.Path.{fun_ext}
 use Rattle.std.proofs.Math.Seq.{drop-cons}
 use Rattle.std.proofs.lemmas.List.{map-append, drop_all}
-use Rattle.place_laws.proofs.SetLists.{lists_same}
+use Rattle.place_sets.proofs.SetLists.{lists_same}
 use Rattle.place_sets.proofs.set_lists.copy_sets.Goals as goal
 
 -- one more copy

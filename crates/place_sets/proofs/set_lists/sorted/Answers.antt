@@ -5,9 +5,9 @@ use Rattle.std.specs.List.Sorted.{IsSortedBy}
 use Rattle.std.proofs.lemmas.Cmp.{nat_list_cmp_total}
 use Rattle.std.proofs.lemmas.Fn.{always_returns_same}
 use Rattle.std.proofs.lemmas.List.Sorted.{ranks_by}
-use Rattle.place_laws.specs.PlaceSets.{sized}
+use Rattle.place_sets.specs.PlaceSets.{sized}
 use Rattle.std.proofs.lemmas.List.Sorted.{All-permutation}
-use Rattle.place_laws.proofs.SetLists.{lists_sorted}
+use Rattle.place_sets.proofs.SetLists.{lists_sorted}
 use Rattle.place_sets.proofs.set_lists.sorted.Goals as goal
 
 pub returns-clause-sorted : goal.returns-clause-sorted

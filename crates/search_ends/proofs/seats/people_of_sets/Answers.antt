@@ -1,5 +1,5 @@
 use Rattle.std.proofs.Common.{◌≡◌, ◌<◌, ℕ, true, subst, sym, ◌∙◌, length, arith}
-use Rattle.place_laws.specs.PlaceSets.{places_of}
+use Rattle.place_sets.specs.PlaceSets.{places_of}
 use Rattle.county_problem.specs.ProblemValue.{problem_of}
 use Rattle.grouping_laws.proofs.PlaceProblem.{people_codes}
 use Rattle.search_ends.proofs.SeatLemmas.{people, mapped_more, mapped_all}

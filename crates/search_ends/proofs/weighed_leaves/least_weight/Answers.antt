@@ -1,6 +1,6 @@
 use Rattle.std.proofs.Common.{◌≤◌, List, length, get_or, take_all, subst, arith, All}
 use Rattle.grouping_laws.specs.Sets.{sum_by}
-use Rattle.place_laws.specs.PlaceSets.{places_of}
+use Rattle.place_sets.specs.PlaceSets.{places_of}
 use Rattle.search_ends.proofs.WeightSteps.{lesser_next}
 use Rattle.search_ends.proofs.weighed_leaves.least_weight.Goals as goal
 

@@ -1,6 +1,6 @@
 use Rattle.std.proofs.Common.{◌≤◌, length, get_or, take, All}
 use Rattle.grouping_laws.specs.Sets.{sum_by}
-use Rattle.place_laws.specs.PlaceSets.{places_of}
+use Rattle.place_sets.specs.PlaceSets.{places_of}
 use Rattle.search_ends.proofs.weighed_leaves.least_weight.Given as goal
 
 abbrev pub invariant-loop-group : goal.invariant-loop-group

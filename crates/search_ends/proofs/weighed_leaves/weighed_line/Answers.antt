@@ -2,7 +2,7 @@ use Rattle.std.proofs.Common.{◌≤◌, ◌∙◌, List, ℕ, length, get_or, a
 use Rattle.grouping_laws.specs.Sets.{sum_by}
 use Rattle.grouping_laws.proofs.PlaceProblem.{order_once}
 use Rattle.county_problem.specs.ProblemValue.{problem_of}
-use Rattle.place_laws.specs.PlaceSets.{places_of}
+use Rattle.place_sets.specs.PlaceSets.{places_of}
 use Rattle.certificate_data.specs.RoundValue.{round_of}
 use Rattle.state_groups.specs.StateValue.{state_of}
 use Rattle.certificate_laws.specs.Places.{IsStateAt, in_codes}

@@ -1,6 +1,6 @@
 use Rattle.std.proofs.Common.{◌≡◌, true, not, subst}
 use Rattle.std.proofs.lemmas.Result.{IfOk-weaker}
-use Rattle.place_laws.specs.PlaceSets.{Meets}
+use Rattle.place_sets.specs.PlaceSets.{Meets}
 use Rattle.grouping_laws.proofs.PlaceProblem.{order_once}
 use Rattle.county_problem.specs.ProblemValue.{problem_of}
 use Rattle.state_groups.specs.PlacedValues.{codes_of_set, codes_of_sets}

@@ -3,7 +3,7 @@ use Rattle.std.proofs.lemmas.Bool.{false≢true}
 use Rattle.std.proofs.lemmas.Result.{IfOk-from_err}
 use Rattle.county_problem.specs.ProblemValue.{problem_of}
 use Rattle.grouping_laws.specs.Sets.{contains}
-use Rattle.place_laws.specs.PlaceSets.{places_of}
+use Rattle.place_sets.specs.PlaceSets.{places_of}
 use Rattle.connected_laws.proofs.PlaceLists.{placed_below}
 use Rattle.certificate_laws.specs.Fitting.{IsLive}
 use Rattle.state_groups.specs.StateValue.{state_of}

@@ -1,6 +1,6 @@
 use Rattle.std.proofs.Common.{arith}
-use Rattle.place_laws.specs.PlaceSets.{places_of}
-use Rattle.place_laws.proofs.PlaceSets.{places_same}
+use Rattle.place_sets.specs.PlaceSets.{places_of}
+use Rattle.place_sets.proofs.PlaceSets.{places_same}
 use Rattle.connected_laws.specs.Listing.{lists_of}
 use Rattle.search_groups.proofs.PartSteps.{put_more, put_all, below_more}
 use Rattle.search_groups.proofs.part_lists.put_copies.Goals as goal

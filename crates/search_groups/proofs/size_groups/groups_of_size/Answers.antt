@@ -2,7 +2,7 @@ use Rattle.std.proofs.Common.{length, refl, ◌∙◌, subst}
 use Rattle.std.proofs.lemmas.Result.{IfOk-weaker}
 use Rattle.grouping_laws.specs.Places.{codes_at}
 use Rattle.grouping_laws.proofs.PlaceProblem.{order_once}
-use Rattle.place_laws.specs.PlaceSets.{places_of}
+use Rattle.place_sets.specs.PlaceSets.{places_of}
 use Rattle.connected_laws.specs.Listing.{lists_of}
 use Rattle.connected_laws.proofs.Keys.{map_twice}
 use Rattle.county_problem.specs.ProblemValue.{problem_of}

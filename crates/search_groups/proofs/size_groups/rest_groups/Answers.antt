@@ -1,5 +1,5 @@
 use Rattle.std.proofs.Common.{◌≡◌, ℕ, ◌<◌, true, length, sym, ap, subst, arith}
-use Rattle.place_laws.proofs.Sums.{digit_one}
+use Rattle.place_sets.proofs.Sums.{digit_one}
 use Rattle.grouping_laws.specs.Sets.{count_in}
 use Rattle.grouping_laws.specs.Parts.{AreParts}
 use Rattle.county_problem.specs.OrderedValue.{problem_at}

@@ -1,7 +1,7 @@
 use Rattle.std.proofs.Common.{◌≡◌, ℕ, ◌<◌, true, ap, ◌∙◌, sym, length, arith}
 use Rattle.std.proofs.lemmas.Bool.{and_parts}
 use Rattle.std.specs.Prelude.{nat_le}
-use Rattle.place_laws.proofs.PlaceSets.{places_same}
+use Rattle.place_sets.proofs.PlaceSets.{places_same}
 use Rattle.state_groups.specs.StateValue.{state_of}
 use Rattle.certificate_laws.specs.State.{open_to}
 use Rattle.state_groups.proofs.bounds.room.Goals as goal

@@ -1,7 +1,7 @@
 use Rattle.std.proofs.Common.{ℕ, ◌≤◌, subst, sym, length, get_or, arith}
 use Rattle.std.proofs.lemmas.Bool.{false≢true}
-use Rattle.place_laws.specs.Lists.{sum_by}
-use Rattle.place_laws.specs.PlaceSets.{places_of}
+use Rattle.place_sets.specs.Lists.{sum_by}
+use Rattle.place_sets.specs.PlaceSets.{places_of}
 use Rattle.state_groups.proofs.bounds.weigh_enough.Goals as goal
 
 pub returns-then-weight_in-quota : goal.returns-then-weight_in-quota

@@ -1,6 +1,6 @@
 use Rattle.std.proofs.Common.{length}
 use Rattle.std.proofs.lemmas.Bool.{false≢true}
-use Rattle.place_laws.specs.PlaceSets.{places_of}
+use Rattle.place_sets.specs.PlaceSets.{places_of}
 use Rattle.state_groups.specs.StateValue.{state_of}
 use Rattle.state_groups.proofs.FitLemmas.{open_by, shut_by}
 use Rattle.state_groups.proofs.fitting.is_open.Goals as goal

@@ -1,5 +1,5 @@
 use Rattle.std.proofs.Common.{◌≡◌, ℕ, ◌+◌, ◌≤◌, Bool, true, List, length}
-use Rattle.place_laws.specs.PlaceSets.{places_of}
+use Rattle.place_sets.specs.PlaceSets.{places_of}
 use Rattle.county_problem.specs.OrderedValue.{problem_at}
 use Rattle.connected_laws.specs.Listing.{OneStepEach}
 use Rattle.state_groups.specs.StateValue.{state_of}

@@ -1,8 +1,8 @@
 use Rattle.std.proofs.Common.{◌≡◌, ℕ, true, subst, length, arith}
-use Rattle.place_laws.specs.PlaceSets.{places_of}
-use Rattle.place_laws.proofs.Sums.{total_ones}
-use Rattle.place_laws.proofs.PlaceSets.{total_part}
-use Rattle.place_laws.proofs.PlaceSums.{total_all}
+use Rattle.place_sets.specs.PlaceSets.{places_of}
+use Rattle.place_sets.proofs.Sums.{total_ones}
+use Rattle.place_sets.proofs.PlaceSets.{total_part}
+use Rattle.place_sets.proofs.PlaceSums.{total_all}
 use Rattle.county_problem.specs.OrderedValue.{problem_at}
 use Rattle.state_groups.specs.Keeping.{IsAsked}
 use Rattle.state_groups.proofs.PeopleBounds.{joins, joins_free, joins_split, joins_length}

@@ -1,6 +1,6 @@
 use Rattle.std.proofs.Common.{◌≡◌, ℕ, ◌-◌, sym, ap, ◌∙◌, subst, length, filter, take, arith}
 use Rattle.grouping_laws.specs.Sets.{sum_by}
-use Rattle.place_laws.specs.PlaceSets.{places_of}
+use Rattle.place_sets.specs.PlaceSets.{places_of}
 use Rattle.county_problem.specs.OrderedValue.{problem_at}
 use Rattle.state_groups.specs.People.{AreByPeople}
 use Rattle.state_groups.proofs.PeopleBounds.{first_all, most_joins}

@@ -1,6 +1,6 @@
 use Rattle.std.proofs.Common.{◌≡◌, ◌+◌, List, true, arith, Some, subst, sym, map, take, length}
 use Rattle.std.proofs.lemmas.List.{take_all}
-use Rattle.place_laws.specs.PlaceSets.{places_of}
+use Rattle.place_sets.specs.PlaceSets.{places_of}
 use Rattle.grouping_laws.specs.Problem.{Suits, people_of}
 use Rattle.grouping_laws.specs.SeatWindow.{IsRun}
 use Rattle.county_problem.specs.OrderedValue.{problem_at}

@@ -1,5 +1,5 @@
 use Rattle.std.proofs.Common.{map, take, length}
-use Rattle.place_laws.specs.PlaceSets.{places_of}
+use Rattle.place_sets.specs.PlaceSets.{places_of}
 use Rattle.county_problem.specs.OrderedValue.{problem_at}
 use Rattle.state_groups.specs.Sums.{AreSums}
 use Rattle.state_groups.proofs.seats.seat_sums.Given as goal

@@ -1,6 +1,6 @@
 use Rattle.std.proofs.Common.{ℕ, ◌<◌, Option, ap, ◌∙◌, subst, sym, length, arith}
 use Rattle.std.specs.Prelude.{IfSome}
-use Rattle.place_laws.specs.PlaceSets.{places_of}
+use Rattle.place_sets.specs.PlaceSets.{places_of}
 use Rattle.grouping_laws.specs.Problem.{Suits, people_of}
 use Rattle.grouping_laws.specs.SeatWindow.{IsRun, seat_run}
 use Rattle.grouping_laws.proofs.WindowLemmas.{window_law}

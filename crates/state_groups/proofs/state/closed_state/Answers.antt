@@ -1,13 +1,13 @@
 use Rattle.std.proofs.Common.{◌≡◌, ◌++◌, ℕ, true, ◌&&◌, not, [], ◌∷◌, ◌<◌, List, length, sym, ap, ◌∙◌, subst, cond, get_or, arith}
 use Rattle.std.proofs.lemmas.Bool.{and_parts}
-use Rattle.place_laws.specs.Lists.{contains}
+use Rattle.place_sets.specs.Lists.{contains}
 use Rattle.std.proofs.lemmas.List.{map-id}
 use Rattle.std.proofs.lemmas.List.Elements.{All-append}
 use Rattle.std.proofs.lemmas.Slice.Zip.{AllZip-map}
 use Rattle.county_problem.specs.ProblemValue.{problem_of}
 use Rattle.grouping_laws.proofs.PlaceProblem.{order_once}
-use Rattle.place_laws.specs.PlaceSets.{places_of}
-use Rattle.place_laws.proofs.PlaceSets.{places_same}
+use Rattle.place_sets.specs.PlaceSets.{places_of}
+use Rattle.place_sets.proofs.PlaceSets.{places_same}
 use Rattle.connected_laws.specs.Listing.{lists_of, AreBelow}
 use Rattle.connected_laws.proofs.PlaceLists.{placed_below}
 use Rattle.certificate_laws.specs.State.{close}

@@ -1,5 +1,5 @@
 use Rattle.std.proofs.Common.{length, ap, ◌∙◌, map, nat_lt}
-use Rattle.place_laws.specs.PlaceSets.{places_of}
+use Rattle.place_sets.specs.PlaceSets.{places_of}
 use Rattle.certificate_laws.proofs.StateLemmas.{all_below}
 use Rattle.certificate_laws.proofs.States.{same_state}
 use Rattle.state_groups.proofs.state.empty_by_places.Goals as goal

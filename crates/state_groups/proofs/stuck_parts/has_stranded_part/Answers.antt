@@ -1,5 +1,5 @@
 use Rattle.std.proofs.Common.{◌∷◌, ◌++◌, [], refl, length}
-use Rattle.place_laws.specs.PlaceSets.{places_of}
+use Rattle.place_sets.specs.PlaceSets.{places_of}
 use Rattle.county_problem.specs.OrderedValue.{problem_at}
 use Rattle.connected_sets.proofs.PartLists.{parted_start, parted_inside, parted_more, parted_part, parted_fewer}
 use Rattle.state_groups.proofs.stuck_parts.has_stranded_part.Goals as goal

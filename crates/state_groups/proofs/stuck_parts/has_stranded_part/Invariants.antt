@@ -1,5 +1,5 @@
 use Rattle.std.proofs.Common.{ℕ, List, length}
-use Rattle.place_laws.specs.PlaceSets.{places_of}
+use Rattle.place_sets.specs.PlaceSets.{places_of}
 use Rattle.connected_sets.specs.Graphs.{problem_at}
 use Rattle.connected_sets.proofs.PartLists.{IsParted}
 use Rattle.state_groups.proofs.stuck_parts.has_stranded_part.Given as goal

@@ -2,7 +2,7 @@ use Rattle.std.proofs.Common.{◌≡◌, ℕ, ◌<◌, true, false, refl, sym, �
 use Rattle.std.proofs.lemmas.Bool.{false≢true}
 use Rattle.grouping_laws.specs.Sets.{contains}
 use Rattle.certificate_laws.specs.StuckParts.{CannotFill}
-use Rattle.place_laws.specs.PlaceSets.{places_of}
+use Rattle.place_sets.specs.PlaceSets.{places_of}
 use Rattle.connected_laws.proofs.PlaceLists.{placed, placed_test}
 use Rattle.county_problem.specs.OrderedValue.{problem_at}
 use Rattle.connected_sets.proofs.PartLists.{parted_inside, parted_fewer}

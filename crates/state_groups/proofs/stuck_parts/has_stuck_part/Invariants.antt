@@ -1,5 +1,5 @@
 use Rattle.std.proofs.Common.{length}
-use Rattle.place_laws.specs.PlaceSets.{places_of}
+use Rattle.place_sets.specs.PlaceSets.{places_of}
 use Rattle.connected_sets.specs.Graphs.{problem_at}
 use Rattle.state_groups.specs.StateValue.{state_of}
 use Rattle.state_groups.proofs.StuckLemmas.{IsPassed}

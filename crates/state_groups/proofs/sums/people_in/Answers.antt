@@ -1,7 +1,7 @@
 use Rattle.std.proofs.Common.{◌+◌, ap, ◌∙◌, sym, length, arith}
-use Rattle.place_laws.specs.Lists.{sum_by}
-use Rattle.place_laws.specs.PlaceSets.{places_of}
-use Rattle.place_laws.proofs.PlaceSums.{total_all}
+use Rattle.place_sets.specs.Lists.{sum_by}
+use Rattle.place_sets.specs.PlaceSets.{places_of}
+use Rattle.place_sets.proofs.PlaceSums.{total_all}
 use Rattle.county_problem.specs.ProblemValue.{ProblemValue}
 use Rattle.county_problem.specs.OrderedValue.{problem_at}
 use Rattle.state_groups.proofs.SumLemmas.{sum_next, sum_all, sum_below}

@@ -1,5 +1,5 @@
 use Rattle.std.proofs.Common.{◌≡◌, ◌-◌, ◌≤◌, length}
-use Rattle.place_laws.specs.PlaceSets.{places_of}
+use Rattle.place_sets.specs.PlaceSets.{places_of}
 use Rattle.grouping_laws.specs.Problem.{people_of}
 use Rattle.county_problem.specs.OrderedValue.{problem_at}
 use Rattle.state_groups.proofs.sums.people_in.Given as goal

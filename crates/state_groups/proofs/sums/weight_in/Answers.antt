@@ -1,6 +1,6 @@
 use Rattle.std.proofs.Common.{ℕ, ◌+◌, ap, ◌∙◌, sym, length, get_or, arith}
-use Rattle.place_laws.specs.Lists.{sum_by}
-use Rattle.place_laws.specs.PlaceSets.{places_of}
+use Rattle.place_sets.specs.Lists.{sum_by}
+use Rattle.place_sets.specs.PlaceSets.{places_of}
 use Rattle.state_groups.proofs.SumLemmas.{sum_next, sum_all}
 use Rattle.state_groups.proofs.sums.weight_in.Goals as goal
 

@@ -1,6 +1,6 @@
 use Rattle.std.proofs.Common.{◌≡◌, ◌-◌, ◌*◌, ◌≤◌, length, get_or}
-use Rattle.place_laws.specs.Lists.{sum_by}
-use Rattle.place_laws.specs.PlaceSets.{places_of}
+use Rattle.place_sets.specs.Lists.{sum_by}
+use Rattle.place_sets.specs.PlaceSets.{places_of}
 use Rattle.state_groups.proofs.sums.weight_in.Given as goal
 
 abbrev pub invariant-loop-place : goal.invariant-loop-place

@@ -1,6 +1,6 @@
 use Rattle.std.proofs.Common.{◌≡◌, ◌≤◌, ◌==◌, length, sym, ◌∙◌, arith}
 use Rattle.std.proofs.lemmas.List.{at_drop_all}
-use Rattle.place_laws.specs.PlaceSets.{places_of}
+use Rattle.place_sets.specs.PlaceSets.{places_of}
 use Rattle.grouping_laws.specs.Sets.{indicator, sum_by}
 use Rattle.state_judge.proofs.Allowances.{closed_counts}
 use Rattle.state_judge.proofs.bound.closed_of_size.Goals as goal

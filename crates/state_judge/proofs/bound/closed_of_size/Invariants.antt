@@ -1,5 +1,5 @@
 use Rattle.std.proofs.Common.{◌≡◌, ◌+◌, ◌≤◌, ◌==◌, drop, length}
-use Rattle.place_laws.specs.PlaceSets.{places_of}
+use Rattle.place_sets.specs.PlaceSets.{places_of}
 use Rattle.grouping_laws.specs.Sets.{indicator, sum_by}
 use Rattle.state_judge.proofs.bound.closed_of_size.Given as goal
 

@@ -1,5 +1,5 @@
 use Rattle.std.proofs.Common.{rules, ◌≡◌, ◌+◌, ◌≢◌, ap, subst, length, arith, IsTrue, is_none, ◌↔◌}
-use Rattle.place_laws.specs.PlaceSets.{places_of}
+use Rattle.place_sets.specs.PlaceSets.{places_of}
 use Rattle.grouping_laws.specs.Places.{codes_at}
 use Rattle.std.proofs.lemmas.Bool.{false≢true}
 use Rattle.county_problem.specs.OrderedValue.{code_at}

@@ -1,5 +1,5 @@
 use Rattle.std.proofs.Common.{◌≡◌, ◌+◌, drop}
-use Rattle.place_laws.specs.Lists.{sum_by}
+use Rattle.place_sets.specs.Lists.{sum_by}
 use Rattle.worked_calls.proofs.orders.show_seats.Given as goal
 
 abbrev pub invariant-loop-entry : goal.invariant-loop-entry

@@ -1,5 +1,5 @@
 use Rattle.std.proofs.Common.{sym, ◌∙◌, length, arith}
-use Rattle.place_laws.proofs.PlaceSums.{total_all}
+use Rattle.place_sets.proofs.PlaceSums.{total_all}
 use Rattle.connected_groups.specs.Search.{problem_at}
 use Rattle.connected_groups.proofs.Passing.{small_none}
 use Rattle.connected_groups.proofs.seat_test.SeatTestGrowthTest.is_passed_over.Goals as goal

@@ -1,5 +1,5 @@
 use Rattle.std.proofs.Common.{Some, None, subst}
-use Rattle.place_laws.specs.PlaceSets.{IsNext}
+use Rattle.place_sets.specs.PlaceSets.{IsNext}
 use Rattle.place_sets.specs.MaskSet.{has_bit}
 use Rattle.place_sets.proofs.Halves.{halves_place, next_low, next_high, next_neither}
 use Rattle.place_sets.proofs.wide_set.WideSetCountySet.next.Goals as goal

@@ -1,9 +1,9 @@
 -- Sums over a set of places, one place after another.
 use Rattle.std.proofs.Common.{◌≡◌, ℕ, zero, suc, ◌+◌, ◌≤◌, Bool, true, false, cond, List, [], ◌∷◌, ◌++◌, map, filter, refl, ap, ◌∙◌, subst, arith, add-one}
-use Rattle.place_laws.specs.Lists.{sum_by}
-use Rattle.place_laws.specs.Lists.{places_below}
-use Rattle.place_laws.specs.PlaceSets.{places_of}
-use Rattle.place_laws.proofs.PlaceSets.{total_part}
+use Rattle.place_sets.specs.Lists.{sum_by}
+use Rattle.place_sets.specs.Lists.{places_below}
+use Rattle.place_sets.specs.PlaceSets.{places_of}
+use Rattle.place_sets.proofs.PlaceSets.{total_part}
 
 map_end : (xs : List ℕ) (y : ℕ) → map suc (xs ++ y ∷ []) ≡ map suc xs ++ suc y ∷ []
 map_end [] y = refl

@@ -1,7 +1,7 @@
 -- Sets of places, each said by the test of which places it has.
 use Rattle.std.specs.Prelude.{ℕ, ◌≡◌, ◌≤◌, ◌<◌, Bool, true, false, Option, Some, None, List, ◌∷◌, length, filter, map}
 use Rattle.std.specs.Prelude.{All}
-use Rattle.place_laws.specs.Lists.{places_below}
+use Rattle.place_sets.specs.Lists.{places_below}
 
 -- the places below n that a set has, ascending
 abbrev pub places_of : ℕ → (ℕ → Bool) → List ℕ

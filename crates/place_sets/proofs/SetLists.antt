@@ -4,8 +4,8 @@ use Rattle.std.specs.Cmp.Lexicographic.{slice_cmp}
 use Rattle.std.specs.Ordering.{nat_cmp, is_lt}
 use Rattle.std.specs.List.Sorted.{IsSortedBy}
 use Rattle.std.proofs.lemmas.List.{length-map, get_or-map}
-use Rattle.place_laws.specs.PlaceSets.{places_of, sized, sort_key, AreBelow, lists_of}
-use Rattle.place_laws.proofs.SizeOrder.{places_bound}
+use Rattle.place_sets.specs.PlaceSets.{places_of, sized, sort_key, AreBelow, lists_of}
+use Rattle.place_sets.proofs.SizeOrder.{places_bound}
 
 pub map_twice : {X Y Z : Type 0} (f : Y → Z) (g : X → Y) (xs : List X) → map f (map g xs) ≡ map (λ x. f (g x)) xs
 map_twice f g [] = refl
