@@ -7,7 +7,7 @@ complete -c countygroups -n __fish_use_subcommand -a solve -d 'Finds the best gr
 complete -c countygroups -n __fish_use_subcommand -a check -d 'Checks a certificate'
 complete -c countygroups -n __fish_use_subcommand -a audit -d 'Compares a plan\'s districts with the groups, their seats and the size of a district'
 complete -c countygroups -n __fish_use_subcommand -a list -d 'Lists all best groupings, by a certificate'
-complete -c countygroups -n __fish_use_subcommand -a share -d 'Tests what several desks proved and joins one certificate'
+complete -c countygroups -n __fish_use_subcommand -a share -d 'Tests what several solvers proved and joins one certificate'
 complete -c countygroups -n __fish_use_subcommand -a piece -d 'Proves one piece of a shared proof'
 complete -c countygroups -n '__fish_use_subcommand' -s h -l help -d 'Print help'
 complete -c countygroups -n '__fish_use_subcommand' -s V -l version -d 'Print version'
