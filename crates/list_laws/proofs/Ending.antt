@@ -127,7 +127,7 @@ module _ (p : Problem) (round : Round) (t : Grouping) (is_target : round.target 
         go true e =
             let rest = peeled p round s state g lawful agrees in
             absurd (none_short round.format p s state.once rest.opens (peeled_completes p round s state g lawful agrees) round.limit (wanted round.target)
-            (λ j some. rest.count j ∙ (same j some ∙ sym (ap (λ z. wanted z j) is_target)))
+            (λ j some. rest.sizes j ∙ (same j some ∙ sym (ap (λ z. wanted z j) is_target)))
             lines 1 0 (lines_of p round s lines v) (omega arith) (sym (below_first (sets_of rest.opens))) e)
         go false e = let f : IsFilled p s = c e in (s.closed, inl refl, same_from_agrees p round s state f.none_left g lawful agrees)
 

@@ -63,7 +63,7 @@ module _ (p : Problem) (round : Round) (s : State) (state : IsState p round s) (
     counts_same agrees j =
         let rest = peeled p round s state g lawful agrees in
         let whole = peeled_completes p round s state g lawful agrees in
-        omega (arith, rest.count j, no_counts j rest.opens (λ m h. (whole.connected m h).some_county) (λ c. omega (arith, whole.once c, false_digit (s.rest c) (none_left c))))
+        omega (arith, rest.sizes j, no_counts j rest.opens (λ m h. (whole.connected m h).some_county) (λ c. omega (arith, whole.once c, false_digit (s.rest c) (none_left c))))
 
 pub filled_lawful : (p : Problem) (round : Round) (s : State) → IsState p round s → (f : IsFilled p s) → (g : Grouping) × Lawful p g × SameSets (sets_of g) s.closed
 filled_lawful p round s state f = (

@@ -89,7 +89,7 @@ further p g connected t more wider a there in_t move = go (all_or_one t g)
     go : AllPass t g ⊎ OneFails t g → AllPass t g ⊎ (passing t g + 1 ≤ passing more g)
     go (inl all) = inl all
     go (inr r) =
-        let b = connected.joined t a r.0 there in_t r.1 r.2 in
+        let b = connected.joined t (a, r.0, there, r.1, in_t, r.2) in
         inr (passing_more t more g wider b.1 b.3 b.5 (move b.0 b.1 b.4 b.3 b.5 b.6))
 
 -- so far it has come: the places that are reached are free, and each free place is reached that is adjacent to the set or to a place that is
