@@ -1,5 +1,5 @@
 #!/usr/bin/env bash
-# One round of the loop over many desks as a Slurm job array: each task proves one piece that is left. See `tools/share.slurm --help`.
+# One round of the loop over many solvers as a Slurm job array: each task proves one piece that is left. See `tools/share.slurm --help`.
 set -euo pipefail
 
 usage() {
