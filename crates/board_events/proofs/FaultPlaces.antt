@@ -18,7 +18,7 @@ use Rattle.board_events.specs.Faults.{fault_from}
 use Rattle.board_events.specs.declared.line.EventLine.{EventLine}
 use Rattle.board_events.proofs.FaultLaws.{by_first, by_item}
 
--- a fault so many lines further on
+-- a fault `k` lines further on
 abbrev pub further : ℕ → TextFault → TextFault
 further k fault = text_fault_at fault.kind (fault.line + k)
 
@@ -36,7 +36,7 @@ item_alike (want.Allowances left) m n piece = refl
 item_alike want.End m n piece = refl
 
 module _ (format : Format) (counties k : ℕ) where
-  -- what a line leads to, so many lines further on
+  -- what a line leads to, `k` lines further on
   first_further : (n : ℕ) (p q : List RawLine) (r : Result EventLine TextKind)
       → ((line : EventLine) → fault_from format counties (wanted_by format counties line) ((n + k) + 1) q ≡ option_map (further k) (fault_from format counties (wanted_by format counties line) (n + 1) p))
       → by_first format counties (n + k) q r ≡ option_map (further k) (by_first format counties n p r)
@@ -74,7 +74,7 @@ module _ (format : Format) (counties k : ℕ) where
       line_further wanted n part _ (numbered (n + 1) (more_part ∷ parts)) (numbered ((n + k) + 1) (more_part ∷ parts))
       (λ ws. ap (λ (m : ℕ). fault_from format counties ws m (numbered m (more_part ∷ parts))) next ∙ parts_further ws (n + 1) (more_part ∷ parts))
 
-  -- the first fault of a text, so many lines further on
+  -- the first fault of a text, `k` lines further on
   pub fault_further : (wanted : List Wanted) (n : ℕ) (text : List ℕ) → fault_from format counties wanted (n + k) (raw_lines_from (n + k) text) ≡ option_map (further k) (fault_from format counties wanted n (raw_lines_from n text))
   fault_further wanted n text = parts_further wanted n (slice_split is_lf text)
 

@@ -28,7 +28,7 @@ use Rattle.board_events.proofs.FaultTold.{fault_told}
 abbrev whole : List ℕ → Rest
 whole text = record { number = 1; text = text }
 
--- a fault that was moved stands so many lines further on
+-- a fault that was moved stands `k` lines further on
 pub further_is : (k : ℕ) (f g : TextFault) → g.kind ≡ f.kind → g.line ≡ f.line + k → further k f ≡ g
 further_is k f g kind line = ap (λ (x : TextKind). text_fault_at x (f.line + k)) (sym kind) ∙ ap (λ (n : ℕ). text_fault_at g.kind n) (sym line)
 

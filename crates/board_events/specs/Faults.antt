@@ -25,6 +25,6 @@ fault_from format counties (wanted ∷ more) n (piece ∷ pieces) =
       | Err kind ↦ Some (text_fault_at kind n)
     ]
 
--- the first fault of a whole text, where trees are of a format and for so many counties
+-- the first fault of a whole text, where trees are of a format and for `counties` counties
 abbrev pub events_fault : Format → ℕ → List ℕ → Option TextFault
 events_fault format counties text = fault_from format counties [] 1 (raw_lines text)

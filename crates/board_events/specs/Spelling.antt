@@ -54,7 +54,7 @@ items_of (split_piece round piece county limit) = []
 items_of (better round grouping) = map Grouped grouping
 items_of (wider round) = []
 
--- what is wanted behind a first line, where trees are of a format and for so many counties
+-- what is wanted behind a first line, where trees are of a format and for this number of counties
 abbrev pub wanted_by : Format → ℕ → EventLine → List Wanted
 wanted_by format counties (says.Hand from) = []
 wanted_by format counties (says.Result round piece) = want.Tree format counties ∷ []

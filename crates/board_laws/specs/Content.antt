@@ -50,7 +50,7 @@ pub record Content : Type 0 where
   pub skeleton : Skeleton
   pub last : ℕ
 
--- The skeleton with which a round begins: the states after so many branchings, or earlier where no county is open,
+-- The skeleton with which a round begins: the states after `depth` branchings, or earlier where no county is open,
 -- wait, with the numbers from one on up to the next.
 abbrev mutual
   pub Opens : ℕ → Skeleton → Problem → Round → State → ℕ → ℕ → Type 0
@@ -88,7 +88,7 @@ pub record Fills (p : Problem) (b : Content) (n : ℕ) (tree : Tree) (c : Conten
   pub is : c ≡ record b { skeleton = put n (proved n tree) b.skeleton }
 
 -- The piece is split at a county of a wide round: its pieces have the next numbers, one for each group that fits, has
--- the county and has at most so many counties, and one for where the county is raised.
+-- the county and has at most `limit` counties, and one for where the county is raised.
 pub record Splits (p : Problem) (b : Content) (n county limit first many : ℕ) (c : Content) : Type 0 where
   pub state : State
   pub waits : Waits p b n state

@@ -63,7 +63,7 @@ abbrev mutual
   EachHasTree no_part n tree = ⊥
   EachHasTree (part codes skeleton others) n tree = HasTree skeleton n tree ⊎ EachHasTree others n tree
 
--- the piece was split, at this county by groups of at most so many
+-- the piece was split, at the county `at` by groups of at most `most` counties
 abbrev mutual
   pub WasSplit : Skeleton → ℕ → ℕ → Option ℕ → Type 0
   WasSplit (waits piece) n at most = ⊥

@@ -37,7 +37,7 @@ module _ (p : Problem) (round : Round) (s : State) (wanted : ℕ → ℕ) where
     pub number : length lines ≡ k + length later
     pub counted : Counted (k + 1) later
 
-  -- Through size k a count line for each size gives as many groups as wanted, and uses so many counties: count lines are a bound
+  -- Through size `k` a count line for each size gives as many groups as wanted, and uses `used` counties: count lines are a bound
   -- exactly where those above k are.
   pub record ReachedBy (k used : ℕ) : Type 0 where
     pub only_if : (lines : List Allowance) → Counted 1 lines → Bounded 1 0 lines → (rest : Later k lines) × Bounded (k + 1) used rest.later

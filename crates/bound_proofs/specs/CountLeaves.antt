@@ -29,13 +29,13 @@ AreListsFrom test order p round s i [] = ⊤
 AreListsFrom test order p round s i (sets ∷ lists) =
     IsListOf test order p round s i sets × AreListsFrom test order p round s (i + 1) lists
 
--- the bound leaf of so many count lines keeps below the counts that are wanted or comes to them
+-- the bound leaf of `count` count lines keeps below the counts that are wanted or comes to them
 abbrev pub BoundBy : Problem → Round → State → (ℕ → ℕ) → ℕ → Type 0
 BoundBy p round s wanted count =
     (lines : List Allowance) → length lines ≡ count → AreCountLines round.format p s 1 lines
     → Bounds round.format p round.limit s wanted 1 0 lines
 
--- no bound leaf of at most so many count lines keeps below the counts that are wanted or comes to them
+-- no bound leaf of at most `most` count lines keeps below the counts that are wanted or comes to them
 abbrev pub BoundByNone : Problem → Round → State → (ℕ → ℕ) → ℕ → Type 0
 BoundByNone p round s wanted most =
     (lines : List Allowance) → length lines ≤ most → AreCountLines round.format p s 1 lines

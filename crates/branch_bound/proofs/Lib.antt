@@ -1,6 +1,4 @@
 pub mod Joining
-pub mod Positions
-pub mod NextMoves
 pub mod LeafEnds
 pub mod Searches
 pub mod Orders

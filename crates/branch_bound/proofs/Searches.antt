@@ -34,8 +34,8 @@ use Rattle.certificate_laws.proofs.Branches.{branch_keeps_state}
 use Rattle.certificate_laws.proofs.Completion.{open_least}
 use Rattle.certificate_text.specs.TreeItems.{FitsInTree}
 use Rattle.branch_bound.specs.Searching.{search_state, IsPositionAt, IsEnd, IsProof, IsBetter, IsTakeOf, AreTakesOf, IsChoice}
-use Rattle.branch_bound.specs.declared.input.SearchInput.{SearchInput}
-use Rattle.branch_bound.specs.declared.position.Position.{Position}
+use Rattle.search_groups.specs.declared.input.SearchInput.{SearchInput}
+use Rattle.search_groups.specs.declared.position.Position.{Position}
 use Rattle.place_sets.proofs.AllLists.{all_append}
 use Rattle.branch_bound.proofs.Joining.{take_step, branch_step, complete_step, lines_step}
 

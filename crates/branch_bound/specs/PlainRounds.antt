@@ -8,7 +8,7 @@ use Rattle.certificate_laws.specs.State.{State, IsState}
 use Rattle.state_groups.specs.declared.state.State.{State as StateHeld}
 use Rattle.certificate_laws.specs.Proving.{CanBranch}
 use Rattle.state_groups.specs.PlacedValues.{IsPlaced}
-use Rattle.branch_bound.specs.declared.input.SearchInput.{SearchInput}
+use Rattle.search_groups.specs.declared.input.SearchInput.{SearchInput}
 use Rattle.branch_bound.specs.declared.outcome.PlainMove.{PlainMove}
 use Rattle.branch_bound.specs.declared.outcome.PlainMove.TheVariants as next_move
 use Rattle.branch_bound.specs.Searching.{search_problem, search_round, search_state, IsEnd, IsBetter}

@@ -33,9 +33,8 @@ use Rattle.state_groups.specs.PlacedValues.{state_at, codes_of_sets, IsPlaced}
 use Rattle.certificate_text.specs.TreeItems.{FitsInTree, HasLines, HasTargetLines}
 use Rattle.search_groups.specs.KnownGroups.{AreCandidates, IsKnown}
 use Rattle.search_ends.specs.GivenLeaf.{IsGivenLeaf}
-use Rattle.branch_bound.specs.declared.input.SearchInput.{SearchInput}
-use Rattle.branch_bound.specs.declared.position.Larger.{Larger}
-use Rattle.branch_bound.specs.declared.position.Position.{Position}
+use Rattle.search_groups.specs.declared.input.SearchInput.{SearchInput}
+pub use Rattle.search_groups.specs.Positions.{search_problem, search_round, search_state, IsSearchInput, IsLargerAt, IsPositionAt, IsChoice}
 use Rattle.branch_bound.specs.declared.outcome.SearchOutcome.{SearchOutcome}
 use Rattle.branch_bound.specs.declared.outcome.SearchOutcome.TheVariants as outcome
 use Rattle.branch_bound.specs.declared.outcome.Move.{Move}
@@ -46,43 +45,6 @@ use Rattle.branch_bound.specs.declared.outcome.Taken.{Taken}
 use Rattle.branch_bound.specs.declared.outcome.Taken.TheVariants as taken
 use Rattle.branch_bound.specs.declared.outcome.Takes.{Takes}
 use Rattle.branch_bound.specs.declared.outcome.Takes.TheVariants as takes
-
--- the problem, the round and the order that a search goes by, and a state by its codes
-abbrev pub search_problem : {C : Type 0} → SearchInput C → Problem
-search_problem g = problem_of g.graph.now.ordered.now.problem
-
-abbrev pub search_round : {C : Type 0} → SearchInput C → Round
-search_round g = round_of g.round.now
-
-abbrev pub search_state : {C : Type 0} → SearchInput C → (C → ℕ → Bool) → StateHeld C → State
-search_state g test s = state_at g.graph.now.ordered.now.order test s
-
--- the county graph is that of the round's order, and the round is a wide one
-pub record IsSearchInput {C : Type 0} (places : ℕ) (test : C → ℕ → Bool) (g : SearchInput C) : Type 0 where
-  pub graph : IsGraph test places g.graph.now
-  pub order : g.graph.now.ordered.now.order ≡ g.round.now.order
-  pub small : g.round.now.limit ≤ most_counties
-  pub wide : g.round.now.format ≡ Wide
-
--- these are groups of one county more than the size, among them all that fit the state
-pub record IsLargerAt {C : Type 0} (test : C → ℕ → Bool) (g : SearchInput C) (s : State) (size : ℕ)
-    (l : Larger C) : Type 0 where
-  pub below : AreBelow (length g.graph.now.ordered.now.order) test l.groups.items
-  pub known : AreCandidates (search_problem g) (search_round g) s (size + 1)
-      (codes_of_sets g.graph.now.ordered.now.order test l.groups.items)
-
--- A position is at a state of the round, of which the groups of so many counties, at most the limit, are known, and
--- maybe those of one county more.
-pub record IsPositionAt {C : Type 0} (test : C → ℕ → Bool) (g : SearchInput C) (s : State)
-    (at : Position C) : Type 0 where
-  pub placed : IsPlaced (length g.graph.now.ordered.now.order) test at.state
-  pub is : search_state g test at.state ≡ s
-  pub state : IsState (search_problem g) (search_round g) s
-  pub small : at.size ≤ g.round.now.limit
-  pub below : AreBelow (length g.graph.now.ordered.now.order) test at.groups.items
-  pub known : IsKnown (search_problem g) (search_round g) s at.size
-      (codes_of_sets g.graph.now.ordered.now.order test at.groups.items)
-  pub larger : MatchOption at.larger ⊤ (IsLargerAt test g s at.size)
 
 -- the groups stand by size and then by places, and the codes of each in the order of places
 pub record IsSorted (order : List ℕ) (g : Grouping) : Type 0 where
@@ -136,13 +98,6 @@ AreTakesAt p round s county limit (takes.Proved list) =
     (groups : List (List ℕ)) × AreGroupsAt p round s county limit groups × AreTakesOf p round s groups list.items
 AreTakesAt p round s county limit (takes.Better g) = IsBetter p round s g
 
--- a county of a group that is known
-pub record IsChoice {C : Type 0} (test : C → ℕ → Bool) (order : List ℕ) (groups : List C) (place : ℕ) : Type 0 where
-  pub below : place < length order
-  pub group : List ℕ
-  pub known : Contains (codes_of_sets order test groups) group
-  pub has : contains group (code_at order place) ≡ true
-
 -- a leaf that is valid, a grouping that is better, or a county to branch at
 abbrev pub IsNextMove : {C : Type 0} → (C → ℕ → Bool) → SearchInput C → State → Move C → Type 0
 IsNextMove test g s (next_move.Leaf leaf) = IsEnd (search_problem g) (search_round g) s leaf
@@ -150,7 +105,7 @@ IsNextMove test g s (next_move.Better found) = IsBetter (search_problem g) (sear
 IsNextMove test g s (next_move.Branch place at) =
     IsPositionAt test g s at × IsChoice test g.graph.now.ordered.now.order at.groups.items place
 
--- where no group of at most so many counties fits: a leaf that is valid, a grouping that is better, or the groups of
+-- where no group of at most `size` counties fits: a leaf that is valid, a grouping that is better, or the groups of
 -- one county more
 abbrev pub IsNextSize : {C : Type 0} → (C → ℕ → Bool) → SearchInput C → State → ℕ → Next C → Type 0
 IsNextSize test g s size (next.Leaf leaf) = IsEnd (search_problem g) (search_round g) s leaf

@@ -8,10 +8,8 @@ ghost use Rattle.search_groups.specs.PartLists.{AreListsOf};
 ghost use Rattle.branch_bound.specs.Searching.{search_problem, search_round, search_state, IsSearchInput, IsPositionAt};
 ghost use Rattle.branch_bound.specs.Searching.{IsEnd, IsNextMove, IsNextSize};
 
-use crate::input::SearchInput;
-use crate::larger_groups::{next_groups, with_larger};
+use crate::larger_groups::with_larger;
 use crate::outcome::{Move, Next};
-use crate::position::Position;
 use certificate_data::Leaf;
 use connected_sets::Stop;
 use county_problem::Steps;
@@ -19,7 +17,9 @@ use place_sets::CountySet;
 use search_ends::{
     empty_leaf, finished_grouping, room_leaf, wanted_more, weighed_leaf, whole_leaf,
 };
-use search_groups::{PartLists, county_of_choice, live_groups, weigh};
+use search_groups::{
+    PartLists, Position, SearchInput, county_of_choice, next_groups, weigh, without_dead,
+};
 use std::alloc::AllocError;
 
 /// Returns what follows at a position where no group of at most the known size fits. The state ends with a leaf or a
@@ -197,43 +197,6 @@ fn move_at_sizes<C: CountySet>(
         },
         Ok(next_move) => Ok(next_move),
         Err(refused) => Err(refused.into()),
-    }
-}
-
-/// Returns the position without its dead groups, at the same state. A position that is already tested comes back as it
-/// is. Otherwise a step is taken for each group.
-fn without_dead<C: CountySet>(
-    input: &SearchInput<C>,
-    position: Position<C>,
-    steps: &mut Steps,
-) -> Result<Position<C>, Stop>
-    requires input { IsSearchInput C.PLACES C.test input.now }
-    requires at { IsPositionAt C.test input.now (search_state input.now C.test position.state) position }
-    ensures at { IfOk result (λ at. IsPositionAt C.test input.now (search_state input.now C.test position.state) at
-        × (at.state ≡ position.state)) }
-    ensures more { steps.old.used ≤ steps.new.used }
-    ensures limit { steps.new.limit ≡ steps.old.limit }
-    ensures stopped { IsErrOf result Stop.StepLimit → steps.new.used ≡ steps.new.limit }
-{
-    if position.tested {
-        return Ok(position);
-    }
-    let Position {
-        state,
-        size,
-        groups,
-        larger,
-        ..
-    } = position;
-    match live_groups(input.graph, &state, &groups, steps) {
-        Ok(groups) => Ok(Position {
-            state,
-            size,
-            groups,
-            tested: true,
-            larger,
-        }),
-        Err(stop) => Err(stop),
     }
 }
 

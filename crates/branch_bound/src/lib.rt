@@ -13,21 +13,18 @@
 //! branch goes on with each group that fits and has the county, and with the county raised past the size. A state where
 //! nothing fits any more and no leaf is valid is a greater grouping, which the next round takes as its target. Every
 //! leaf is tested where it is written. Weights, the county to branch at and the limits of the rounds are heuristics,
-//! and no promise rests on them. `specs/Answered` says what is promised, and `specs/Searching` says what the search
+//! and no promise rests on them. `specs/Answers` says what is promised, and `specs/Searching` says what the search
 //! keeps.
 #![tactic(auto)]
 
 mod answer;
-mod input;
 mod judging;
 mod larger_groups;
-mod moves;
 mod outcome;
 mod piece;
 mod pieces;
 mod plain_judging;
 mod plain_search;
-mod position;
 mod search;
 mod solving;
 mod watcher;

@@ -1,8 +1,8 @@
 //! What a search finds at a state, at a take, and at all takes of a branch.
 
-use crate::position::Position;
 use certificate_data::{Certificate, Leaf, Take, Tree};
 use county_codes::Grouping;
+use search_groups::Position;
 
 /// What a search finds at a state.
 #[derive(Drop)]

@@ -17,12 +17,10 @@ ghost use Rattle.branch_bound.specs.Searching.{search_problem, search_round, sea
 ghost use Rattle.branch_bound.specs.Searching.{IsBetter, IsChoice, IsOutcome};
 ghost use Rattle.branch_bound.specs.Pieces.{IsPiece, IsOpen};
 
-use crate::input::SearchInput;
 use crate::judging::next_move;
 use crate::outcome::{Move, SearchOutcome};
 use crate::piece::{Piece, Split};
 use crate::plain_search::prove_plain;
-use crate::position::Position;
 use crate::search::prove;
 use crate::watcher::NoWatcher;
 use certificate_data::{Format, Round, Tree};
@@ -30,7 +28,7 @@ use connected_sets::{CountyGraph, Stop};
 use county_codes::Grouping;
 use county_problem::{OrderFault, Ordered, Problem, Steps};
 use place_sets::CountySet;
-use search_groups::PartLists;
+use search_groups::{PartLists, Position, SearchInput};
 use state_groups::{State, copied_state};
 use std::alloc::{AllocError, Global};
 

@@ -11,13 +11,13 @@ ghost use Rattle.connected_sets.specs.declared.stop.Stop.{Stop};
 ghost use Rattle.branch_bound.specs.Searching.{search_problem, search_round, search_state, IsEnd};
 ghost use Rattle.branch_bound.specs.PlainRounds.{IsPlainGround, IsStateOf, IsNextPlainMove};
 
-use crate::input::SearchInput;
 use crate::outcome::PlainMove;
 use certificate_data::Leaf;
 use connected_sets::Stop;
 use county_problem::Steps;
 use place_sets::CountySet;
 use search_ends::{empty_leaf, finished_grouping, room_leaf, whole_leaf};
+use search_groups::SearchInput;
 use state_groups::{State, open_places};
 use std::alloc::AllocError;
 

@@ -13,7 +13,6 @@ ghost use Rattle.branch_bound.specs.Searching.{search_problem, search_round, sea
 ghost use Rattle.branch_bound.specs.Searching.{AreTakesAt};
 ghost use Rattle.branch_bound.specs.PlainRounds.{IsPlainGround, IsStateOf};
 
-use crate::input::SearchInput;
 use crate::outcome::{PlainMove, SearchOutcome, Taken, Takes};
 use crate::plain_judging::next_plain_move;
 use crate::search::{taken_of, with_take};
@@ -21,6 +20,7 @@ use certificate_data::{Branch, Take, Tree};
 use connected_sets::Stop;
 use county_problem::Steps;
 use place_sets::CountySet;
+use search_groups::SearchInput;
 use state_groups::{State, closed_state, groups_at, raise_place};
 use std::alloc::AllocError;
 

@@ -19,17 +19,16 @@ ghost use Rattle.branch_bound.specs.declared.outcome.Takes.TheVariants as all;
 ghost use Rattle.branch_bound.specs.Searching.{search_problem, search_round, search_state, IsSearchInput, IsPositionAt};
 ghost use Rattle.branch_bound.specs.Searching.{IsBetter, IsOutcome, IsTakenGroup, AreTakesAt, IsChoice};
 
-use crate::input::SearchInput;
 use crate::judging::next_move;
-use crate::moves::{closed_position, groups_to_take, raised_position};
 use crate::outcome::{Move, Raised, SearchOutcome, Taken, Takes};
-use crate::position::Position;
 use crate::watcher::Watcher;
 use certificate_data::{Branch, Take, Tree};
 use connected_sets::Stop;
 use county_problem::Steps;
 use place_sets::CountySet;
-use search_groups::PartLists;
+use search_groups::{
+    PartLists, Position, SearchInput, closed_position, groups_to_take, raised_position,
+};
 use std::alloc::AllocError;
 
 /// Returns the take of `group`, given the `outcome` of the search where it is closed. If the search found a better

@@ -20,8 +20,6 @@ ghost use Rattle.search_ends.specs.GivenLeaf.{IsGivenLeaf};
 ghost use Rattle.branch_bound.specs.Answers.{IsSolveAnswer, Certifies, SolveIsRight, HasCompleteTree, SaysWhether};
 
 use crate::answer::Answer;
-use crate::input::SearchInput;
-use crate::moves::first_position;
 use crate::outcome::{First, SearchOutcome};
 use crate::search::prove;
 use crate::watcher::{NoWatcher, Watcher};
@@ -31,7 +29,7 @@ use county_codes::{Codes, Grouping, listed_codes};
 use county_problem::{OrderFault, Ordered, Problem, Steps};
 use place_sets::{CountySet, MaskSet, Places, fits_mask};
 use search_ends::{finished_grouping, whole_leaf};
-use search_groups::PartLists;
+use search_groups::{PartLists, SearchInput, first_position};
 use state_groups::{State, first_state};
 use std::alloc::{AllocError, Global};
 

@@ -71,7 +71,7 @@ module _ (p : Problem) (text : List ℕ) (limit : ℕ) where
       (λ f. omega (arith, few, lines text, f.2))
       costs
 
-  -- so many lines are within the limit
+  -- the lines that were read are within the limit
   within : (v : Verdict) → lines_in_front text + 1 ≤ limit → IsWithinBudget (lines_in_front text) limit v
   within (Best target) h = h
   within Impossible h = h

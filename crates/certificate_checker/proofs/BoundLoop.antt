@@ -24,7 +24,7 @@ use Rattle.certificate_checker.specs.declared.feed.Halt.{Halt}
 use Rattle.certificate_checker.specs.declared.feed.Halt.TheVariants as stop
 use Rattle.checker_laws.specs.Fault as fault
 
--- what is left of the lines of a bound leaf, after so many of them, where so many counties are used up
+-- what is left of the lines of a bound leaf, after `judged` of them, where `used` counties are used up
 pub record LinesLeft (p : Problem) (round : Round) (s : State) (target : Grouping) (old now : FeedValue) (lines : List Allowance) (rest : List Item) (judged used : ℕ) : Type 0 where
   pub left : List Allowance
   pub spelled : AllowancesAreSpelled left

@@ -17,3 +17,4 @@ pub mod TreeAnswering
 pub mod HeadsRead
 pub mod TargetsRead
 pub mod Agrees
+pub mod KnownPlaces

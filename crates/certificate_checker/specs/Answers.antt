@@ -48,8 +48,8 @@ IsCheckAnswer p text budget Budget = (cost : ℕ) → TextCosts p text cost → 
 abbrev pub lines_in_front : List ℕ → ℕ
 lines_in_front text = length (certificate_course text).items
 
--- An answer other than Budget comes only where so many lines, with one more for the end or for the line at fault, are
--- no more than the budget.
+-- An answer other than Budget comes only where the lines in front, with one more for the end or for the line at fault,
+-- are no more than the budget.
 abbrev pub IsWithinBudget : ℕ → ℕ → Verdict → Type 0
 IsWithinBudget lines budget (Best target) = lines + 1 ≤ budget
 IsWithinBudget lines budget Impossible = lines + 1 ≤ budget

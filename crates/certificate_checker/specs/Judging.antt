@@ -127,7 +127,7 @@ IsLineJudged p round s wanted i used (line ∷ lines) rest old (Err stop.Budget)
     (m : ℕ) → LineLooks line p round s i m → old.limit ≤ old.used + 1 + 2 * m
 IsLineJudged p round s wanted i used (line ∷ lines) rest old (Err stop.Refused) new = ⊤
 
--- so many counties are used up by groups of a size or a smaller one, that there is room for them
+-- the counties that groups of a size or a smaller one use up are few enough that their number has room
 abbrev pub IsSmall : Allowed → Type 0
 IsSmall Loss = ⊤
 IsSmall (Even now) = now ≤ most_counties

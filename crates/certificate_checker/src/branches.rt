@@ -3,7 +3,7 @@
 ghost use Rattle.std.specs.Prelude.{◌≡◌, ◌≤◌, ◌<◌, ◌∷◌, List, All, IfOk, MatchResult};
 ghost use Rattle.county_codes.specs.Limits.{most_counties};
 ghost use Rattle.county_problem.specs.OrderedValue.{code_at};
-ghost use Rattle.connected_sets.specs.Graphs.{graph_problem, graph_order, graph_places};
+ghost use Rattle.connected_sets.specs.Graphs.{graph_problem, graph_order, graph_places, place_problem};
 ghost use Rattle.certificate_data.specs.RoundValue.{round_of};
 ghost use Rattle.certificate_laws.specs.State.{close};
 ghost use Rattle.certificate_laws.specs.Proving.{limit_of};
@@ -11,15 +11,21 @@ ghost use Rattle.checker_laws.specs.Branches.{IsNextTake};
 ghost use Rattle.state_groups.specs.PlacedValues.{state_at, codes_of_sets, IsPlaced, IsClosable};
 ghost use Rattle.certificate_lines.specs.Courses.{Unread};
 ghost use Rattle.certificate_checker.specs.Feeding.{feed_at, CountsSteps, IsFed};
+ghost use Rattle.certificate_laws.specs.Groups.{IsGroupAt};
+ghost use Rattle.certificate_laws.specs.Proving.{CanBranch};
+ghost use Rattle.certificate_checker.specs.Knowing.{IsKnownAt};
+ghost use Rattle.search_groups.specs.PartLists.{AreListsOf};
 ghost use Rattle.certificate_checker.specs.Judging.{IsCheckInput, AreTakesListed, IsBranchRefused, IsTakeStop};
 
 use crate::feed::{Feed, Halt};
 use crate::forms::judged_at;
 use crate::input::CheckInput;
+use crate::known::knowing_branch;
 use county_codes::CountyCode;
 use place_sets::CountySet;
+use search_groups::{PartLists, Position};
 use state_groups::{State, closed_state};
-use state_judge::{Branching, judge_branch, judge_take};
+use state_judge::{Branching, judge_take};
 
 /// Judges the line of a branch, which was read last. Returns the groups that the takes of the branch have to be.
 pub(crate) fn listed_groups<C: CountySet, S>(
@@ -27,10 +33,21 @@ pub(crate) fn listed_groups<C: CountySet, S>(
     state: &State<C>,
     county: CountyCode,
     limit: Option<u16>,
+    known: &mut Option<Position<C>>,
+    lists: &mut PartLists<C>,
     feed: &mut Feed<S>,
 ) -> Result<Branching<C>, Halt>
     requires input { IsCheckInput C.PLACES C.test input.now }
     requires placed { IsPlaced (graph_places input.now.graph.now) C.test state.now }
+    requires known { IsKnownAt C.test input.now (state_at (graph_order input.now.graph.now) C.test state.now) known.old }
+    requires lists { AreListsOf C.test (place_problem input.now.graph.now) (graph_places input.now.graph.now) lists.old }
+    ensures known { IsKnownAt C.test input.now (state_at (graph_order input.now.graph.now) C.test state.now) known.new }
+    ensures lists { AreListsOf C.test (place_problem input.now.graph.now) (graph_places input.now.graph.now) lists.new }
+    ensures sized { IfOk result (λ b. (at : Position C) → known.new ≡ Some at → at.size ≡ b.limit) }
+    ensures can { IfOk result (λ b. CanBranch (round_of input.now.round.now) (state_at (graph_order input.now.graph.now) C.test state.now) county b.limit) }
+    ensures fits { IfOk
+        result
+        (λ b. All (IsGroupAt (graph_problem input.now.graph.now) (round_of input.now.round.now) (state_at (graph_order input.now.graph.now) C.test state.now) county b.limit) (codes_of_sets (graph_order input.now.graph.now) C.test b.groups.items)) }
     ensures counts { CountsSteps feed.old feed.new }
     ensures fed { (course : Unread) → IsFed (feed_at course feed.old) result (feed_at course feed.new) }
     ensures same { feed.new.source ≡ feed.old.source }
@@ -59,12 +76,14 @@ pub(crate) fn listed_groups<C: CountySet, S>(
         (feed_at course feed.old)
         found) }
 {
-    let judged = judge_branch(
-        input.graph,
-        input.round,
+    let judged = knowing_branch(
+        input,
         state,
+        known,
         county,
         limit,
+        lists,
+        &mut feed.spare,
         &mut feed.steps,
     );
     judged_at(judged, feed.line)

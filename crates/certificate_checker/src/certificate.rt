@@ -1,6 +1,6 @@
 //! The judging of a whole certificate: its order, its limit, its target, and its tree.
 
-ghost use Rattle.std.specs.Prelude.{◌≡◌, ◌≤◌, ◌<◌, ◌+◌, ◌∷◌, [], ◌++◌, List, length, nat_lt, IfOk};
+ghost use Rattle.std.specs.Prelude.{◌≡◌, ◌≤◌, ◌<◌, ◌+◌, ◌∷◌, [], ◌++◌, List, length, nat_lt, IfOk, IsTrue};
 ghost use Rattle.std.specs.Prelude.{MatchResult};
 ghost use Rattle.std.specs.List.{list_any};
 ghost use Rattle.county_codes.specs.Limits.{most_counties};
@@ -29,6 +29,7 @@ ghost use Rattle.certificate_checker.specs.Certificates.{IsCertificateJudged};
 use crate::feed::{Feed, Halt};
 use crate::forms::next_end;
 use crate::input::CheckInput;
+use crate::known::first_known;
 use crate::rounds::read_round;
 use crate::tree::judge_tree;
 use certificate_data::Round;
@@ -37,6 +38,7 @@ use connected_sets::CountyGraph;
 use county_codes::{Group, Grouping, Window};
 use county_problem::{Counts, GroupingFault, OrderFault, Ordered, Problem, judge};
 use place_sets::CountySet;
+use search_groups::PartLists;
 use state_groups::{State, first_state};
 use state_judge::CheckFault;
 use std::alloc::Global;
@@ -136,13 +138,15 @@ pub(crate) fn judge_target(
     }
 }
 
-/// Judges the tree that begins on the next line, at `state`. Order, limit and target are fine.
+/// Judges the tree that begins on the next line, at `state`. Order, limit and target are fine. If `is_first`, nothing is
+/// closed there, and what is known of the groups is kept from line to line.
 pub(crate) fn judge_placed<C: CountySet, F, S: ItemSource<F>>(
     alloc: Global,
     ordered: &Ordered,
     round: &Round,
     wanted: Option<&Counts>,
     state: &mut State<C>,
+    is_first: bool,
     feed: &mut Feed<S>,
     from: &mut F,
 ) -> Result<(), Halt>
@@ -151,6 +155,7 @@ pub(crate) fn judge_placed<C: CountySet, F, S: ItemSource<F>>(
     requires small { round.now.limit ≤ most_counties }
     requires wanted { AreWanted (target_of round.now.target) wanted }
     requires placed { IsPlaced (length ordered.now.order) C.test state.old }
+    requires first { IsTrue is_first → state_at ordered.now.order C.test state.old ≡ empty_state (problem_of ordered.now.problem) }
     requires counted { feed.old.line ≤ feed.old.steps.used }
     ensures counts { CountsSteps feed.old feed.new }
     ensures fed { FeedsThrough (stream_of S.left S.given feed.old from.old) (stream_of S.left S.given feed.new from.new) (λ a b. IsFed a result b) }
@@ -173,7 +178,9 @@ pub(crate) fn judge_placed<C: CountySet, F, S: ItemSource<F>>(
         round,
         wanted,
     };
-    judge_tree(&input, state, feed, from)
+    let mut lists = PartLists::new(alloc);
+    let known = if is_first { first_known(&input)? } else { None };
+    judge_tree(&input, state, known, &mut lists, feed, from)
 }
 
 /// Judges the tree of a certificate, which begins on the next line. Everything in front of it is fine.
@@ -207,7 +214,7 @@ fn judge_first<C: CountySet, F, S: ItemSource<F>>(
 {
     match first_state::<C>(alloc, ordered) {
         Ok(mut state) => judge_placed::<C, F, S>(
-            alloc, ordered, round, wanted, &mut state, feed, from,
+            alloc, ordered, round, wanted, &mut state, true, feed, from,
         ),
         Err(_) => Err(Halt::Refused),
     }

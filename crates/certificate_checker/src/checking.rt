@@ -77,6 +77,7 @@ fn check_source<C: CountySet, F, S: ItemSource<F> + Drop>(
         source,
         line: 0,
         steps: Steps::new(budget),
+        spare: Steps::new(budget),
     };
     line.clear();
     match judge_certificate::<C, F, S>(alloc, problem, &mut feed, from) {

@@ -18,6 +18,8 @@ pub(crate) struct Feed<S> {
     pub(crate) source: S,
     pub(crate) line: u64,
     pub(crate) steps: Steps,
+    /// The steps that may be taken to keep what is known. They count for nothing.
+    pub(crate) spare: Steps,
 }
 
 /// Why the judging of a certificate or of a tree stopped.

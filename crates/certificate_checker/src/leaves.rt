@@ -2,7 +2,7 @@
 
 ghost use Rattle.std.specs.Prelude.{◌≡◌, ℕ, ◌≤◌, ◌++◌, List, length, IfOk};
 ghost use Rattle.county_codes.specs.Limits.{most_counties};
-ghost use Rattle.connected_sets.specs.Graphs.{graph_problem, graph_order, graph_places};
+ghost use Rattle.connected_sets.specs.Graphs.{graph_problem, graph_order, graph_places, place_problem};
 ghost use Rattle.certificate_data.specs.RoundValue.{round_of};
 ghost use Rattle.certificate_data.specs.Tree.{Allowance as AllowanceValue, stuck, seats, bound};
 ghost use Rattle.certificate_lines.specs.declared.item.Item.{Item as ItemValue};
@@ -10,16 +10,20 @@ ghost use Rattle.state_groups.specs.PlacedValues.{state_at, IsPlaced};
 ghost use Rattle.certificate_checker.specs.ReadableTrees.{AllowancesAreSpelled};
 ghost use Rattle.certificate_checker.specs.Feeding.{FeedValue, stream_of, CountsSteps, IsFed, FeedsThrough, ForEach};
 ghost use Rattle.certificate_checker.specs.Judging.{IsCheckInput, IsLeafJudged, IsFoundAt, IsEndOf, IsSmall};
+ghost use Rattle.certificate_checker.specs.Knowing.{IsKnownAt};
+ghost use Rattle.search_groups.specs.PartLists.{AreListsOf};
 ghost use Rattle.certificate_checker.specs.Judging.{IsLineJudged, line_items};
 
 use crate::feed::{Feed, Halt};
 use crate::forms::{judged_at, next_allowance};
 use crate::input::CheckInput;
+use crate::known::knowing_allowance;
 use certificate_lines::ItemSource;
 use county_codes::CountyCode;
 use place_sets::CountySet;
+use search_groups::{PartLists, Position};
 use state_groups::State;
-use state_judge::{Allowed, CheckFault, judge_allowance, judge_seats, judge_stuck};
+use state_judge::{Allowed, CheckFault, judge_seats, judge_stuck};
 
 /// Returns the result for a leaf of one line: its `fault` at `line`, if there is one.
 fn found_at(fault: Option<CheckFault>, line: u64) -> Result<(), Halt>
@@ -82,17 +86,23 @@ fn loss_at(last: bool, opened: u64) -> Result<(), Halt>
 fn judge_line<C: CountySet, F, S: ItemSource<F>>(
     input: &CheckInput<C>,
     state: &State<C>,
+    known: &mut Option<Position<C>>,
     size: u16,
     wanted: u16,
     used: u32,
+    lists: &mut PartLists<C>,
     feed: &mut Feed<S>,
     from: &mut F,
 ) -> Result<Allowed, Halt>
     requires input { IsCheckInput C.PLACES C.test input.now }
     requires placed { IsPlaced (graph_places input.now.graph.now) C.test state.now }
+    requires known { IsKnownAt C.test input.now (state_at (graph_order input.now.graph.now) C.test state.now) known.old }
+    requires lists { AreListsOf C.test (place_problem input.now.graph.now) (graph_places input.now.graph.now) lists.old }
     requires counted { feed.old.line ≤ feed.old.steps.used }
     requires size { 1 ≤ size }
     requires used { used ≤ most_counties }
+    ensures known { IsKnownAt C.test input.now (state_at (graph_order input.now.graph.now) C.test state.now) known.new }
+    ensures lists { AreListsOf C.test (place_problem input.now.graph.now) (graph_places input.now.graph.now) lists.new }
     ensures counts { CountsSteps feed.old feed.new }
     ensures fed { FeedsThrough (stream_of S.left S.given feed.old from.old) (stream_of S.left S.given feed.new from.new) (λ a b. IsFed a result b) }
     ensures small { IfOk result IsSmall }
@@ -114,14 +124,16 @@ fn judge_line<C: CountySet, F, S: ItemSource<F>>(
         b) }
 {
     let line = next_allowance(feed, from)?;
-    let judged = judge_allowance(
-        input.graph,
-        input.round,
+    let judged = knowing_allowance(
+        input,
         state,
+        known,
         size,
         wanted,
         used,
         &line,
+        lists,
+        &mut feed.spare,
         &mut feed.steps,
     );
     judged_at(judged, feed.line)
@@ -131,13 +143,18 @@ fn judge_line<C: CountySet, F, S: ItemSource<F>>(
 pub(crate) fn judge_bound_leaf<C: CountySet, F, S: ItemSource<F>>(
     input: &CheckInput<C>,
     state: &State<C>,
+    known: &mut Option<Position<C>>,
     count: u16,
+    lists: &mut PartLists<C>,
     feed: &mut Feed<S>,
     from: &mut F,
 ) -> Result<(), Halt>
     requires input { IsCheckInput C.PLACES C.test input.now }
     requires placed { IsPlaced (graph_places input.now.graph.now) C.test state.now }
+    requires known { IsKnownAt C.test input.now (state_at (graph_order input.now.graph.now) C.test state.now) known.old }
+    requires lists { AreListsOf C.test (place_problem input.now.graph.now) (graph_places input.now.graph.now) lists.old }
     requires counted { feed.old.line ≤ feed.old.steps.used }
+    ensures lists { AreListsOf C.test (place_problem input.now.graph.now) (graph_places input.now.graph.now) lists.new }
     ensures counts { CountsSteps feed.old feed.new }
     ensures fed { FeedsThrough (stream_of S.left S.given feed.old from.old) (stream_of S.left S.given feed.new from.new) (λ a b. IsFed a result b) }
     ensures judged { ForEach (stream_of S.left S.given feed.old from.old) (stream_of S.left S.given feed.new from.new) (λ a b. (lines : List AllowanceValue) (rest : List ItemValue)
@@ -164,7 +181,17 @@ pub(crate) fn judge_bound_leaf<C: CountySet, F, S: ItemSource<F>>(
     let mut used = 0;
     'judging: for before in 0..count {
         let size = before + 1;
-        match judge_line(input, state, size, wanted.of(size), used, feed, from) {
+        match judge_line(
+            input,
+            state,
+            known,
+            size,
+            wanted.of(size),
+            used,
+            lists,
+            feed,
+            from,
+        ) {
             Ok(Allowed::Even(now)) => used = now,
             Ok(Allowed::Loss) => return loss_at(size == count, opened),
             Err(stop) => return Err(stop),

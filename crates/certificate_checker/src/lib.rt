@@ -28,6 +28,7 @@ mod fault;
 mod feed;
 mod forms;
 mod input;
+mod known;
 mod laws;
 mod leaves;
 mod rounds;

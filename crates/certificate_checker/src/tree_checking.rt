@@ -87,6 +87,7 @@ fn check_lines<C: CountySet>(
         source: Items::of_tree(alloc, lines, round.format, places),
         line: 0,
         steps: Steps::new(budget),
+        spare: Steps::new(budget),
     };
     let judged = judge_placed::<C, (), Items>(
         alloc,
@@ -94,6 +95,7 @@ fn check_lines<C: CountySet>(
         round,
         wanted,
         state,
+        false,
         &mut feed,
         &mut (),
     );

@@ -36,7 +36,7 @@ leaf_excludes p round s whole fits (stuck county) v opens c beats = part_is_fill
 leaf_excludes p round s whole fits seats v opens c beats = seats_fit p s whole opens c v
 leaf_excludes p round s whole fits (bound lines) v opens c beats = bound_excludes p round s whole fits lines v opens c beats
 
--- a completing group of at most so many counties, in the order of places, is a group of the branch
+-- a completing group of at most `limit` counties, in the order of places, is a group of the branch
 pub group_there : (p : Problem) (round : Round) (s : State) → IsOrder p round.order → (whole : IsWhole p s) (opens : Grouping) (c : Completes p s opens) (county limit : ℕ) (m : Group) → Has opens m → contains m.codes county ≡ true → length m.codes ≤ limit
     → Alike m.codes (filter (contains m.codes) round.order) × IsGroupAt p round s county limit (filter (contains m.codes) round.order)
 group_there p round s order whole opens c county limit m h has small =

@@ -32,7 +32,7 @@ others_has (x ∷ xs) y (inl e) z k = inr k
 others_has (x ∷ xs) y (inr h) z (inl e) = inl e
 others_has (x ∷ xs) y (inr h) z (inr k) = inr (others_has xs y h z k)
 
--- either some group of the list has the county and at most so many counties, or each one that has it has more
+-- either some group of the list has the county and at most `limit` counties, or each one that has it has more
 pub find_small : (limit county : ℕ) (opens : Grouping)
     → ((m : Group) × Has opens m × (contains m.codes county ≡ true) × (length m.codes ≤ limit)) ⊎ ((m : Group) → Has opens m → contains m.codes county ≡ true → limit < length m.codes)
 find_small limit county [] = inr (λ m h e. absurd h)

@@ -20,7 +20,7 @@ weight_of ws c = sum_by (λ w. cond (w.county == c) w.weight 0) ws
 abbrev pub room_at : Problem → State → ℕ → ℕ → ℕ
 room_at p s i used = length (listed p (open_to s i)) - used
 
--- how many groups of i counties the line allows, where smaller groups use up so many counties
+-- how many groups of `i` counties the line allows, where smaller groups use up `used` counties
 abbrev pub allowance : Problem → State → ℕ → ℕ → Allowance → ℕ
 allowance p s i used room = room_at p s i used / i
 allowance p s i used (weigh quota ws) =
@@ -34,7 +34,7 @@ IsFair format p s i (weigh quota ws) =
     × All (λ w. contains p.counties w.county ≡ true) ws
     × ((g : List ℕ) → Fits format p s g → length g ≡ i → quota ≤ sum_by (weight_of ws) g)
 
--- From size i on, where smaller groups use up so many counties, closed groups and allowances give the target's counts,
+-- From size `i` on, where smaller groups use up `used` counties, closed groups and allowances give the target's counts,
 -- up to a size at which they give fewer, or to the limit.
 abbrev pub Bounds : Format → Problem → ℕ → State → (ℕ → ℕ) → ℕ → ℕ → List Allowance → Type 0
 Bounds format p limit s wanted i used [] = i ≡ limit + 1

@@ -8,7 +8,7 @@ use Rattle.certificate_data.specs.Round.{Round}
 use Rattle.certificate_laws.specs.State.{State, open_to}
 use Rattle.certificate_laws.specs.Fitting.{Fits}
 
--- a group that fits, has the county and has at most so many counties, its codes in the order of places
+-- a group that fits, has the county and has at most `limit` counties, its codes in the order of places
 pub record IsGroupAt (p : Problem) (round : Round) (s : State) (county limit : ℕ) (g : List ℕ) : Type 0 where
   pub fits : Fits round.format p s g
   pub in_order : filter (contains g) round.order ≡ g
@@ -32,8 +32,8 @@ pub record AreGroupsOf (p : Problem) (round : Round) (s : State) (i : ℕ) (grou
   pub each : (g : List ℕ) → Contains groups g ↔ IsGroupOf p round s i g
   pub sorted : AllPairs (IsBefore round.order) groups
 
--- The connected sets that are looked through for a branch's groups: those that have the county, have at most so many
--- counties and lie among those open to groups of so many.
+-- The connected sets that are looked through for a branch's groups: those that have the county, have at most `limit`
+-- counties and lie among those open to groups of `limit` counties.
 pub record IsSetAt (p : Problem) (order : List ℕ) (s : State) (county limit : ℕ) (g : List ℕ) : Type 0 where
   pub connected : Connected p g
   pub in_order : filter (contains g) order ≡ g

@@ -75,7 +75,7 @@ pub record IsMarkedOff (p : Problem) (s : MarkedState) : Type 0 where
   pub off : (AllZip (IsLeast p) (s.closed ++ parts) ranges × (p.seats_left < sum_by (λ k. k) ranges))
       ⊎ (AllZip (IsMost p) (s.closed ++ parts) ranges × (sum_by (λ k. k) ranges < p.seats_left))
 
--- how many groups of i counties the line allows inside the rest, where there is room for so many counties
+-- how many groups of `i` counties the line allows inside the rest, where there is room for `left` counties
 abbrev pub rest_allowance : Problem → MarkedState → ℕ → ℕ → Allowance → ℕ
 rest_allowance p s i left room = left / i
 rest_allowance p s i left (weigh quota ws) = min (left / i) (sum_by (weight_of ws) (listed p s.rest) / quota)
@@ -88,7 +88,7 @@ IsRestFair p s i (weigh quota ws) =
     × All (λ w. contains p.counties w.county ≡ true) ws
     × ((g : List ℕ) → LawfulGroup p g → length g ≡ i → Inside s.rest g → quota ≤ sum_by (weight_of ws) g)
 
--- from size i on, where there is room for so many counties
+-- from size `i` on, where there is room for `left` counties
 abbrev pub RestBounds : Problem → ℕ → MarkedState → (ℕ → ℕ) → ℕ → ℕ → List Allowance → Type 0
 RestBounds p limit s wanted i left [] = i ≡ limit + 1
 RestBounds p limit s wanted i left (line ∷ lines) =

@@ -24,13 +24,13 @@ NamesLimit Wide None = ⊥
 NamesLimit Wide (Some limit) = ⊤
 
 -- in a plain round a branch has the round's limit, and stands at the first county of the order that may lie in a group
--- of so many
+-- of that many counties
 abbrev pub GoesInOrder : Format → Round → State → ℕ → ℕ → Type 0
 GoesInOrder Plain round s county limit =
     (limit ≡ round.limit) × BeginsWith county (filter (open_to s limit) round.order)
 GoesInOrder Wide round s county limit = ⊤
 
--- one may branch at the county by groups of at most so many counties
+-- one may branch at the county by groups of at most `limit` counties
 pub record CanBranch (round : Round) (s : State) (county limit : ℕ) : Type 0 where
   pub small : limit ≤ round.limit
   pub is_open : open_to s limit county ≡ true

@@ -33,7 +33,7 @@ abbrev pub AreCountLines : Format → Problem → State → ℕ → List Allowan
 AreCountLines format p s i [] = ⊤
 AreCountLines format p s i (line ∷ lines) = IsCountLine format p s i line × AreCountLines format p s (i + 1) lines
 
--- no stuck leaf, no seats leaf and no bound leaf of at most so many count lines is valid
+-- no stuck leaf, no seats leaf and no bound leaf of at most `most` count lines is valid
 pub record HasNoLeaf (p : Problem) (round : Round) (most : ℕ) (s : State) : Type 0 where
   pub no_stuck : (c : ℕ) → ¬ IsValidLeaf p round s (stuck c)
   pub no_seats : ¬ IsValidLeaf p round s seats

@@ -59,8 +59,8 @@ pub fn lists_serve()
     ensures { ListsServe }
 {}
 
-/// States that parts, groups that fit and lists of groups are the same whether they are found by the places of the
-/// round's order or by the codes.
+/// States that parts, groups that fit and lists of groups are the same whether the places of the round's order
+/// or the codes find them.
 pub fn places_serve()
     ensures { PlacesServe }
 {}

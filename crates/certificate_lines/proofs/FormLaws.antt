@@ -40,7 +40,7 @@ named_go name words rest true e h =
 pub named_ok : (name : List ℕ) (words rest : List (List ℕ)) → named name words ≡ Ok rest → words ≡ name ∷ rest
 named_ok name words rest h = named_go name words rest _ refl h
 
--- so many words
+-- the words are from `least` to `greatest` in number
 pub record CountedIs (least greatest : ℕ) (words rest : List (List ℕ)) : Type 0 where
   pub same : words ≡ rest
   pub from : least ≤ length rest

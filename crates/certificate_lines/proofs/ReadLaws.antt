@@ -112,7 +112,7 @@ pub fault_first : {X : Type 0} (read : RawLine → Result X TextKind) (old : Res
     → lines_of old ≡ piece ∷ pieces → read piece ≡ Err fault.kind → fault.line ≡ old.number → FaultOf read old.number (lines_of old) fault
 fault_first read old piece pieces fault lines kind line = subst (λ (ps : List RawLine). FaultOf read old.number ps fault) (sym lines) (kind, line)
 
--- so many groups or lines are left
+-- `n` groups or lines are left
 pub allowances_more : (n : ℕ) → 0 < n → allowances_wanted n ≡ want.Allowances n ∷ []
 allowances_more n some = grind (arith, nat_tests)
 

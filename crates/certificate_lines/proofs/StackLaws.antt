@@ -19,7 +19,7 @@ use Rattle.certificate_lines.specs.declared.item.Item.TheVariants.{Head, Within,
 use Rattle.certificate_lines.specs.declared.item.Wanted.{Wanted}
 use Rattle.certificate_lines.specs.declared.item.Wanted.TheVariants as want
 
--- so many groups, or lines of a bound leaf, take one place at most
+-- a number of groups, or of lines of a bound leaf, takes one place at most
 counted_go : (w : Wanted) (below : List Wanted) (t : Bool) → HasRoom (length below) w → greatest_place below ≤ most + 1 → greatest_place (cond t (w ∷ []) [] ++ below) ≤ most + 1
 counted_go w below true room h = omega arith
 counted_go w below false room h = h

@@ -179,7 +179,7 @@ nothing_before [] short = search rules
 nothing_before (x ∷ []) short = search rules
 nothing_before (x ∷ y ∷ rest) short = absurd (omega arith)
 
--- so many words, or not
+-- the number of words lies between `least` and `greatest`, or it doesn't
 pub counted_right : (least greatest n : ℕ) (words : List (List ℕ)) → n ≡ length words → least ≤ n → n ≤ greatest → counted least greatest words ≡ Ok words
 counted_right least greatest n words is enough few = grind (arith, nat_tests)
 

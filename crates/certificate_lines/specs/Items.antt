@@ -59,7 +59,7 @@ item_on (want.Takes format levels) piece = seen taken (by_words line.take_on pie
 item_on (want.Allowances left) piece = seen Allows (by_words line.allowance_on piece)
 item_on want.End piece = seen (λ _. End) (by_words line.end_on piece)
 
--- what is wanted if so many groups follow, or so many lines of a bound leaf
+-- what is wanted if `n` groups follow, or `n` lines of a bound leaf
 abbrev pub groups_wanted : ℕ → List Wanted
 groups_wanted n = if nat_lt 0 n then want.Groups n ∷ [] else []
 

@@ -14,7 +14,7 @@ room_of (want.Tree format levels) = levels
 room_of (want.Takes format levels) = 1 + (levels - 1)
 room_of wanted = 0
 
--- above so many things there is room for this, and for all that may lie above its place
+-- above `below` things there is room for what is wanted, and for all that may lie above its place
 abbrev pub HasRoom : ℕ → Wanted → Type 0
 HasRoom below wanted = below + room_of wanted ≤ most + 1
 

@@ -36,7 +36,7 @@ reads_as a b x y is js same h = subst (λ (l : List Item). ReadsItems a x l b y)
 pub reads_to : (a b c : List Wanted) (x y : Rest) (is : List Item) → b ≡ c → ReadsItems a x is b y → ReadsItems a x is c y
 reads_to a b c x y is same h = subst (λ (w : List Wanted). ReadsItems a x is w y) same h
 
--- so many lines of one form
+-- `n` lines of one form
 abbrev pub runs : (ℕ → Wanted) → ℕ → List Wanted
 runs wants n = cond (nat_lt 0 n) (wants n ∷ []) []
 

@@ -21,7 +21,7 @@ allowance_there (weigh quota ws) = ap (weigh quota) (weights_back ws)
 allowance_back : (a b : Allowance) → declared_allowance a ≡ declared_allowance b → a ≡ b
 allowance_back a b e = sym (allowance_there a) ∙ ap allowance_of e ∙ allowance_there b
 
--- so many lines of a bound leaf
+-- two lists with the same number of lines of a bound leaf
 lines_back : (ks bs : List Allowance) (xs ys : List Item) → length ks ≡ length bs → map (λ a. item.Allows (declared_allowance a)) ks ++ xs ≡ map (λ a. item.Allows (declared_allowance a)) bs ++ ys → (ks ≡ bs) × (xs ≡ ys)
 lines_back [] [] xs ys e h = (refl, h)
 lines_back [] (b ∷ bs) xs ys e h = cc

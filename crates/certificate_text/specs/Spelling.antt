@@ -13,7 +13,7 @@ pub record IsSpelling (text : List ℕ) (c : Certificate) : Type 0 where
   pub fits : AllFit (want.Head ∷ []) (items_of_certificate c)
   pub text_is : text ≡ text_of_items (items_of_certificate c)
 
--- the text is the items of a tree alone line by line, where branches may open so many levels, and each item fits
+-- the text is the items of a tree alone line by line, where branches may open `levels` levels, and each item fits
 pub record IsTreeSpelling (format : Format) (levels : ℕ) (text : List ℕ) (t : Tree) : Type 0 where
   pub fits : AllFit (want.Tree format levels ∷ []) (items_of_tree t)
   pub text_is : text ≡ text_of_items (items_of_tree t)

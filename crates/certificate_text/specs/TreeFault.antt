@@ -11,6 +11,6 @@ use Rattle.certificate_text.specs.Trees.{items_of_tree}
 abbrev pub lines_of_tree : Tree → List ℕ
 lines_of_tree tree = text_of_items (items_of_tree tree)
 
--- the first fault that the lines of the tree would meet, where they are read for an order of so many counties
+-- the first fault that the lines of the tree would meet, where they are read for an order of `counties` counties
 abbrev pub HasTreeFault : Format → ℕ → Tree → TextFault → Type 0
 HasTreeFault format counties tree fault = (tree_course format counties (lines_of_tree tree)).fault ≡ Some fault

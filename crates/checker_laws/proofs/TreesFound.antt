@@ -21,7 +21,7 @@ use Rattle.checker_laws.proofs.Forms.{opens_only, takes_only, grouped_only, allo
 both_same : (x y : Item) (xs ys : List Item) → x ≡ y → xs ≡ ys → x ∷ xs ≡ y ∷ ys
 both_same x y xs ys e h = cc
 
--- so many lines of a bound leaf, and what stands behind them
+-- `n` lines of a bound leaf, and what stands behind them
 pub record LinesFound (n : ℕ) (more : List Wanted) (items : List Item) : Type 0 where
   pub lines : List Allowance
   pub later : List Item
@@ -50,7 +50,7 @@ lines_found (suc n) more (i ∷ items) f =
       few = omega (arith, behind.few);
     }
 
--- so many groups of a target, and what stands behind them
+-- `n` groups of a target, and what stands behind them
 pub record GroupsFound (n : ℕ) (more : List Wanted) (items : List Item) : Type 0 where
   pub groups : List Group
   pub later : List Item
@@ -92,7 +92,7 @@ pub record TakesFound (more : List Wanted) (items : List Item) : Type 0 where
   pub fits : AllFit more later
   pub fewer : length later < length items
 
--- trees and takes are found in so many items
+-- trees and takes are found in at most `most` items
 pub record Finds (most : ℕ) : Type 0 where
   pub tree : (format : Format) (levels : ℕ) (more : List Wanted) (items : List Item) → length items ≤ most → AllFit (want.Tree format levels ∷ more) items → TreeFound more items
   pub takes : (format : Format) (levels : ℕ) (more : List Wanted) (items : List Item) → length items ≤ most → AllFit (want.Takes format levels ∷ more) items → TakesFound (want.Tree format (after_raise format levels) ∷ more) items

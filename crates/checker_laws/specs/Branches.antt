@@ -6,7 +6,7 @@ use Rattle.certificate_laws.specs.Proving.{CanBranch, NamesLimit, limit_of}
 use Rattle.checker_laws.specs.Fault.{Fault, NoLeaf, WrongCounty, MissingGroup, StrayGroup}
 use Rattle.checker_laws.specs.End.{End, LineEnds}
 
--- no county may lie in a group of at most so many counties
+-- no county may lie in a group of at most `limit` counties
 abbrev pub NoneOpen : State → ℕ → Type 0
 NoneOpen s limit = (c : ℕ) → open_to s limit c ≡ false
 

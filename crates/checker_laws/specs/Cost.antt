@@ -17,7 +17,7 @@ use Rattle.checker_laws.specs.Branches.{IsNextTake, behind}
 use Rattle.checker_laws.specs.Lines.{tree_lines, certificate_lines}
 use Rattle.checker_laws.specs.Verdict.{IsLargeEnough, IsLawfulTarget}
 
--- there are so many sets of this kind: the sorted list of them all has so many
+-- there are `n` sets of this kind: the sorted list of them all has `n`
 pub record AreSoMany (order : List ℕ) (Kind : List ℕ → Type 0) (n : ℕ) : Type 0 where
   pub sets : List (List ℕ)
   pub each : (g : List ℕ) → Contains sets g ↔ Kind g

@@ -6,7 +6,7 @@ pub data End : Type 0 where
   fine : (next : ℕ) → End
   faulty : Fault → (line : ℕ) → End
 
--- So many lines from this one on, of which all that is asked holds, or a fault stands at the first.
+-- From `line` on there are `lines` lines, of which all that is asked holds, or a fault stands at the first.
 abbrev pub LinesEnd : ℕ → Type 0 → (Fault → Type 0) → ℕ → End → Type 0
 LinesEnd lines Holds Fails line (fine next) = Holds × (next ≡ line + lines)
 LinesEnd lines Holds Fails line (faulty fault at) = Fails fault × (at ≡ line)

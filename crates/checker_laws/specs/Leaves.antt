@@ -41,7 +41,7 @@ HasLightGroup format p s i (weigh quota weights) =
 abbrev pub allowed : Problem → State → ℕ → ℕ → Allowance → ℕ
 allowed p s i used line = counts s.closed i + allowance p s i used line
 
--- The line for size i, where smaller groups use up so many counties: it is fair, and allows no more groups than the
+-- The line for size `i`, where smaller groups use up `used` counties: it is fair, and allows no more groups than the
 -- target has.
 abbrev pub IsWithinTarget : Format → Problem → State → (ℕ → ℕ) → ℕ → ℕ → Allowance → Type 0
 IsWithinTarget format p s wanted i used line = IsFair format p s i line × (allowed p s i used line ≤ wanted i)

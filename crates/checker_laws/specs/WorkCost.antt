@@ -20,7 +20,7 @@ abbrev pub OpenFine : Open → Problem → Round → Type 0
 OpenFine (a_tree tree s) p round = Proves tree p round s
 OpenFine (some_takes takes s groups) p round = (groups_of takes ≡ groups) × EachProves takes p round s
 
--- so many sets are looked through for what is open, up to the first fault
+-- `n` sets are looked through for what is open, up to the first fault
 abbrev pub WorkLooks : List Open → Problem → Round → ℕ → Type 0
 WorkLooks [] p round n = n ≡ 0
 WorkLooks (first ∷ more) p round n =

@@ -22,12 +22,12 @@ pub record IsAllOf (bytes : List ℕ) (ended : Bool) (count : ℕ) : Type 0 wher
   pub some : 1 ≤ count
   pub last : count ≤ most_bytes → ended ≡ true
 
--- a piece of so many bytes stands at the front, with an LF or without
+-- a piece of `count` bytes stands at the front, with an LF or without
 abbrev pub IsFrontPiece : List ℕ → Bool → ℕ → Bool → Type 0
 IsFrontPiece bytes ended count true = HasLfAt bytes count
 IsFrontPiece bytes ended count false = IsAllOf bytes ended count
 
--- so many bytes stand at the front, and an LF behind them, if there is one
+-- `count` bytes stand at the front, and an LF behind them, if there is one
 abbrev pub IsWithin : List ℕ → ℕ → Bool → Type 0
 IsWithin bytes count ended = (count ≤ length bytes) × (ended ≡ true → count < length bytes)
 

@@ -18,6 +18,6 @@ kept_in least greatest (Some n) = if nat_le least n && nat_le n greatest then So
 abbrev pub number_in : ℕ → ℕ → List ℕ → Option ℕ
 number_in least greatest field = kept_in least greatest (number_of field)
 
--- the number that exactly so many digits spell
+-- the number that exactly `count` digits spell
 abbrev pub digits_of : ℕ → List ℕ → Option ℕ
 digits_of count field = if length field == count then number_of field else None

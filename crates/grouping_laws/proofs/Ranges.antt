@@ -8,7 +8,7 @@ use Rattle.std.specs.List.{AllZip}
 le_or_gt : (a b : ℕ) → (a ≤ b) ⊎ (b < a)
 le_or_gt a b = grind arith
 
--- whether so many people suit so many seats
+-- whether `people` people suit `k` seats
 pub suits_or_not : (p : Problem) (people k : ℕ) → Suits p people k ⊎ (Suits p people k → ⊥)
 suits_or_not p people k =
     ⊎_elim

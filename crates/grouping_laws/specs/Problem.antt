@@ -14,7 +14,7 @@ pub record Problem : Type 0 where
   pub tolerance : ℕ
   pub scale : ℕ
 
--- so many people suit so many seats: at or within the tolerance of the ideal population
+-- `people` people suit `seats` seats: at or within the tolerance of the ideal population
 pub record Suits (p : Problem) (people seats : ℕ) : Type 0 where
   pub some_seat : 1 ≤ seats
   pub enough : (p.scale - p.tolerance) * seats * p.total_people ≤ p.scale * p.chamber * people

@@ -16,7 +16,7 @@ pub record IsMost (p : Problem) (codes : List ℕ) (k : ℕ) : Type 0 where
   pub suits : Suits p (people_of p codes) k
   pub most : (j : ℕ) → Suits p (people_of p codes) j → j ≤ k
 
--- so many people suit no number of seats, or there is a least and a greatest number that they suit
+-- `people` people suit no number of seats, or there is a least and a greatest number that they suit
 abbrev pub HasRange : Problem → ℕ → Type 0
 HasRange p people =
     ((k : ℕ) → Suits p people k → ⊥)

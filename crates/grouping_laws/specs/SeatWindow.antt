@@ -25,7 +25,7 @@ some_suit below whole above total chamber people =
     let greatest = share / (below * total) in
     nat_le 1 greatest && nat_le share (greatest * (above * total))
 
--- the bounds of so many seats, as quotients
+-- the bounds of `seats` seats, in people, as quotients
 abbrev pub bounds_of : ℕ → ℕ → ℕ → ℕ → ℕ → ℕ → ℕ × ℕ
 bounds_of below whole above total chamber seats =
     (div_ceil (below * (seats * total)) (whole * chamber), above * (seats * total) / (whole * chamber))
@@ -35,7 +35,7 @@ abbrev pub seat_run : Problem → ℕ → Option (ℕ × ℕ)
 seat_run p people =
     seats_between (p.scale - p.tolerance) p.scale (p.scale + p.tolerance) p.total_people p.chamber people
 
--- the bounds of so many seats in a problem
+-- the bounds of `seats` seats in a problem, in people
 abbrev pub people_bounds : Problem → ℕ → ℕ × ℕ
 people_bounds p seats = bounds_of (p.scale - p.tolerance) p.scale (p.scale + p.tolerance) p.total_people p.chamber seats
 

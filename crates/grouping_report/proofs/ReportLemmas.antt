@@ -28,7 +28,7 @@ digit_more : (b : Bool) (n : ℕ) → indicator b + n ≡ cond b (1 + n) n
 digit_more true n = refl
 digit_more false n = omega arith
 
--- how many groups have so many codes, counted one by one
+-- how many groups have `size` codes, counted one by one
 pub count_of_size : (g : Grouping) (size : ℕ) → count_by (λ s. length s.codes == size) g ≡ counts (sets_of g) size
 count_of_size g size =
     sym (is_count_by (λ h. counts (sets_of h) size) (λ s. length s.codes == size) refl (λ s ss. digit_more (length s.codes == size) (counts (sets_of ss) size)) g)

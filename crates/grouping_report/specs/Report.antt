@@ -47,6 +47,6 @@ group_lines p i (s ∷ ss) = group_line i s.seats (people_of p s.codes) s.codes 
 abbrev pub report_text : ProblemValue → List ℕ → Grouping → List ℕ
 report_text v answer g = head_lines v ++ answer_line answer ++ counts_line (sets_of g) ++ group_lines (problem_of v) 1 g
 
--- the words of an answer that is open after so many steps
+-- the words of an answer that is open after `steps` steps
 unfoldable pub open_words : ℕ → List ℕ
 open_words steps = codes "open after " ++ decimal steps ++ codes " steps"

@@ -45,8 +45,8 @@ IsListing p text budget Impossible = IsCheckAnswer p text budget verdict.Impossi
 IsListing p text budget (No fault line) = IsCheckAnswer p text budget (verdict.No fault line)
 IsListing p text budget Budget = IsCheckAnswer p text budget verdict.Budget
 
--- An answer other than Budget comes only where so many lines, with one more for the end or for the line at fault, are
--- no more than the budget.
+-- An answer other than Budget comes only where the lines in front, with one more for the end or for the line at fault,
+-- are no more than the budget.
 abbrev pub IsListedWithin : ℕ → ℕ → Listing → Type 0
 IsListedWithin lines budget (All list) = lines + 1 ≤ budget
 IsListedWithin lines budget (Open gap line) = lines + 1 ≤ budget

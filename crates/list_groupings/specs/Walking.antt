@@ -38,7 +38,7 @@ pub record HasAdded (p : Problem) (lists : List (List (List ℕ))) (old new : Li
   pub sets : HaveSets p (map sets_held more) lists
   pub in_order : All (λ g. IsInOrder (sets_held g)) more
 
--- A part of so many lines was gone through: it is complete, and its ends were added. Or the walk stopped at its first
+-- A part of the lines was gone through: it is complete, and its ends were added. Or the walk stopped at its first
 -- gap.
 abbrev pub HasWalked : Problem → (Complete : Type 0) → (Gaps : Gap → ℕ → Type 0) → (lists : List (List (List ℕ)))
     → (lines : ℕ) → Found → Result (Unit {0}) WalkStop → Found → Type 0

@@ -19,7 +19,7 @@ zero_times : (x d : ℕ) → 1 ≤ d → x * d ≤ 0 → x ≡ 0
 zero_times zero d h e = refl
 zero_times (suc x) d h e = absurd (omega arith)
 
--- sets of at most so many counties
+-- sets of at most `limit` counties
 pub none_above : (limit i : ℕ) (sets : List (List ℕ)) → ((g : List ℕ) → Has sets g → length g ≤ limit) → limit < i → counts sets i ≡ 0
 none_above limit i [] small above = refl
 none_above limit i (g ∷ sets) small above = go (length g == i) refl (none_above limit i sets (λ k h. small k (inr h)) above)

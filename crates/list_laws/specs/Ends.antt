@@ -13,7 +13,7 @@ abbrev pub wanted : Option Grouping → ℕ → ℕ
 wanted None = λ i. 0
 wanted (Some t) = counts (sets_of t)
 
--- From size i on, with so many counties used up by smaller groups, closed groups and some line together give fewer
+-- From size `i` on, with `used` counties used up by smaller groups, closed groups and some line together give fewer
 -- groups of a size than are wanted.
 abbrev pub falls_short : Problem → State → (ℕ → ℕ) → ℕ → ℕ → List Allowance → Bool
 falls_short p s f i used [] = false

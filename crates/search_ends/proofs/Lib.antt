@@ -5,7 +5,6 @@ pub mod ShortLines
 pub mod PlacedWeights
 pub mod Weighing
 pub mod WeightSteps
-pub mod StuckPlaces
 pub mod Moving
 pub mod Ahead
 pub mod Covering

@@ -19,7 +19,6 @@ mod room;
 mod seats;
 mod sets;
 mod standing;
-mod stuck_counties;
 mod weighed_leaves;
 mod whole_leaves;
 
@@ -27,6 +26,5 @@ pub use empty_leaves::empty_leaf;
 pub use finished_groupings::finished_grouping;
 pub use room::room_leaf;
 pub use standing::{groups_of_size, wanted_more};
-pub use stuck_counties::stuck_county;
 pub use weighed_leaves::weighed_leaf;
 pub use whole_leaves::whole_leaf;

@@ -10,10 +10,10 @@ ghost use Rattle.state_groups.specs.PlacedValues.{state_at, IsPlaced};
 ghost use Rattle.list_laws.specs.Completeness.{IsCompleteLeaf};
 ghost use Rattle.search_ends.specs.GivenLeaf.{IsGivenLeaf};
 
-use crate::stuck_counties::stuck_county;
 use certificate_data::{Leaf, Round};
 use connected_sets::CountyGraph;
 use place_sets::CountySet;
+use search_groups::stuck_county;
 use state_groups::State;
 use state_judge::judge_seats;
 use std::alloc::AllocError;

@@ -8,3 +8,6 @@ pub mod PartSteps
 pub mod PartGroups
 pub mod NextSize
 pub mod Covered
+pub mod Positions
+pub mod NextMoves
+pub mod StuckPlaces

@@ -2,3 +2,4 @@ pub mod PartGroups
 pub mod KnownGroups
 pub mod PartLists
 pub mod Standing
+pub mod Positions

@@ -9,7 +9,7 @@ use Rattle.certificate_laws.specs.Fitting.{Fits}
 use Rattle.certificate_laws.specs.Leaves.{IsStuck}
 
 -- the state in which no group is closed, the region is the rest, and each of its counties lies in a group of at least
--- so many counties
+-- `size` counties
 abbrev pub alone : (ℕ → Bool) → ℕ → State
 alone region size = record { closed = []; rest = region; least = λ c. cond (region c) size 0 }
 

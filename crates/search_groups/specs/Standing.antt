@@ -22,6 +22,6 @@ pub record IsAhead (wanted : ℕ → ℕ) (s : State) (limit : ℕ) : Type 0 whe
 abbrev pub StandsAhead : Round → State → Type 0
 StandsAhead round s = (t : Grouping) → round.target ≡ Some t → IsAhead (counts (sets_of t)) s round.limit
 
--- no group of at most so many counties fits
+-- no group of at most `n` counties fits
 abbrev pub NoneUpTo : Problem → Round → State → ℕ → Type 0
 NoneUpTo p round s n = (g : List ℕ) → Fits round.format p s g → length g ≤ n → ⊥

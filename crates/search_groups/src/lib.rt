@@ -3,10 +3,10 @@
 //!
 //! It keeps one list, of the groups of one size, and knows that no smaller group fits. If a group is closed, those that
 //! meet it are removed. If a county is raised past the size, those that have it are removed. Dead ones are left out
-//! when the list is tested. `specs/Known` has the definitions.
+//! when the list is tested. `specs/KnownGroups` has the definitions.
 //!
 //! If no group is left, it lists the groups of the next size. They are those that fit the connected parts of the rest,
-//! each part by itself. That is why lists of parts are kept for all states. `specs/Alone` and `specs/PartLists` have
+//! each part by itself. That is why lists of parts are kept for all states. `specs/PartGroups` and `specs/PartLists` have
 //! the definitions.
 //!
 //! `weights` and `choice` are heuristics. The one gives weights of the counties of some groups, which show that few of
@@ -17,17 +17,27 @@
 #![tactic(auto)]
 
 mod choice;
+mod groups_ahead;
+mod input;
 mod kept_groups;
 mod laws;
+mod moves;
 mod part_lists;
+mod position;
 mod rounds;
 mod sets;
 mod size_groups;
+mod stuck_counties;
 mod weights;
 
 pub use choice::county_of_choice;
+pub use groups_ahead::{larger_groups, next_groups};
+pub use input::SearchInput;
 pub use kept_groups::{groups_apart, groups_having, groups_lacking, live_groups};
 pub use laws::{known_serves, parts_serve};
+pub use moves::{closed_position, first_position, groups_to_take, raised_position, without_dead};
 pub use part_lists::PartLists;
+pub use position::{Larger, Position};
 pub use rounds::weigh;
 pub use size_groups::groups_of_size;
+pub use stuck_counties::stuck_county;

@@ -8,13 +8,13 @@ use Rattle.grouping_laws.proofs.Places.{place_at}
 use Rattle.grouping_laws.proofs.PlaceCodes.{mapped_has, has_mapped}
 use Rattle.certificate_laws.proofs.Kept.{head_before, tail_pairs, cons_pairs, pairs_append}
 
--- the subsets of so many codes, by places
+-- the subsets with a given number of codes, by places
 abbrev pub of_size : ℕ → List ℕ → List (List ℕ)
 of_size zero xs = [] ∷ []
 of_size (suc k) [] = []
 of_size (suc k) (x ∷ xs) = map (λ g. x ∷ g) (of_size k xs) ++ of_size (suc k) xs
 
--- those of at most so many
+-- the subsets with at most a given number of codes
 abbrev pub up_to : ℕ → List ℕ → List (List ℕ)
 up_to zero xs = of_size zero xs
 up_to (suc k) xs = up_to k xs ++ of_size (suc k) xs

@@ -97,7 +97,7 @@ pub record IsBranching {C : Type 0} (test : C → ℕ → Bool) (g : OpeningInpu
 abbrev pub IsBelowLine : Problem → Round → ℕ → Type 0
 IsBelowLine p round share = (m : ℕ) → AreSoMany round.order (IsSmallSet p round) m → share < 3 * (m + 1)
 
--- why the round isn't opened at a state, where so many pieces stand before it; and why not where each of these groups
+-- why the round isn't opened at a state, where `first` pieces stand before it; and why not where each of these groups
 -- is closed
 abbrev pub IsHalted : Problem → Round → ℕ → ℕ → State → ℕ → OpeningStop → Type 0
 IsHalted p round share depth s first stop.TooManyPieces = OpensWithMore p round depth s first

@@ -1,4 +1,4 @@
--- Which places a connected set reaches by so many moves through free places. A connected set that has all of it, and at most as many free places
+-- Which places a connected set reaches by a number of moves through free places. A connected set that has all of it, and at most as many free places
 -- more, has no other free place: while it has a place farther off, each move meets one of its places more.
 use Rattle.std.proofs.Common.{◌≡◌, ℕ, ◌+◌, ◌≤◌, ◌==◌, ◌<◌, Bool, true, false, ◌||◌, List, [], ◌∷◌, length, refl, sym, ap, ◌∙◌, subst, arith, inl, inr}
 use Rattle.std.specs.Prelude.{◌⊎◌, Option, Some, None, not}
@@ -93,7 +93,7 @@ further p g connected t more wider a there in_t move = go (all_or_one t g)
         inr (passing_more t more g wider b.1 b.3 b.5 (move b.0 b.1 b.4 b.3 b.5 b.6))
 
 -- so far it has come: the places that are reached are free, and each free place is reached that is adjacent to the set or to a place that is
--- reached and off the edge; a set that grows has no other place, or so many places more than the set among those that are reached
+-- reached and off the edge; a set that grows has no other place, or `moves` places more than the set among those that are reached
 pub record IsReached (p : Problem) (n limit : ℕ) (set free reach edge : ℕ → Bool) (moves : ℕ) : Type 0 where
   pub reach_free : (x : ℕ) → reach x ≡ true → free x ≡ true
   pub edge_free : (x : ℕ) → edge x ≡ true → free x ≡ true

@@ -43,7 +43,7 @@ rises_filtered q (r ∷ rows) h = go (q r) (rises_filtered q rows h.1)
     go true k = (λ x i. h.0 x (has_filtered q rows x i), k)
     go false k = k
 
--- so many and one more than them from a list, where an element has no more people than any of the list
+-- the first `k` of a list and the first `k` + 1, where an element has no more people than any of the list
 one_more : (m k : ℕ) (rows : List (ℕ × ℕ)) → ((x : ℕ × ℕ) → Has rows x → m ≤ x.0) → suc k ≤ length rows → m + sum_by (λ (r : ℕ × ℕ). r.0) (take k rows) ≤ sum_by (λ (r : ℕ × ℕ). r.0) (take (suc k) rows)
 one_more m k [] h l = absurd (omega (arith, l))
 one_more m zero (r ∷ rows) h l = omega (arith, h r (inl refl))
@@ -57,7 +57,7 @@ shorter q (x ∷ xs) = go (q x) (shorter q xs)
     go true l = omega (arith, l)
     go false l = omega (arith, l)
 
--- the first so many of a list that rises have no more people than others of it, if these are at least so many
+-- the first `k` of a list that rises have no more people than others of it, if these are at least `k`
 pub first_fewest : (q : ℕ × ℕ → Bool) (k : ℕ) (rows : List (ℕ × ℕ)) → Rises rows → k ≤ length (filter q rows) → sum_by (λ (r : ℕ × ℕ). r.0) (take k rows) ≤ sum_by (λ (r : ℕ × ℕ). r.0) (filter q rows)
 first_fewest q zero rows h l = omega arith
 first_fewest q (suc k) [] h l = omega arith
@@ -147,11 +147,11 @@ module _ (p : Problem) (n : ℕ) (region : ℕ → Bool) (rows : List (ℕ × �
   count_total t inside below = sym (total_ones (filter (λ (r : ℕ × ℕ). t r.1) rows)) ∙ (rows_total (λ x. 1) t inside below ∙ total_ones (places_of n t))
 
   module _ (reach : ℕ → Bool) (inside : (x : ℕ) → reach x ≡ true → region x ≡ true) (below : (x : ℕ) → reach x ≡ true → x < n) where
-    -- the people of the first so many rows in reach
+    -- the people of the first `k` rows in reach
     abbrev pub first : ℕ → ℕ
     first k = sum_by (λ (r : ℕ × ℕ). r.0) (take k (filter (λ (r : ℕ × ℕ). reach r.1) rows))
 
-    -- at least so many places in reach have no fewer people
+    -- at least `k` places in reach have no fewer people
     pub least_joins : (joins : ℕ → Bool) → ((x : ℕ) → joins x ≡ true → reach x ≡ true) → (k : ℕ) → k ≤ length (places_of n joins) → first k ≤ people_of p (places_of n joins)
     least_joins joins within k some = omega (arith, least, people_total joins (λ x e. inside x (within x e)) (λ x e. below x (within x e)), ap (sum_by (λ (r : ℕ × ℕ). r.0)) same)
       where
@@ -168,7 +168,7 @@ module _ (p : Problem) (n : ℕ) (region : ℕ → Bool) (rows : List (ℕ × �
     pub first_all : (k : ℕ) → first k ≤ people_of p (places_of n reach)
     first_all k = omega (arith, people_total reach inside below, taken_fewer (filter (λ (r : ℕ × ℕ). reach r.1) rows) k)
 
-    -- at most so many places in reach have no more people than what the others leave
+    -- at most `more` places in reach have no more people than what the others leave
     pub most_joins : (joins : ℕ → Bool) → ((x : ℕ) → joins x ≡ true → reach x ≡ true) → (more : ℕ) → length (places_of n joins) ≤ more
         → people_of p (places_of n joins) ≤ people_of p (places_of n reach) - first (length (places_of n reach) - more)
     most_joins joins within more few = omega (arith, split p.people, fewest)

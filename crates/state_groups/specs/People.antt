@@ -15,7 +15,7 @@ pub record AreByPeople (p : Problem) (n : ℕ) (region : ℕ → Bool) (places :
   pub rising : IsNonDecreasingBy (λ (r : ℕ × ℕ). r.0) places
   pub few : length places ≤ 65536
 
--- some window of the list has so many people
+-- `people` people lie in some window of the list
 abbrev pub HasSeatWindow : List (ℕ × ℕ) → ℕ → Type 0
 HasSeatWindow windows people = (w : ℕ × ℕ) × Contains windows w × (w.0 ≤ people) × (people ≤ w.1)
 

@@ -18,7 +18,7 @@ abbrev pub AllowanceIsSpelled : AllowanceHeld → Type 0
 AllowanceIsSpelled Room = ⊤
 AllowanceIsSpelled (Weigh quota weights) = (1 ≤ quota) × (ascend weights ≡ true)
 
--- the line is fair, and what it allows is fewer groups than the target has, or as many, where so many counties are used
+-- the line is fair, and what it allows is fewer groups than the target has, or as many, where `used` counties are used
 -- up from now on
 abbrev pub IsAllowed : Format → Problem → State → (ℕ → ℕ) → ℕ → ℕ → Allowance → Allowed → Type 0
 IsAllowed format p s wanted i used line Loss = IsFair format p s i line × IsLoss p s wanted i used line

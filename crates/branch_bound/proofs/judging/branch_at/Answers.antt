@@ -1,6 +1,6 @@
 use Rattle.std.proofs.Common.{subst, All, Contains, ◌≡◌, ℕ, false}
 use Rattle.branch_bound.specs.Searching.{search_state}
-use Rattle.branch_bound.proofs.NextMoves.{no_choice, choice_at}
+use Rattle.search_groups.proofs.NextMoves.{no_choice, choice_at}
 use Rattle.branch_bound.proofs.judging.branch_at.Goals as goal
 
 pub unreachable-requires : goal.unreachable-requires

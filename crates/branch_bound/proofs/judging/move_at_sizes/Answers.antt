@@ -4,7 +4,7 @@ use Rattle.certificate_laws.specs.Groups.{AreGroupsOf}
 use Rattle.state_groups.specs.PlacedValues.{codes_of_sets}
 use Rattle.branch_bound.specs.Searching.{search_problem, search_round, search_state, IsEnd, IsBetter, IsNextSize, IsNextMove}
 use Rattle.branch_bound.proofs.Searches.{own}
-use Rattle.branch_bound.proofs.NextMoves.{sized_at}
+use Rattle.search_groups.proofs.NextMoves.{sized_at}
 use Rattle.branch_bound.proofs.judging.move_at_sizes.Goals as goal
 
 pub next_size-requires-clause-no_stuck : goal.next_size-requires-clause-no_stuck

@@ -1,7 +1,7 @@
 use Rattle.std.proofs.Common.{arith}
 use Rattle.branch_bound.specs.Searching.{search_problem, search_round, search_state}
 use Rattle.branch_bound.proofs.LeafEnds.{leaf_complete}
-use Rattle.branch_bound.proofs.NextMoves.{none_at}
+use Rattle.search_groups.proofs.NextMoves.{none_at}
 use Rattle.branch_bound.proofs.Joining.{sorted_as}
 use Rattle.branch_bound.proofs.judging.next_size.Goals as goal
 

@@ -1,5 +1,5 @@
 use Rattle.branch_bound.specs.Searching.{search_state}
-use Rattle.branch_bound.proofs.NextMoves.{some_size}
+use Rattle.search_groups.proofs.NextMoves.{some_size}
 use Rattle.branch_bound.proofs.judging.weighed.Goals as goal
 
 pub weighed_leaf-requires-clause-size : goal.weighed_leaf-requires-clause-size

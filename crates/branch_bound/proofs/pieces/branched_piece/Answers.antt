@@ -1,6 +1,6 @@
 use Rattle.std.proofs.Common.{subst, sym}
 use Rattle.branch_bound.specs.Searching.{search_problem, search_round, search_state}
-use Rattle.branch_bound.proofs.Positions.{choice_can, choice_some}
+use Rattle.search_groups.proofs.Positions.{choice_can, choice_some}
 use Rattle.branch_bound.proofs.pieces.branched_piece.Goals as goal
 use Rattle.certificate_laws.specs.Proving.{CanBranch}
 

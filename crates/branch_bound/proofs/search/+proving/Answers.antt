@@ -10,7 +10,7 @@ use Rattle.certificate_laws.specs.Proving.{Proves}
 use Rattle.list_laws.specs.Completeness.{IsComplete}
 use Rattle.branch_bound.specs.Searching.{search_problem, search_round, search_state, IsOutcome, IsTakenGroup, IsNextMove}
 use Rattle.branch_bound.proofs.Joining.{wide_names, wide_fits}
-use Rattle.branch_bound.proofs.Positions.{choice_can}
+use Rattle.search_groups.proofs.Positions.{choice_can}
 use Rattle.branch_bound.proofs.Searches.{own, better_as, listed, group_there, takes_more, leaf_end, branched, branched_complete, branched_lines, raised_agrees, choice_size}
 use Rattle.branch_bound.proofs.search.+proving.Goals as goal
 

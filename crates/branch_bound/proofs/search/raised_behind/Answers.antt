@@ -3,7 +3,7 @@ use Rattle.certificate_data.specs.declared.tree.Branch.{roll-Branch}
 use Rattle.county_problem.specs.OrderedValue.{code_at}
 use Rattle.certificate_laws.specs.State.{raise}
 use Rattle.branch_bound.specs.Searching.{search_problem, search_round, search_state, IsPositionAt, AreTakesAt}
-use Rattle.branch_bound.proofs.Positions.{choice_can}
+use Rattle.search_groups.proofs.Positions.{choice_can}
 use Rattle.branch_bound.proofs.search.raised_behind.Goals as goal
 
 pub raised_position-requires-clause-can : goal.raised_position-requires-clause-can

@@ -24,6 +24,8 @@ judging-preserved g c = record {
       let n = c.in-Ok-Even.ensures.fed all sees in
       let i = c.judging.invariant.fed all n.0 in
       (i.0, fed_twice _ _ _ i.1 n.1);
+  known = c.in-Ok-Even.ensures.known;
+  lists = c.in-Ok-Even.ensures.lists;
   used = subst IsSmall c.in-Ok-Even.field-0-is c.in-Ok-Even.ensures.small;
   left = λ all sees lines rest target spelled count items is.
       let n = c.in-Ok-Even.ensures.fed all sees in

@@ -1,4 +1,4 @@
-use Rattle.std.proofs.Common.{◌∷◌, All, length, Ok, Err, refl, sym, ◌∙◌, ap, subst, arith}
+use Rattle.std.proofs.Common.{ℕ, ◌≡◌, ◌∷◌, List, All, Some, length, Ok, Err, refl, sym, ◌∙◌, ap, subst, arith}
 use Rattle.county_problem.specs.ProblemValue.{problem_of}
 use Rattle.certificate_data.specs.RoundValue.{round_of}
 use Rattle.certificate_lines.specs.Items.{taken}
@@ -16,6 +16,10 @@ use Rattle.certificate_checker.proofs.Reaching.{fed_here, fed_twice, fed_through
 use Rattle.certificate_checker.proofs.Streams.{kept_course}
 use Rattle.certificate_lines.specs.ItemsLeft.{course_by}
 use Rattle.certificate_checker.proofs.Takes.{TakesLeft, takes_unread, take_stops, take_stop_fed, take_on, take_off, mark_on, mark_stops, sets_behind, none_left, some_left}
+use Rattle.certificate_laws.specs.Groups.{IsGroupAt}
+use Rattle.search_groups.specs.declared.position.Position.{Position}
+use Rattle.certificate_checker.specs.Knowing.{IsKnownAt}
+use Rattle.certificate_checker.proofs.KnownPlaces.{all_behind, all_sized, known_below}
 use Rattle.certificate_checker.proofs.tree.+tree_judging.Goals as goal
 
 pub judge_takes-returns-in-Err-judge_tree-clause-judged : goal.judge_takes-returns-in-Err-judge_tree-clause-judged
@@ -31,6 +35,9 @@ judge_takes-returns-in-Err-taken_state-clause-judged g t c all sees takes rest m
     let i = c.taking.invariant.fed all n.0 in
     take_stops c.args.input.now.round.now.format (problem_of c.args.input.now.graph.now.ordered.now.problem) (round_of c.args.input.now.round.now) (state_at c.args.input.now.graph.now.ordered.now.order g.C.CountySet.test c.args.state.now) c.in-Ok-Some.codes (codes_of_sets c.args.input.now.graph.now.ordered.now.order g.C.CountySet.test c.taking.left.now) rest more (fed_by (stream_of g.S.ItemSource.left g.S.ItemSource.given c.args.feed.now c.args.from.now) all) (fed_by (stream_of g.S.ItemSource.left g.S.ItemSource.given c.taking.feed c.taking.from) all) (fed_by (stream_of g.S.ItemSource.left g.S.ItemSource.given c.next_take.new.feed c.next_take.new.from) all) _ c.in-Err-taken_state.stop (c.taking.invariant.left all n.0 takes rest more readable items) (subst (λ o. TookLine (fed_by (stream_of g.S.ItemSource.left g.S.ItemSource.given c.taking.feed c.taking.from) all) (Ok (taken o)) (fed_by (stream_of g.S.ItemSource.left g.S.ItemSource.given c.next_take.new.feed c.next_take.new.from) all)) c.in-Ok-Some.field-0-is (c.in-Ok-Some.ensures.took all sees)) (subst (λ z. IsTakeStop (codes_of_sets c.args.input.now.graph.now.ordered.now.order g.C.CountySet.test c.taking.left.now) z c.next_take.new.feed.line c.in-Err-taken_state.stop) c.as_slice.ensures c.in-Err-taken_state.ensures.taken)
 
+pub judge_takes-closed_known-requires-clause-below : goal.judge_takes-closed_known-requires-clause-below
+judge_takes-closed_known-requires-clause-below g t c k d h x holds = c.requires.placed.rest x ((c.taking.invariant.groups k d h).inside x holds)
+
 pub judge_takes-taking-preserved : goal.judge_takes-taking-preserved
 judge_takes-taking-preserved g t c =
     let behind_these = (sets_behind _ c.args.input.now.graph.now.ordered.now.order g.C.CountySet.test c.taking.left.now c.groups_behind-left.result.now c.in-Ok-Some.codes (subst (IsNextTake (codes_of_sets c.args.input.now.graph.now.ordered.now.order g.C.CountySet.test c.taking.left.now)) c.as_slice.ensures c.in-Ok.ensures.taken.0) c.groups_behind-left.ensures (IsClosable g.C.CountySet.test c.args.state.now) c.taking.invariant.groups) in
@@ -42,6 +49,10 @@ judge_takes-taking-preserved g t c =
           let i = c.taking.invariant.fed all n.0 in
           (i.0, fed_twice _ _ _ (fed_twice _ _ _ i.1 n.1) t.1);
       groups = behind_these.0;
+      fits = λ at e.
+          let Q : List ℕ → Type 0 = λ k. (x : ℕ) × IsGroupAt (problem_of c.args.input.now.graph.now.ordered.now.problem) (round_of c.args.input.now.round.now) (state_at c.args.input.now.graph.now.ordered.now.order g.C.CountySet.test c.args.state.now) x at.size k in
+          subst (All Q) behind_these.1 (all_behind Q (codes_of_sets c.args.input.now.graph.now.ordered.now.order g.C.CountySet.test c.taking.left.now) (c.taking.invariant.fits at e));
+      lists = c.in-Ok-judge_tree.ensures.lists;
       left = λ all sees takes rest more readable items.
           let t = c.in-Ok-judge_tree.ensures.fed all sees in
           let n = c.in-Ok-Some.ensures.fed all t.0 in
@@ -90,6 +101,8 @@ judge_tree-branching-preserved g t c = record {
       let i = c.branching.invariant.fed all n.0 in
       (i.0, fed_twice _ _ _ (fed_twice _ _ _ (fed_twice _ _ _ i.1 n.1) (kept_course g.S.ItemSource.left (g.S.ItemSource.given c.next_opening.new.from) all c.next_opening.new.feed c.listed_groups.new.feed c.in-Ok-listed_groups.ensures.same Fed c.in-Ok-listed_groups.ensures.fed)) t.1);
   placed = c.raise_place.ensures.placed;
+  known = subst (λ z. IsKnownAt g.C.CountySet.test c.args.input.now z c.in-Ok-raised_known.raised) (sym c.raise_place.ensures.value) c.in-Ok-raised_known.ensures;
+  lists = c.in-Ok-judge_takes.ensures.lists;
   left = λ all sees tree rest more readable items.
       let t = c.in-Ok-judge_takes.ensures.fed all sees in
       let n = c.in-Ok.ensures.fed all t.0 in
@@ -140,6 +153,8 @@ judge_takes-taking-init g t c = record {
   counts = counts_here c.args.feed.now;
   fed = λ all sees. (sees, fed_here _);
   groups = c.requires.groups;
+  fits = c.requires.fits;
+  lists = c.requires.lists;
   left = λ all sees takes rest more readable items. (takes, readable, items, reaches_here _ _ _ _);
 }
 
@@ -147,9 +162,14 @@ pub judge_takes-judge_tree-requires : goal.judge_takes-judge_tree-requires
 judge_takes-judge_tree-requires g t c κs within =
     let i = c.taking.invariant.counts in
     let step = c.in-Ok-Some.ensures.step in
+    let order = c.args.input.now.graph.now.ordered.now.order in
+    let known = known_below _ order g.C.CountySet.test c.taking.left.now c.in-Ok-Some.codes (λ z. IsKnownAt g.C.CountySet.test c.args.input.now z c.in-Ok-closed_known.below) (state_at order g.C.CountySet.test c.args.state.now) (state_at order g.C.CountySet.test c.in-Ok.closed)
+    (subst (IsNextTake (codes_of_sets order g.C.CountySet.test c.taking.left.now)) c.as_slice.ensures c.in-Ok.ensures.taken.0)
+    (c.in-Ok.ensures.taken.1 ∙ ap (λ z. close z (state_at order g.C.CountySet.test c.args.state.now)) c.as_slice.ensures)
+    (λ group others e. rw c.in-Ok-closed_known.is at (c.closed_known.ensures group others e)) in
     let n = c.in-Ok-Some.ensures.counts in (
       omega (arith, i.0, i.1, step.0, step.1, n.0),
-      (within.0, (within.1.0, (within.1.1, (c.requires.input, (c.in-Ok.ensures.placed, omega (arith, c.requires.counted, i.1, i.2, n.1, n.2)))))),
+      (within.0, (within.1.0, (within.1.1, (c.requires.input, (c.in-Ok.ensures.placed, (known, (c.taking.invariant.lists, omega (arith, c.requires.counted, i.1, i.2, n.1, n.2)))))))),
     )
 
 pub judge_takes-taking-smaller : goal.judge_takes-taking-smaller
@@ -195,6 +215,8 @@ judge_tree-branching-init g t c = record {
   counts = counts_here c.args.feed.now;
   fed = λ all sees. (sees, fed_here _);
   placed = c.requires.placed;
+  known = c.requires.known;
+  lists = c.requires.lists;
   left = λ all sees tree rest more readable items. (tree, readable, items, reaches_here _ _ _ _);
 }
 
@@ -203,9 +225,17 @@ judge_tree-judge_takes-requires g t c κs within =
     let i = c.branching.invariant.counts in
     let step = c.in-Ok.ensures.step in
     let n = c.in-Ok.ensures.counts in
+    let order = c.args.input.now.graph.now.ordered.now.order in
+    let s = state_at order g.C.CountySet.test c.branching.state in
+    let b = c.in-Ok-listed_groups.branching in
+    let Q : List ℕ → Type 0 = λ k. IsGroupAt (problem_of c.args.input.now.graph.now.ordered.now.problem) (round_of c.args.input.now.round.now) s c.in-Branch.county b.limit k in
+    let R : Position g.row.C.Denot → List ℕ → Type 0 = λ at k. (x : ℕ) × IsGroupAt (problem_of c.args.input.now.graph.now.ordered.now.problem) (round_of c.args.input.now.round.now) s x at.size k in
+    let fits : (at : Position g.row.C.Denot) → c.listed_groups.new.known ≡ Some at → All (R at) (codes_of_sets order g.C.CountySet.test c.deref.result.now) = λ at e.
+    subst (λ z. All (R at) (codes_of_sets order g.C.CountySet.test z)) (sym c.deref.ensures.value)
+    (all_sized Q (R at) (codes_of_sets order g.C.CountySet.test b.groups.items) (λ k h. (c.in-Branch.county, subst (λ z. IsGroupAt (problem_of c.args.input.now.graph.now.ordered.now.problem) (round_of c.args.input.now.round.now) s c.in-Branch.county z k) (sym (c.in-Ok-listed_groups.ensures.sized at e)) h)) c.in-Ok-listed_groups.ensures.fits) in
     let l = c.in-Ok-listed_groups.ensures.counts in (
       omega (arith, i.0, i.1, step.0, step.1, n.0, l.0, l.1),
-      (within.0, (within.1.0, (within.1.1, (c.requires.input, (c.branching.invariant.placed, (subst (All (IsClosable g.C.CountySet.test c.branching.state)) (sym c.deref.ensures.value) c.in-Ok-listed_groups.ensures.groups, omega (arith, c.requires.counted, i.1, i.2, n.1, n.2, l.1, l.2))))))),
+      (within.0, (within.1.0, (within.1.1, (c.requires.input, (c.branching.invariant.placed, (subst (All (IsClosable g.C.CountySet.test c.branching.state)) (sym c.deref.ensures.value) c.in-Ok-listed_groups.ensures.groups, (c.in-Ok-listed_groups.ensures.known, (fits, (c.in-Ok-listed_groups.ensures.lists, omega (arith, c.requires.counted, i.1, i.2, n.1, n.2, l.1, l.2)))))))))),
     )
 
 pub judge_tree-branching-smaller : goal.judge_tree-branching-smaller
