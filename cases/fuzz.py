@@ -1707,7 +1707,7 @@ def main() -> int:
     if asked.test:
         return test()
     try:
-        with tempfile.TemporaryDirectory(prefix="fuzz-") as room:
+        with tempfile.TemporaryDirectory(prefix="fuzz-", dir=program_runs.ROOMS) as room:
             return fuzz(asked, os.path.realpath(room))
     except Exception:
         traceback.print_exc()

@@ -1,22 +1,14 @@
 -- What a search by branch and bound keeps at a state, and what it answers.
-use Rattle.std.specs.Prelude.{ℕ, ◌+◌, ◌≡◌, ◌≤◌, ◌<◌, Bool, true, List, ◌∷◌, filter, length, All, AllPairs, Contains}
-use Rattle.std.specs.Prelude.{MatchOption, ⊤}
+use Rattle.std.specs.Prelude.{ℕ, ◌+◌, ◌≡◌, ◌<◌, Bool, List, ◌∷◌, filter, length, All, AllPairs}
 use Rattle.std.specs.List.{AllByRecursion}
-use Rattle.county_codes.specs.Limits.{most_counties}
 use Rattle.county_codes.specs.declared.group.Grouping.{Grouping as GroupingHeld}
 use Rattle.grouping_laws.specs.Sets.{contains}
 use Rattle.grouping_laws.specs.Problem.{Problem}
 use Rattle.grouping_laws.specs.Grouping.{Grouping, sets_of}
 use Rattle.grouping_laws.specs.GroupsFrom.{IsBefore}
-use Rattle.county_problem.specs.ProblemValue.{problem_of}
-use Rattle.county_problem.specs.OrderedValue.{code_at}
-use Rattle.connected_sets.specs.Graphs.{IsGraph}
 use Rattle.connected_laws.specs.Listing.{AreBelow}
 use Rattle.certificate_data.specs.Round.{Round}
-use Rattle.certificate_data.specs.declared.format.Format.TheVariants.{Wide}
-use Rattle.certificate_data.specs.RoundValue.{round_of}
-use Rattle.certificate_laws.specs.State.{State, IsState, close}
-use Rattle.state_groups.specs.declared.state.State.{State as StateHeld}
+use Rattle.certificate_laws.specs.State.{State, close}
 use Rattle.certificate_laws.specs.Groups.{AreGroupsAt, AreGroupsOf}
 use Rattle.certificate_data.specs.Tree.{groups_of, take, Tree as TreeValue, Takes as TakesValue}
 use Rattle.certificate_laws.specs.Proving.{Proves, EachProves}
@@ -29,9 +21,8 @@ use Rattle.certificate_data.specs.declared.tree.Take.{Take}
 use Rattle.certificate_data.specs.TreeValue.{leaf_of, tree_of, take_onto, list_of_takes}
 use Rattle.certificate_text.specs.Trees.{items_of_takes, items_of_tree}
 use Rattle.certificate_lines.specs.declared.item.Item.TheVariants as item
-use Rattle.state_groups.specs.PlacedValues.{state_at, codes_of_sets, IsPlaced}
+use Rattle.state_groups.specs.PlacedValues.{codes_of_sets}
 use Rattle.certificate_text.specs.TreeItems.{FitsInTree, HasLines, HasTargetLines}
-use Rattle.search_groups.specs.KnownGroups.{AreCandidates, IsKnown}
 use Rattle.search_ends.specs.GivenLeaf.{IsGivenLeaf}
 use Rattle.search_groups.specs.declared.input.SearchInput.{SearchInput}
 pub use Rattle.search_groups.specs.Positions.{search_problem, search_round, search_state, IsSearchInput, IsLargerAt, IsPositionAt, IsChoice}

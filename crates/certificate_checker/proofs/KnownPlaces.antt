@@ -1,5 +1,5 @@
 -- What is known at a state, and what a line without weights comes to where no group fits.
-use Rattle.std.proofs.Common.{◌≡◌, ℕ, suc, ◌+◌, ◌*◌, ◌/◌, ◌≤◌, ◌<◌, ◌==◌, Bool, true, min, List, [], ◌∷◌, length, map, All, refl, sym, ap, ◌∙◌, subst, arith, Result, Ok, Err, MatchResult, IfOk}
+use Rattle.std.proofs.Common.{◌≡◌, ℕ, suc, ◌+◌, ◌*◌, ◌/◌, ◌≤◌, ◌<◌, ◌==◌, Bool, true, min, List, [], ◌∷◌, length, All, refl, sym, ap, ◌∙◌, subst, arith, Result, Ok, Err, MatchResult, IfOk}
 use Rattle.std.proofs.lemmas.Bool.{eqb-true}
 use Rattle.std.proofs.Math.Nat.{zero-div}
 use Rattle.county_codes.specs.Limits.{most_counties}
@@ -7,7 +7,7 @@ use Rattle.grouping_laws.specs.Sets.{sum_by}
 use Rattle.grouping_laws.specs.Problem.{Problem}
 use Rattle.grouping_laws.specs.Grouping.{counts}
 use Rattle.grouping_laws.specs.GroupsFrom.{IsOrder}
-use Rattle.grouping_laws.proofs.Elements.{Has, has_all, all_from_has, contains_from_has}
+use Rattle.grouping_laws.proofs.Elements.{has_all, all_from_has, contains_from_has}
 use Rattle.grouping_laws.proofs.PlaceCodes.{mapped_has}
 use Rattle.connected_laws.specs.Listing.{AreBelow}
 use Rattle.certificate_data.specs.Round.{Round}

@@ -1,4 +1,4 @@
-use Rattle.std.proofs.Common.{◌≡◌, List, [], length, map, sym, ap, ◌∙◌, arith}
+use Rattle.std.proofs.Common.{length, map, sym, ap, ◌∙◌, arith}
 use Rattle.county_problem.specs.ProblemValue.{problem_of}
 use Rattle.certificate_data.specs.Tree.{weigh}
 use Rattle.certificate_data.specs.TreeValue.{allowance_of, weight_of}
