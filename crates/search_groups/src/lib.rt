@@ -9,6 +9,10 @@
 //! each part by itself. That is why lists of parts are kept for all states. `specs/PartGroups` and `specs/PartLists` have
 //! the definitions.
 //!
+//! A `Position` is a state with what is known there (`specs/Positions`). `moves` gives the positions where a group is
+//! closed or a county is raised, and `groups_ahead` the groups of one county more. The solver goes from position to
+//! position, and so does the checker of certificates.
+//!
 //! `weights` and `choice` are heuristics. The one gives weights of the counties of some groups, which show that few of
 //! the groups are disjoint. The other gives the county to branch at. If each group weighs a quota or more, no more
 //! groups are disjoint than the quota goes into the weight of all counties. Any weights would be right, since each
