@@ -24,7 +24,7 @@ import { cellPoint, clearanceOf } from "./sheet.mjs";
 
 const HIGH = 17;
 const NAME_SIZE = 10.5;
-// Of a large group, only so many places are tried.
+// The most places of a group that are tried for its badge.
 const MOST_TRIED = 1500;
 
 /**
