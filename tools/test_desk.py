@@ -2,7 +2,7 @@
 """Opens the desk, docs/desk.html, in a headless Chromium, and compares it with the program.
 
 usage: python3 tools/test_desk.py [--page FILE] [--program FILE] [--wasm FILE] [--pictures FOLDER]
-                                  [--only WORD]
+                                  [--only WORD] [--jobs N]
 
 --page FILE        the page; without it docs/desk.html. If it isn't there, --program and --wasm
                    make one
@@ -10,18 +10,20 @@ usage: python3 tools/test_desk.py [--page FILE] [--program FILE] [--wasm FILE] [
 --wasm FILE        the same for browsers; without it dist/countygroups.wasm
 --pictures FOLDER  leaves pictures of the page there: wide, narrow, dark and printed, and after runs
 --only WORD        the tests whose names have the word
+--jobs N           how many classes of tests run at once, each with its own browser; without it 2
 
 If a Chromium or a Firefox isn't installed, its tests don't run, and a line says so. Statuses: 0 all
 is as wanted, 1 something isn't, 2 these words can't be run.
 """
 import argparse
+import contextlib
 import sys
 from pathlib import Path
 
 TESTS = Path(__file__).resolve().parent.parent / "web" / "desk" / "test"
 sys.path.insert(0, str(TESTS))
 
-from desk_setting import ROOM, SETTING  # noqa: E402
+from desk_setting import ROOM, SETTING, NotThere, page  # noqa: E402
 from run_tests import run_tests  # noqa: E402
 
 
@@ -33,10 +35,11 @@ def read_words() -> str:
     parser.add_argument("--wasm", type=Path, default=SETTING.wasm)
     parser.add_argument("--pictures", type=Path)
     parser.add_argument("--only", default="")
+    parser.add_argument("--jobs", type=int, default=SETTING.jobs)
     asked = parser.parse_args()
     SETTING.page, SETTING.wasm = asked.page.resolve(), asked.wasm.resolve()
     SETTING.program = asked.program and asked.program.resolve()
-    SETTING.pictures = asked.pictures
+    SETTING.pictures, SETTING.jobs = asked.pictures, asked.jobs
     return str(asked.only)
 
 
@@ -45,9 +48,13 @@ def main() -> int:
     if {"-h", "--help"} & {*sys.argv[1:]}:
         print(__doc__, end="")
         return 0
-    result = run_tests(TESTS, read_words())
+    word = read_words()
+    with contextlib.suppress(NotThere):
+        # (made once for all classes; if that can't be, the tests say so)
+        page()
+    ran = run_tests(TESTS, word, SETTING.jobs)
     ROOM.cleanup()
-    return 0 if result.wasSuccessful() else 1
+    return 1 if ran.failed else 0
 
 
 if __name__ == "__main__":

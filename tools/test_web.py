@@ -9,6 +9,7 @@ usage: python3 tools/test_web.py [--wasm FILE] [--refusing FILE] [--native FILE]
 --native FILE    the program that is built for this machine, whose bytes are compared
 --all            all cases, and files of full size, where else a sample by the seed is run
 --only WORD      the tests whose names have the word
+--jobs N         how many classes of tests run at once, and how many cases of each; without it 2
 
 It needs Node 20 or later. What else is missing is said, and the tests that need it are passed over.
 Statuses: 0 all is as wanted, 1 something isn't, 2 these words can't be run.
@@ -47,8 +48,8 @@ def main() -> int:
     if {"-h", "--help"} & {*sys.argv[1:]}:
         print(__doc__, end="")
         return 0
-    result = run_tests(TESTS, read_words())
-    return 0 if result.wasSuccessful() and result.testsRun else 1
+    ran = run_tests(TESTS, read_words(), SETTING.jobs)
+    return 0 if ran.count and not ran.failed else 1
 
 
 if __name__ == "__main__":

@@ -70,18 +70,26 @@ def run_cases(program: Path, cases: list[str]) -> "subprocess.CompletedProcess[s
     return subprocess.run(words, capture_output=True, text=True, check=False)
 
 
-class Cases(unittest.TestCase):
-    """Cases byte for byte, standard error among them."""
+class InRoom(unittest.TestCase):
+    """Runs of cases in a folder. Each class of these is run beside the others."""
 
     def setUp(self) -> None:
         room = tempfile.TemporaryDirectory()
         self.addCleanup(room.cleanup)
         self.room = Path(room.name)
 
+
+class Cases(InRoom):
+    """Cases byte for byte, standard error among them."""
+
     def test_cases(self) -> None:
         done = run_cases(make_launcher(self.room), some_cases(SAMPLE, "cases"))
         print(done.stdout[-2_000:], flush=True)
         self.assertEqual(done.returncode, 0, done.stderr)
+
+
+class Beside(InRoom):
+    """Cases by the launcher and by the program of this machine."""
 
     def test_all_that_is_written_is_that_of_the_machine(self) -> None:
         program = make_launcher(self.room)
@@ -99,6 +107,10 @@ class Cases(unittest.TestCase):
                 made = run(str(program), words, folder, given)
                 left.append((made.status, made.wrote, made.told))
         return [*left, files_below(folder)]
+
+
+class Planted(InRoom):
+    """A host for Node in which a fault is planted."""
 
     def planted(self, name: str, old: str, new: str) -> Path:
         """Returns a launcher over a copy of the host's calls in which a text is replaced."""

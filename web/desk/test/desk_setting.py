@@ -101,6 +101,7 @@ class Setting:
     program: Path | None = None
     wasm: Path = TOP / "dist" / "countygroups.wasm"
     pictures: Path | None = None
+    jobs: int = 2
 
 
 SETTING = Setting()
