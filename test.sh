@@ -68,13 +68,16 @@ cd "$(dirname "$0")"
 
 processors=$(nproc)
 jobs=$((processors < 4 ? processors : 4))
+# (of a part that runs beside others)
+few=$(((jobs + 1) / 2))
 room=$(mktemp -d)
 found=$(mktemp -d)
 declare -A beside=()
 finish() {
     local one
     for one in "${beside[@]}"; do
-        kill -- "-$one" 2>/dev/null || true
+        # (one that was only just started has no session yet)
+        kill -- "-$one" 2>/dev/null || kill "$one" 2>/dev/null || true
     done
     rm -rf "$room"
     rmdir "$found" 2>/dev/null || echo "test.sh: what was found is kept in $found" >&2
@@ -109,7 +112,7 @@ compare_dist() { # [OPTION ..]
 # Tests the WebAssembly build and what calls it.
 test_web() { # [OPTION ..]
     heading "the program as WebAssembly"
-    python3 tools/test_web.py --jobs "$jobs" "$@"
+    python3 tools/test_web.py --jobs "$few" "$@"
 }
 
 # Tests the desk: docs/desk.html, or a desk that is made of a build.
@@ -122,7 +125,14 @@ test_desk() { # PROGRAM [WASM]
         fi
         words+=(--wasm "$2" --page "$room/desk.html")
     fi
-    python3 tools/test_desk.py "${words[@]}"
+    python3 tools/test_desk.py --jobs "$few" "${words[@]}"
+}
+
+# Tests the packages for Python and R.
+test_packages() { # PROGRAM
+    heading "the packages for Python and R"
+    COUNTYGROUPS=$(realpath "$1") python/test.sh
+    COUNTYGROUPS=$(realpath "$1") r/test.sh
 }
 
 # Tests programs that are built.
@@ -143,38 +153,44 @@ test_programs() { # PROGRAM ..
     python3 tools/test_completions.py --program "$1"
     heading "the program at a terminal"
     python3 tools/test_terminal.py --program "$1"
-    heading "the packages for Python and R"
-    COUNTYGROUPS=$(realpath "$1") python/test.sh
-    COUNTYGROUPS=$(realpath "$1") r/test.sh
 }
 
-# Runs a command beside the parts that follow. `end_beside` waits for it, and prints what it said.
-start_beside() { # NAME HEADING COMMAND ..
-    local name=$1
-    heading "$2" >"$room/$name"
-    shift 2
-    setsid "$@" >>"$room/$name" 2>&1 &
-    beside[$name]=$!
+# Changes cases at random for a time.
+change_cases() { # SECONDS SEED PROGRAM
+    heading "cases changed at random, $1 seconds with seed $2"
+    python3 cases/fuzz.py --seconds "$1" --seed "$2" --program "$3" --keep "$found"
 }
 
-end_beside() { # NAME
-    local status=0
-    wait "${beside[$1]}" || status=$?
-    unset "beside[$1]"
-    cat "$room/$1"
-    return "$status"
+# Tries every edit. The proofs of the crates are kept by then.
+try_edits() {
+    heading "every edit is tried"
+    tools/prove.sh "$room/edited" "$room/edited.log" --all-edits
 }
 
-# Changes cases at random for a time, beside what follows.
-start_changes() { # SECONDS SEED PROGRAM
-    start_beside changes "cases changed at random, $1 seconds with seed $2" \
-        python3 cases/fuzz.py --seconds "$1" --seed "$2" --program "$3" --keep "$found"
+# Runs a function beside the parts that follow, in a session of its own. `end_beside` waits for it.
+start_beside() { # NAME FUNCTION ..
+    local text
+    text=$(declare -f && declare -p room found few)
+    setsid bash -euo pipefail -c "$text"$'\n"$@"' "$0" "${@:2}" </dev/null >"$room/$1" 2>&1 &
+    beside[$1]=$!
 }
 
-# Tries every edit, beside what follows. The proofs of the crates are kept by then.
-start_edits() {
-    start_beside edits "every edit is tried" \
-        tools/prove.sh "$room/edited" "$room/edited.log" --all-edits
+# Waits for the parts beside, one after the other, and prints what each said. Returns the status of
+# the first that fails, and then waits for no further one.
+end_beside() { # NAME ..
+    local name status=0
+    for name in "$@"; do
+        wait "${beside[$name]}" || status=$?
+        unset "beside[$name]"
+        cat "$room/$name"
+        [ "$status" = 0 ] || return "$status"
+    done
+}
+
+# Starts the tests of the WebAssembly build and of the desk, which mostly wait.
+start_web() { # PROGRAM [WASM [OPTION ..]]
+    start_beside web test_web --native "$1" ${2:+--wasm "$2"} "${@:3}"
+    start_beside desk test_desk "$1" ${2:+"$2"}
 }
 
 # Copies each program that was proved and built, and what it wrote, to its crate here.
@@ -213,7 +229,7 @@ prove_and_test() {
     fi
     heading "every crate is proved"
     tools/prove.sh "$room/proved" "$room/log" "${edits[@]}" --module "$room/module.bc"
-    [ "$is_all" = no ] || start_edits
+    [ "$is_all" = no ] || start_beside edits try_edits
     take_programs "$room/proved"
     wasm=$room/countygroups.wasm
     refusing=$room/refusing.wasm
@@ -223,10 +239,11 @@ prove_and_test() {
     if [ -x "$built.by-rattle" ]; then
         programs+=("$built.by-rattle")
     fi
-    start_changes "$seconds" "$seed" "$built"
+    start_beside changes change_cases "$seconds" "$seed" "$built"
+    start_beside packages test_packages "$built"
+    start_web "$built" "$wasm" --refusing "$refusing" "${all[@]}"
     test_programs "${programs[@]}"
-    test_web --native "$built" --wasm "$wasm" --refusing "$refusing" "${all[@]}"
-    test_desk "$built" "$wasm"
+    end_beside packages web desk
     if [ "$is_all" = yes ]; then
         sweep
         heading "the real files, with the first calls refused"
@@ -244,16 +261,15 @@ if [ "$is_proved" = yes ]; then
 else
     [ -x "$program" ] || refuse "there is no program $program; --program names another build"
     compare_dist
-    test_scripts
-    start_changes 60 1 "$program"
-    test_programs "$program"
-    if [ "$is_given" = no ]; then
-        test_web --native "$program"
-        test_desk "$program"
-    elif [ -n "$wasm" ]; then
-        test_web --native "$program" --wasm "$wasm" ${refusing:+--refusing "$refusing"}
-        test_desk "$program" "$wasm"
+    start_beside changes change_cases 60 1 "$program"
+    start_beside packages test_packages "$program"
+    parts=(packages)
+    if [ "$is_given" = no ] || [ -n "$wasm" ]; then
+        start_web "$program" "$wasm" ${refusing:+--refusing "$refusing"}
+        parts+=(web desk)
     fi
-    end_beside changes
+    test_scripts
+    test_programs "$program"
+    end_beside "${parts[@]}" changes
 fi
 heading "all passed"
