@@ -76,8 +76,8 @@ declare -A beside=()
 finish() {
     local one
     for one in "${beside[@]}"; do
-        # (one that was only just started has no session yet)
-        kill -- "-$one" 2>/dev/null || kill "$one" 2>/dev/null || true
+        # (one that has only just started is in no session of its own yet)
+        while kill -0 "$one" 2>/dev/null && ! kill -- "-$one" 2>/dev/null; do sleep 0.05; done
     done
     rm -rf "$room"
     rmdir "$found" 2>/dev/null || echo "test.sh: what was found is kept in $found" >&2
@@ -169,9 +169,9 @@ try_edits() {
 
 # Runs a function beside the parts that follow, in a session of its own. `end_beside` waits for it.
 start_beside() { # NAME FUNCTION ..
-    local text
-    text=$(declare -f && declare -p room found few)
-    setsid bash -euo pipefail -c "$text"$'\n"$@"' "$0" "${@:2}" </dev/null >"$room/$1" 2>&1 &
+    (declare -f && declare -p room found few) >"$room/$1.functions"
+    setsid bash -euo pipefail -c 'source "$1"; "${@:2}"' "$0" "$room/$1.functions" "${@:2}" \
+        </dev/null >"$room/$1" 2>&1 &
     beside[$1]=$!
 }
 
