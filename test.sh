@@ -125,7 +125,7 @@ test_desk() { # PROGRAM [WASM]
         fi
         words+=(--wasm "$2" --page "$room/desk.html")
     fi
-    python3 tools/test_desk.py --jobs "$few" "${words[@]}"
+    python3 tools/test_desk.py --jobs "$jobs" "${words[@]}"
 }
 
 # Tests the packages for Python and R.
