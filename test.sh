@@ -169,7 +169,7 @@ try_edits() {
 
 # Runs a function beside the parts that follow, in a session of its own. `end_beside` waits for it.
 start_beside() { # NAME FUNCTION ..
-    (declare -f && declare -p room found few) >"$room/$1.functions"
+    (declare -f && declare -p room found jobs few) >"$room/$1.functions"
     setsid bash -euo pipefail -c 'source "$1"; "${@:2}"' "$0" "$room/$1.functions" "${@:2}" \
         </dev/null >"$room/$1" 2>&1 &
     beside[$1]=$!
