@@ -14,7 +14,7 @@ use crate::bound::bounding_lines;
 use certificate_data::{Leaf, Round};
 use connected_sets::CountyGraph;
 use place_sets::CountySet;
-use search_ends::stuck_county;
+use search_groups::stuck_county;
 use state_groups::State;
 use state_judge::judge_seats;
 use std::alloc::AllocError;
