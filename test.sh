@@ -68,7 +68,8 @@ cd "$(dirname "$0")"
 
 processors=$(nproc)
 jobs=$((processors < 4 ? processors : 4))
-# (of a part that runs beside others)
+# How many classes of the tests of the desk and of the WebAssembly build run at once. Each starts
+# browsers or programs of its own.
 few=$(((jobs + 1) / 2))
 room=$(mktemp -d)
 found=$(mktemp -d)
@@ -125,7 +126,7 @@ test_desk() { # PROGRAM [WASM]
         fi
         words+=(--wasm "$2" --page "$room/desk.html")
     fi
-    python3 tools/test_desk.py --jobs "$jobs" "${words[@]}"
+    python3 tools/test_desk.py --jobs "$few" "${words[@]}"
 }
 
 # Tests the packages for Python and R.
@@ -187,7 +188,7 @@ end_beside() { # NAME ..
     done
 }
 
-# Starts the tests of the WebAssembly build and of the desk, which mostly wait.
+# Starts the tests of the WebAssembly build and of the desk, which mostly wait, beside the rest.
 start_web() { # PROGRAM [WASM [OPTION ..]]
     start_beside web test_web --native "$1" ${2:+--wasm "$2"} "${@:3}"
     start_beside desk test_desk "$1" ${2:+"$2"}
@@ -240,10 +241,10 @@ prove_and_test() {
         programs+=("$built.by-rattle")
     fi
     start_beside changes change_cases "$seconds" "$seed" "$built"
-    start_beside packages test_packages "$built"
-    start_web "$built" "$wasm" --refusing "$refusing" "${all[@]}"
     test_programs "${programs[@]}"
-    end_beside packages web desk
+    test_packages "$built"
+    test_web --native "$built" --wasm "$wasm" --refusing "$refusing" "${all[@]}"
+    test_desk "$built" "$wasm"
     if [ "$is_all" = yes ]; then
         sweep
         heading "the real files, with the first calls refused"
