@@ -168,7 +168,8 @@ try_edits() {
     tools/prove.sh "$room/edited" "$room/edited.log" --all-edits
 }
 
-# Runs a function beside the parts that follow, in a session of its own. `end_beside` waits for it.
+# Runs a function beside the parts that follow, in a session of its own, so that it can be ended
+# with all that it started. The session reads the functions from a file. `end_beside` waits for it.
 start_beside() { # NAME FUNCTION ..
     (declare -f && declare -p room found jobs few) >"$room/$1.functions"
     setsid bash -euo pipefail -c 'source "$1"; "${@:2}"' "$0" "$room/$1.functions" "${@:2}" \
