@@ -162,7 +162,9 @@ change_cases() { # SECONDS SEED PROGRAM
     python3 cases/fuzz.py --seconds "$1" --seed "$2" --program "$3" --keep "$found"
 }
 
-# Tries every edit. The proofs of the crates are kept by then.
+# Tries every edit, beside the proofs and the tests. Of two runs of the kit that are to prove a crate,
+# one proves it and the other takes what was proved. The last crates are proved one after the other,
+# which leaves processors free for edits.
 try_edits() {
     heading "every edit is tried"
     tools/prove.sh "$room/edited" "$room/edited.log" --all-edits
@@ -229,9 +231,9 @@ prove_and_test() {
         seconds=600
         seed=$(date +%-j)
     fi
+    [ "$is_all" = no ] || start_beside edits try_edits
     heading "every crate is proved"
     tools/prove.sh "$room/proved" "$room/log" "${edits[@]}" --module "$room/module.bc"
-    [ "$is_all" = no ] || start_beside edits try_edits
     take_programs "$room/proved"
     wasm=$room/countygroups.wasm
     refusing=$room/refusing.wasm
