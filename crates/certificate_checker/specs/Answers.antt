@@ -80,6 +80,6 @@ pub record ChecksBytes (p : Problem) (before after : Given) (budget : ℕ) (verd
       → IsWithinBudget (lines_in_front (pulled ++ later)) budget verdict
 
 -- the source could not be read
-abbrev pub is_read_fault : Result Verdict CheckStop → Bool
+abbrev pub is_read_fault : {A : Type 0} → Result A CheckStop → Bool
 is_read_fault (Err stop.ReadFault) = true
 is_read_fault _ = false

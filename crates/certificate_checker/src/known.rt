@@ -10,7 +10,7 @@ ghost use Rattle.connected_laws.specs.Listing.{AreBelow};
 ghost use Rattle.county_problem.specs.OrderedValue.{code_at};
 ghost use Rattle.certificate_data.specs.RoundValue.{round_of};
 ghost use Rattle.certificate_data.specs.declared.format.Format.TheVariants.{Wide};
-ghost use Rattle.certificate_laws.specs.State.{empty_state, close, raise};
+ghost use Rattle.certificate_laws.specs.State.{empty_state, close, raise, State as StateValue};
 ghost use Rattle.certificate_laws.specs.Fitting.{Fits};
 ghost use Rattle.certificate_laws.specs.Groups.{IsGroupAt, AreGroupsAt, IsSetAt};
 ghost use Rattle.certificate_laws.specs.Proving.{CanBranch, NamesLimit, limit_of};
@@ -20,12 +20,14 @@ ghost use Rattle.checker_laws.specs.Leaves.{IsAllowanceFault};
 ghost use Rattle.checker_laws.specs.Cost.{AreSoMany, LineLooks};
 ghost use Rattle.state_judge.specs.LineStops.{StopsAt};
 ghost use Rattle.state_judge.specs.AllowanceVerdicts.{AllowanceIsSpelled, IsAllowed};
+ghost use Rattle.state_judge.specs.Candidates.{AreListed};
 ghost use Rattle.state_judge.specs.declared.fault.LineStop.{LineStop};
 ghost use Rattle.state_groups.specs.PlacedValues.{state_at, codes_of_set, codes_of_sets, IsPlaced, IsClosable};
 ghost use Rattle.search_groups.specs.PartLists.{AreListsOf};
 ghost use Rattle.search_groups.specs.Positions.{search_problem, search_round, search_state, IsSearchInput, IsPositionAt};
 ghost use Rattle.certificate_checker.specs.Judging.{IsCheckInput};
 ghost use Rattle.certificate_checker.specs.Knowing.{search_of, IsKnownAt};
+ghost use Rattle.certificate_checker.specs.declared.input.CheckInput.{CheckInput};
 
 use crate::input::CheckInput;
 use certificate_data::{Allowance, Format};
@@ -43,6 +45,10 @@ use std::alloc::AllocError;
 
 /// The most steps that a list of the groups of one county more may take.
 const MOST_STEPS: u64 = 100_000;
+
+/// How many more groups of a size have to be wanted than are closed, so that a list of the groups of one county more
+/// is made. It serves each branch below, and there are few where few are wanted.
+const LEAST_WANTED: u32 = 4;
 
 /// Returns what is known where a certificate begins: in a wide round, that no group has less than one county.
 pub(crate) fn first_known<C: CountySet>(
@@ -196,10 +202,24 @@ fn position_of_size<C: CountySet>(
     Ok(Some(position))
 }
 
-/// Returns the position with a list of the groups of one county more, if it has none and few steps make it.
+/// Returns how many groups of `size` counties the round's target has beyond those that are closed at the `state`.
+/// Returns 0 if as many or more are closed, or if there is no target.
+fn still_wanted<C: CountySet>(input: &CheckInput<C>, state: &State<C>, size: u16) -> u32
+    requires placed { IsPlaced (graph_places input.now.graph.now) C.test state.now }
+{
+    let wanted = match input.wanted {
+        Some(counts) => u32::from(counts.of(size)),
+        None => 0,
+    };
+    wanted.saturating_sub(closed_of_size(input.graph.ordered, state, size))
+}
+
+/// Returns the position with a list of the groups of one county more, if it has none, enough groups of its size are
+/// `wanted`, and few steps make it.
 fn with_ahead<C: CountySet>(
     search: &SearchInput<C>,
     position: Position<C>,
+    wanted: u32,
     spare: &mut Steps,
 ) -> Result<Position<C>, AllocError>
     requires input { IsSearchInput C.PLACES C.test search.now }
@@ -207,7 +227,7 @@ fn with_ahead<C: CountySet>(
     ensures { IfOk result (λ at. IsPositionAt C.test search.now (search_state search.now C.test position.state) at
         × (at.size ≡ position.size)) }
 {
-    if position.larger.is_some() {
+    if position.larger.is_some() || wanted < LEAST_WANTED {
         return Ok(position);
     }
     let mut steps = Steps::new((spare.limit() - spare.used()).min(MOST_STEPS));
@@ -273,6 +293,7 @@ fn known_branch<C: CountySet>(
     spare: &mut Steps,
 ) -> Result<Option<Branching<C>>, AllocError>
     requires input { IsCheckInput C.PLACES C.test input.now }
+    requires placed { IsPlaced (graph_places input.now.graph.now) C.test state.now }
     requires known { IsKnownAt C.test input.now (state_at (graph_order input.now.graph.now) C.test state.now) known.old }
     requires place { place < graph_places input.now.graph.now }
     requires lists { AreListsOf C.test (place_problem input.now.graph.now) (graph_places input.now.graph.now) lists.old }
@@ -308,7 +329,8 @@ fn known_branch<C: CountySet>(
     if position.size != limit {
         return Ok(None);
     }
-    let position = with_ahead(&search, position, spare)?;
+    let wanted = still_wanted(input, state, limit);
+    let position = with_ahead(&search, position, wanted, spare)?;
     let found = branch_of(&search, &position, place, spare)?;
     *known = Some(position);
     Ok(found)
@@ -540,8 +562,24 @@ fn empty_line<C: CountySet>(
     Some(Allowed::Even(used))
 }
 
+/// Returns the known groups of `size` counties, or `None` if those of this size aren't known.
+fn known_candidates<C: CountySet>(known: &Option<Position<C>>, size: u16) -> Option<&[C]>
+    ensures { (input : CheckInput C) (s : StateValue)
+        → IsKnownAt C.test input s known.now
+        → AreListed C.test (graph_order input.graph.now) (graph_problem input.graph.now) (round_of input.round.now) s size result }
+{
+    let Some(position) = known else {
+        return None;
+    };
+    if position.size == size {
+        return Some(position.groups.as_slice());
+    }
+    None
+}
+
 /// Judges the line of a bound leaf as `judge_allowance` does. If what is known tells that no group of the size fits, a
-/// line without weights takes no step.
+/// line without weights takes no step. If the groups of the size are known, weights are tested on them, and no step is
+/// taken.
 pub(crate) fn knowing_allowance<C: CountySet>(
     input: &CheckInput<C>,
     state: &State<C>,
@@ -596,6 +634,7 @@ pub(crate) fn knowing_allowance<C: CountySet>(
         wanted,
         used,
         line,
+        known_candidates(known, size),
         steps,
     )
 }

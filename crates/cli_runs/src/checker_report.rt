@@ -2,7 +2,7 @@
 
 ghost use Rattle.std.specs.Prelude.{◌≡◌, false, None, IfOk};
 ghost use Rattle.county_problem.specs.ProblemValue.{problem_of};
-ghost use Rattle.certificate_checker.specs.Answers.{CheckIsRight};
+ghost use Rattle.certificate_checker.specs.Answers.{CheckIsRight, is_read_fault};
 ghost use Rattle.certificate_checker.specs.declared.verdict.Verdict.TheVariants as verdict;
 ghost use Rattle.cli_answers.specs.Answers.{answer_of};
 ghost use Rattle.cli_runs.specs.CheckCourse.{ChecksGiven, verdict_said, verdict_table};
@@ -93,7 +93,8 @@ pub fn check_from_and_report<S: Source>(
     line: &mut Vec<u8>,
 ) -> Result<Checked, CheckStop>
     requires { S.is_failed source.old ≡ false }
-    ensures { IfOk result (λ c. ChecksGiven (tabled_of tabled.now) budget (S.given source.old) (S.given source.new) (reported_of c.reported)) }
+    ensures checked { IfOk result (λ c. ChecksGiven (tabled_of tabled.now) budget (S.given source.old) (S.given source.new) (reported_of c.reported)) }
+    ensures failed { S.is_failed source.new ≡ is_read_fault result }
 {
     let verdict = match check_from_keeping(alloc, &tabled.problem, source, budget, line) {
         Ok(verdict) => verdict,

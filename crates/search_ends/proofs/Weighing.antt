@@ -20,9 +20,9 @@ use Rattle.certificate_laws.proofs.Decided.{fits_alike}
 use Rattle.certificate_data.specs.declared.weights.Weight.{Weight as WeightHeld}
 use Rattle.certificate_data.specs.declared.allowance.Allowance.TheVariants.{Weigh}
 use Rattle.certificate_data.specs.TreeValue as held
-use Rattle.state_groups.specs.PlacedValues.{codes_of_sets}
+use Rattle.state_groups.specs.PlacedValues.{codes_of_set, codes_of_sets}
 use Rattle.state_judge.specs.Weights.{weights_of, county_weight}
-use Rattle.state_judge.proofs.FairLines.{all_heavy, open_sum}
+use Rattle.state_judge.proofs.FairLines.{set_weight, open_sum}
 use Rattle.search_groups.specs.KnownGroups.{IsKnown}
 use Rattle.search_ends.specs.MissingGroups.{AllowsFewer}
 use Rattle.search_ends.specs.PlacedWeights.{placed_weight, weights_above, AreTableWeights}
@@ -48,6 +48,14 @@ known_counties p value ws e = all_from_has (λ (w : Weight). contains p.counties
     let r = has_mapped held.weight_of ws w h in
     subst (λ (z : Weight). contains p.counties z.county ≡ true) r.2 (above_known value p.counties r.0 (subst (λ (z : List WeightHeld). Has z r.0) e r.1)))
 
+-- where each set weighs so much by the table, its codes do
+all_heavy : {C : Type 0} (test : C → ℕ → Bool) (order table : List ℕ) (w : ℕ → ℕ) (quota : ℕ) (sets : List C) → table ≡ map w order → All (λ g. quota ≤ sum_by (λ i. get_or table i 0) (places_of (length table) (test g))) sets
+    → All (λ g. quota ≤ sum_by w g) (codes_of_sets order test sets)
+all_heavy {C = C} test order table w quota sets e all = all_from_has (λ g. quota ≤ sum_by w g) (codes_of_sets order test sets) (λ g h.
+    let r : (x : C) × Has sets x × (codes_of_set order test x ≡ g) = has_mapped (codes_of_set order test) sets g h in
+    let heavy = has_all (λ x. quota ≤ sum_by (λ i. get_or table i 0) (places_of (length table) (test x))) sets all r.0 r.1 in
+    subst (λ z. quota ≤ sum_by w z) r.2 (omega (arith, heavy, set_weight test order table w e r.0)))
+
 less_shared : (a b c n k : ℕ) → b ≡ c → b / n < k → min a (c / n) < k
 less_shared a b c n k e l = least (ap (λ z. z / n) e)
   where
@@ -60,7 +68,7 @@ module _ (C : Type 0) (test : C → ℕ → Bool) (p : Problem) (law : IsProblem
       → IsKnown p round s i (codes_of_sets order test sets) → All (λ g. quota ≤ sum_by (λ x. get_or table x 0) (places_of (length table) (test g))) sets → 1 ≤ quota → quota ≤ 256000000
       → ((x : ℕ) → region x ≡ open_to t i x) → sum_by (λ x. get_or table x 0) (places_of (length table) region) / quota < k → AllowsFewer round.format p s i k (Weigh quota ws)
   weighed_fewer round s t i k quota table ws sets region same at number are known heavy from to covers less = record {
-    fair = (from, known_counties p (placed_weight order table) ws are.are, known_heavy p round s i quota w (codes_of_sets order test sets) (subst (IsOrder p) same whole) known (all_heavy C test order table w table_is quota sets heavy));
+    fair = (from, known_counties p (placed_weight order table) ws are.are, known_heavy p round s i quota w (codes_of_sets order test sets) (subst (IsOrder p) same whole) known (all_heavy test order table w quota sets table_is heavy));
     fewer = less_shared (room_at p s i 0 / i) (sum_by (λ x. get_or table x 0) (places_of (length table) region)) (sum_by w (listed p (open_to s i))) quota k (open_sum w p order table s t i region law whole at table_is covers) less;
     spelled = weights_fit quota ws from to are.few are.each are.ascending;
   }

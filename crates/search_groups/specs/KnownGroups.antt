@@ -1,31 +1,18 @@
 -- What a search knows of the groups at a state: one list of groups of one size, which is filtered as the search goes
 -- on.
-use Rattle.std.specs.Prelude.{ℕ, ◌+◌, ◌≡◌, ◌≤◌, ◌<◌, Bool, true, false, List, [], length, filter}
+use Rattle.std.specs.Prelude.{ℕ, ◌+◌, ◌≡◌, ◌≤◌, ◌<◌, Bool, true, false, List, [], length}
 use Rattle.std.specs.Prelude.{Contains, AllPairs, ◌↔◌}
-use Rattle.grouping_laws.specs.Sets.{contains, Inside}
-use Rattle.grouping_laws.specs.Problem.{Problem, IsProblem, LawfulGroup}
+use Rattle.grouping_laws.specs.Sets.{contains}
+use Rattle.grouping_laws.specs.Problem.{Problem, IsProblem}
 use Rattle.grouping_laws.specs.GroupsFrom.{IsOrder, IsBefore}
 use Rattle.certificate_data.specs.declared.format.Format.TheVariants.{Wide}
 use Rattle.certificate_data.specs.Round.{Round}
-use Rattle.certificate_laws.specs.State.{State, IsState, open_to, close, raise}
+use Rattle.certificate_laws.specs.State.{State, IsState, close, raise}
 use Rattle.certificate_laws.specs.Fitting.{Fits, IsLive}
 use Rattle.certificate_laws.specs.Groups.{IsGroupOf, AreGroupsOf, AreGroupsAt}
 use Rattle.certificate_laws.specs.Proving.{CanBranch}
 use Rattle.state_groups.specs.PlacedValues.{codes_of_set}
-
--- A lawful group of i counties, each of them open to a group of i, its codes in the order of places. It fits the state
--- where it is kept: in a wide round it may be dead.
-pub record IsCandidateGroup (p : Problem) (round : Round) (s : State) (i : ℕ) (g : List ℕ) : Type 0 where
-  pub lawful : LawfulGroup p g
-  pub inside : Inside (open_to s i) g
-  pub in_order : filter (contains g) round.order ≡ g
-  pub size : length g ≡ i
-
--- these are candidates of i counties, among them all that fit, sorted by lists of places
-pub record AreCandidates (p : Problem) (round : Round) (s : State) (i : ℕ) (groups : List (List ℕ)) : Type 0 where
-  pub each : (g : List ℕ) → Contains groups g → IsCandidateGroup p round s i g
-  pub all : (g : List ℕ) → IsGroupOf p round s i g → Contains groups g
-  pub sorted : AllPairs (IsBefore round.order) groups
+pub use Rattle.state_judge.specs.Candidates.{IsCandidateGroup, AreCandidates}
 
 -- no group of fewer than i counties fits, and these are candidates of i counties, among them all that fit, sorted by
 -- lists of places

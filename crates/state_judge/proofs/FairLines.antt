@@ -1,34 +1,40 @@
 -- Where a line's weights are fair, and where they aren't.
-use Rattle.std.proofs.Common.{◌≡◌, ℕ, ◌≤◌, ◌<◌, Bool, true, false, ◌&&◌, List, [], ◌∷◌, map, length, get_or, refl, sym, ap, ◌∙◌, subst, arith, inl, inr, ⊎_elim, ◌⊎◌, ◌↔◌, All, Contains}
+use Rattle.std.proofs.Common.{◌≡◌, ℕ, ◌≤◌, ◌<◌, Bool, true, false, ◌&&◌, List, [], ◌∷◌, map, filter, length, get_or, refl, sym, ap, ◌∙◌, subst, arith, inl, inr, ◌↔◌, All, Contains}
 use Rattle.std.specs.List.{list_all}
-use Rattle.std.proofs.lemmas.Bool.{and_parts, cases_lt}
+use Rattle.std.proofs.lemmas.Bool.{and_parts}
 use Rattle.std.proofs.lemmas.List.{length-map, get_or-map}
-use Rattle.grouping_laws.specs.Sets.{indicator, sum_by, contains}
+use Rattle.std.proofs.lemmas.List.Elements.{filter_agree}
+use Rattle.grouping_laws.specs.Sets.{indicator, sum_by, contains, Inside}
 use Rattle.grouping_laws.specs.Problem.{Problem, IsProblem}
 use Rattle.grouping_laws.specs.GroupsFrom.{IsOrder}
-use Rattle.grouping_laws.specs.PlaceProblem.{code_at}
+use Rattle.grouping_laws.specs.PlaceProblem.{code_at, at_places}
+use Rattle.grouping_laws.specs.Places.{codes_at}
+use Rattle.grouping_laws.proofs.Alike.{Alike, length_alike, in_order_alike, member_same}
 use Rattle.grouping_laws.proofs.Elements.{Has, has_all, all_from_has, has_from_contains, contains_from_has}
 use Rattle.grouping_laws.proofs.Places.{has_member}
 use Rattle.grouping_laws.proofs.PlaceCodes.{mapped_has, has_mapped}
 use Rattle.place_sets.specs.PlaceSets.{places_of}
-use Rattle.place_sets.proofs.Sums.{sum_by-map, often_none, often_some}
+use Rattle.place_sets.proofs.Sums.{sum_by-map, often_none, often_some, total_alike}
 use Rattle.place_sets.proofs.PlaceSets.{places_same}
 use Rattle.connected_laws.proofs.PlaceLists.{placed_below}
 use Rattle.certificate_data.specs.Round.{Round}
+use Rattle.certificate_data.specs.declared.format.Format.TheVariants.{Plain}
 use Rattle.certificate_laws.specs.Regions.{listed}
 use Rattle.certificate_laws.specs.State.{State, open_to}
+use Rattle.certificate_laws.specs.Fitting.{Fits, IsKept}
 use Rattle.certificate_laws.specs.Groups.{AreGroupsOf, IsGroupOf}
 use Rattle.certificate_laws.specs.Places.{IsStateAt}
 use Rattle.certificate_data.specs.Tree.{Weight, weigh}
 use Rattle.certificate_laws.specs.BoundLines.{IsFair}
 use Rattle.certificate_laws.proofs.Places.{places_serve}
-use Rattle.certificate_laws.proofs.Decided.{leaves_are_decided}
+use Rattle.certificate_laws.proofs.Decided.{fits_alike}
 use Rattle.certificate_data.specs.declared.weights.Weight.{Weight as WeightHeld}
 use Rattle.certificate_data.specs.TreeValue as held
 use Rattle.checker_laws.specs.Leaves.{NamesForeign, HasLightGroup}
 use Rattle.state_groups.specs.PlacedValues.{codes_of_set, codes_of_sets}
-use Rattle.state_judge.specs.Weights.{weights_of, county_weight}
 use Rattle.state_groups.proofs.OpenCounties.{open_at}
+use Rattle.state_judge.specs.Weights.{weights_of, county_weight}
+use Rattle.state_judge.specs.Candidates.{IsCandidateGroup, AreCandidates}
 
 -- sums of terms that are the same for each element
 total_each : (f h : ℕ → ℕ) (xs : List ℕ) → ((x : ℕ) → Has xs x → f x ≡ h x) → sum_by f xs ≡ sum_by h xs
@@ -81,49 +87,106 @@ named p order ws whole e w h = sym (order_counties p order whole w.county) ∙ a
 pub foreign : (p : Problem) (order : List ℕ) (quota : ℕ) (ws : List WeightHeld) → IsOrder p order → list_all (λ w. contains order w.county) ws ≡ false → NamesForeign p (weigh quota (weights_of ws))
 foreign p order quota ws whole e = let r = one_foreign (contains order) ws e in (r.0, contains_from_has (weights_of ws) r.0 r.1, sym (order_counties p order whole r.0.county) ∙ r.2)
 
--- some element is less, where not each is at least as much
-some_less : {X : Type 0} (f : X → ℕ) (quota : ℕ) (xs : List X) → (All (λ x. quota ≤ f x) xs → ⊥) → (x : X) × Has xs x × (f x < quota)
-some_less f quota [] none = absurd (none (all_from_has (λ x. quota ≤ f x) [] (λ x h. absurd h)))
-some_less {X = X} f quota (y ∷ ys) none = go (cases_lt (f y) quota) (some_less f quota ys)
+-- the same round, in the plain format
+abbrev pub plain : Round → Round
+plain round = record round { format = Plain }
+
+-- all groups of a size that fit in the plain format are candidates
+pub plain_candidates : (p : Problem) (round : Round) (s : State) (i : ℕ) (groups : List (List ℕ)) → AreGroupsOf p (plain round) s i groups → AreCandidates p round s i groups
+plain_candidates p round s i groups are = record {
+  each = λ g h. let x : IsGroupOf p (plain round) s i g = (are.each g).0 h in record {
+    lawful = x.fits.lawful;
+    inside = subst (λ n. Inside (open_to s n) g) x.size x.fits.inside;
+    in_order = x.in_order;
+    size = x.size;
+  };
+  all = λ g x. (are.each g).1 (record {
+    fits = record { lawful = x.fits.lawful; inside = x.fits.inside; kept = tt };
+    in_order = x.in_order;
+    size = x.size;
+  });
+  sorted = are.sorted;
+}
+
+-- a candidate fits just where its places are kept
+set_fits : (p : Problem) (round : Round) (s t : State) (i : ℕ) (xs : List ℕ) → IsOrder p round.order → IsStateAt round.order s t → ((x : ℕ) → contains xs x ≡ true → x < length round.order)
+    → IsCandidateGroup p round s i (codes_at round.order xs) → IsKept round.format (at_places p round.order) t xs ↔ Fits round.format p s (codes_at round.order xs)
+set_fits p round s t i xs whole at below is = (
+  λ kept. (places_serve.fits p round s t xs whole at below).0 (record { lawful = there.lawful; inside = there.inside; kept = kept }),
+  λ fits. ((places_serve.fits p round s t xs whole at below).1 fits).kept,
+)
   where
-    go : (f y < quota) ⊎ (quota ≤ f y) → ((All (λ x. quota ≤ f x) ys → ⊥) → (x : X) × Has ys x × (f x < quota)) → (x : X) × Has (y ∷ ys) x × (f x < quota)
-    go (inl l) next = (y, inl refl, l)
-    go (inr l) next =
-        let r = next (λ all. none (all_from_has (λ x. quota ≤ f x) (y ∷ ys) (λ x h. ⊎_elim (λ e. subst (λ z. quota ≤ f z) e l) (λ k. has_all (λ z. quota ≤ f z) ys all x k) h))) in
-        (r.0, inr r.1, r.2)
+    there : Fits Plain (at_places p round.order) t xs
+    there = (places_serve.fits p (plain round) s t xs whole at below).1 (record {
+      lawful = is.lawful;
+      inside = subst (λ n. Inside (open_to s n) (codes_at round.order xs)) (sym is.size) is.inside;
+      kept = tt;
+    })
 
-module _ (C : Type 0) (test : C → ℕ → Bool) (order table : List ℕ) (w : ℕ → ℕ) (e : table ≡ map w order) where
-  -- what a set weighs by the table, its codes weigh
-  set_weight : (set : C) → sum_by (λ i. get_or table i 0) (places_of (length table) (test set)) ≡ sum_by w (codes_of_set order test set)
-  set_weight set = table_sum w order table (test set) e ∙ sym (sum_by-map w (code_at order) (places_of (length order) (test set)))
+module _ (C : Type 0) (test : C → ℕ → Bool) (p : Problem) (round : Round) (s t : State) (i quota : ℕ) (w : ℕ → ℕ) (sets : List C) where
+  -- the places of the set are kept
+  abbrev Kept : List ℕ → C → Type 0
+  Kept z set = IsKept round.format (at_places p z) t (places_of (length z) (test set))
 
-  pub all_heavy : (quota : ℕ) (sets : List C) → All (λ g. quota ≤ sum_by (λ i. get_or table i 0) (places_of (length table) (test g))) sets → All (λ g. quota ≤ sum_by w g) (codes_of_sets order test sets)
-  all_heavy quota sets all = all_from_has (λ g. quota ≤ sum_by w g) (codes_of_sets order test sets) (λ g h.
-      let r : (x : C) × Has sets x × (codes_of_set order test x ≡ g) = has_mapped (codes_of_set order test) sets g h in
-      let heavy = has_all (λ x. quota ≤ sum_by (λ i. get_or table i 0) (places_of (length table) (test x))) sets all r.0 r.1 in
-      subst (λ z. quota ≤ sum_by w z) r.2 (omega (arith, heavy, set_weight r.0)))
+  kept_there : (set : C) → IsOrder p round.order → IsStateAt round.order s t → IsCandidateGroup p round s i (codes_of_set round.order test set) → Kept round.order set ↔ Fits round.format p s (codes_of_set round.order test set)
+  kept_there set whole at = set_fits p round s t i (places_of (length round.order) (test set)) whole at (λ x. placed_below (length round.order) x (test set))
 
-  pub one_light : (quota : ℕ) (sets : List C) → (All (λ g. quota ≤ sum_by (λ i. get_or table i 0) (places_of (length table) (test g))) sets → ⊥) → (g : List ℕ) × Contains (codes_of_sets order test sets) g × (sum_by w g < quota)
-  one_light quota sets none =
-      let r = some_less (λ x. sum_by (λ i. get_or table i 0) (places_of (length table) (test x))) quota sets none in
-      let g = codes_of_set order test r.0 in
-      (g, contains_from_has (codes_of_sets order test sets) g (mapped_has (codes_of_set order test) sets r.0 r.1), omega (arith, r.2, set_weight r.0))
+  heavy_there : IsOrder p round.order → IsStateAt round.order s t → AreCandidates p round s i (codes_of_sets round.order test sets) → All (λ g. Kept round.order g → quota ≤ sum_by w (codes_of_set round.order test g)) sets
+      → (g : List ℕ) → Fits round.format p s g → length g ≡ i → quota ≤ sum_by w g
+  heavy_there whole at are heavy g fits e =
+      let k = filter (contains g) round.order in
+      let same : Alike g k = in_order_alike round.order p.counties g whole fits.lawful.once fits.lawful.listed in
+      let fit : Fits round.format p s k = fits_alike round.format p s g k same fits in
+      let found = are.all k (record {
+        fits = fit;
+        in_order = filter_agree (contains k) (contains g) (λ x. sym (member_same g k same x)) round.order;
+        size = omega (arith, e, length_alike g k same);
+      }) in
+      let r : (x : C) × Has sets x × (codes_of_set round.order test x ≡ k) = has_mapped (codes_of_set round.order test) sets k (has_from_contains (codes_of_sets round.order test sets) k found) in
+      let is = subst (IsCandidateGroup p round s i) (sym r.2) (are.each k found) in
+      let kept = (kept_there r.0 whole at is).1 (subst (Fits round.format p s) (sym r.2) fit) in
+      let enough = has_all (λ x. Kept round.order x → quota ≤ sum_by w (codes_of_set round.order test x)) sets heavy r.0 r.1 kept in
+      omega (arith, total_alike w g k same, subst (λ z. quota ≤ sum_by w z) r.2 enough)
 
--- the same test of the same sets, told otherwise
-pub same_test : {X : Type 0} (f : X → ℕ) (b : Bool) (quota least : ℕ) (xs ys : List X) → quota ≡ least → xs ≡ ys → (b ≡ true) ↔ All (λ x. quota ≤ f x) xs → (b ≡ true) ↔ All (λ x. least ≤ f x) ys
-same_test f b quota least xs ys e k h = subst (λ z. (b ≡ true) ↔ All (λ x. least ≤ f x) z) k (subst (λ z. (b ≡ true) ↔ All (λ x. z ≤ f x) xs) e h)
+  -- where each candidate that is kept weighs enough, each group that fits does
+  pub heavy_codes : (order : List ℕ) → order ≡ round.order → IsOrder p order → IsStateAt order s t → AreCandidates p round s i (codes_of_sets order test sets) → All (λ g. Kept order g → quota ≤ sum_by w (codes_of_set order test g)) sets
+      → (g : List ℕ) → Fits round.format p s g → length g ≡ i → quota ≤ sum_by w g
+  heavy_codes order e = subst (λ z. IsOrder p z → IsStateAt z s t → AreCandidates p round s i (codes_of_sets z test sets) → All (λ g. Kept z g → quota ≤ sum_by w (codes_of_set z test g)) sets → (g : List ℕ) → Fits round.format p s g → length g ≡ i → quota ≤ sum_by w g) (sym e) heavy_there
 
--- the groups of one list decide
-pub fair : (p : Problem) (round : Round) (s : State) (i quota : ℕ) (ws : List WeightHeld) (groups : List (List ℕ)) → IsOrder p round.order → AreGroupsOf p round s i groups → 1 ≤ quota → list_all (λ w. contains round.order w.county) ws ≡ true
-    → All (λ g. quota ≤ sum_by (county_weight ws) g) groups → IsFair round.format p s i (weigh quota (weights_of ws))
-fair p round s i quota ws groups whole are some known heavy = (
+  light_there : IsOrder p round.order → IsStateAt round.order s t → AreCandidates p round s i (codes_of_sets round.order test sets) → (g : C) × Contains sets g × Kept round.order g × (sum_by w (codes_of_set round.order test g) < quota)
+      → (k : List ℕ) × Fits round.format p s k × (length k ≡ i) × (sum_by w k < quota)
+  light_there whole at are found =
+      let k = codes_of_set round.order test found.0 in
+      let is = are.each k (contains_from_has (codes_of_sets round.order test sets) k (mapped_has (codes_of_set round.order test) sets found.0 (has_from_contains sets found.0 found.1))) in
+      (k, (kept_there found.0 whole at is).0 found.2, is.size, found.3)
+
+  -- a candidate that is kept and weighs too little is a group that fits
+  pub light_codes : (order : List ℕ) → order ≡ round.order → IsOrder p order → IsStateAt order s t → AreCandidates p round s i (codes_of_sets order test sets) → (g : C) × Contains sets g × Kept order g × (sum_by w (codes_of_set order test g) < quota)
+      → (k : List ℕ) × Fits round.format p s k × (length k ≡ i) × (sum_by w k < quota)
+  light_codes order e = subst (λ z. IsOrder p z → IsStateAt z s t → AreCandidates p round s i (codes_of_sets z test sets) → (g : C) × Contains sets g × Kept z g × (sum_by w (codes_of_set z test g) < quota) → (k : List ℕ) × Fits round.format p s k × (length k ≡ i) × (sum_by w k < quota)) (sym e) light_there
+
+-- what a set weighs by the table, its codes weigh
+pub set_weight : {C : Type 0} (test : C → ℕ → Bool) (order table : List ℕ) (w : ℕ → ℕ) → table ≡ map w order → (set : C) → sum_by (λ i. get_or table i 0) (places_of (length table) (test set)) ≡ sum_by w (codes_of_set order test set)
+set_weight test order table w e set = table_sum w order table (test set) e ∙ sym (sum_by-map w (code_at order) (places_of (length order) (test set)))
+
+-- the candidates decide
+pub fair : {C : Type 0} (test : C → ℕ → Bool) (p : Problem) (round : Round) (s t : State) (i quota : ℕ) (ws : List WeightHeld) (sets : List C) (order table : List ℕ) → order ≡ round.order → IsOrder p order → IsStateAt order s t
+    → AreCandidates p round s i (codes_of_sets order test sets) → 1 ≤ quota → list_all (λ w. contains order w.county) ws ≡ true → table ≡ map (county_weight ws) order
+    → All (λ g. IsKept round.format (at_places p order) t (places_of (length order) (test g)) → quota ≤ sum_by (λ k. get_or table k 0) (places_of (length table) (test g))) sets → IsFair round.format p s i (weigh quota (weights_of ws))
+fair {C = C} test p round s t i quota ws sets order table same whole at are some known e heavy = (
   some,
-  all_from_has (λ w. contains p.counties w.county ≡ true) (weights_of ws) (named p round.order ws whole known),
-  leaves_are_decided.fair p round s i quota (county_weight ws) groups whole are heavy,
+  all_from_has (λ w. contains p.counties w.county ≡ true) (weights_of ws) (named p order ws whole known),
+  heavy_codes C test p round s t i quota (county_weight ws) sets order same whole at are (all_from_has (λ g. IsKept round.format (at_places p order) t (places_of (length order) (test g)) → quota ≤ sum_by (county_weight ws) (codes_of_set order test g)) sets (λ g h kept.
+      let enough = has_all (λ x. IsKept round.format (at_places p order) t (places_of (length order) (test x)) → quota ≤ sum_by (λ k. get_or table k 0) (places_of (length table) (test x))) sets heavy g h kept in
+      omega (arith, enough, set_weight test order table (county_weight ws) e g))),
 )
 
-pub light : (p : Problem) (round : Round) (s : State) (i quota : ℕ) (ws : List WeightHeld) (groups : List (List ℕ)) → IsOrder p round.order → AreGroupsOf p round s i groups → list_all (λ w. contains round.order w.county) ws ≡ true
-    → (g : List ℕ) × Contains groups g × (sum_by (county_weight ws) g < quota) → HasLightGroup round.format p s i (weigh quota (weights_of ws))
-light p round s i quota ws groups whole are known found =
-    let x : IsGroupOf p round s i found.0 = (are.each found.0).0 found.1 in
-    ((λ w h. named p round.order ws whole known w (has_from_contains (weights_of ws) w h)), (found.0, x.fits, x.size, found.2))
+pub light : {C : Type 0} (test : C → ℕ → Bool) (p : Problem) (round : Round) (s t : State) (i quota : ℕ) (ws : List WeightHeld) (sets : List C) (order table : List ℕ) → order ≡ round.order → IsOrder p order → IsStateAt order s t
+    → AreCandidates p round s i (codes_of_sets order test sets) → list_all (λ w. contains order w.county) ws ≡ true → table ≡ map (county_weight ws) order
+    → (g : C) × Contains sets g × IsKept round.format (at_places p order) t (places_of (length order) (test g)) × (sum_by (λ k. get_or table k 0) (places_of (length table) (test g)) < quota)
+    → HasLightGroup round.format p s i (weigh quota (weights_of ws))
+light {C = C} test p round s t i quota ws sets order table same whole at are known e found = (
+  (λ w h. named p order ws whole known w (has_from_contains (weights_of ws) w h)),
+  light_codes C test p round s t i quota (county_weight ws) sets order same whole at are
+      (found.0, found.1, found.2, omega (arith, found.3, set_weight test order table (county_weight ws) e found.0)),
+)

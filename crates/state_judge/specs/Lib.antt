@@ -3,3 +3,4 @@ pub mod LineStops
 pub mod Weights
 pub mod AllowanceVerdicts
 pub mod FaultWords
+pub mod Candidates

@@ -14,6 +14,7 @@ ghost use Rattle.state_groups.specs.PlacedValues.{state_at, IsPlaced};
 ghost use Rattle.state_judge.specs.LineStops.{StopsAt};
 ghost use Rattle.state_judge.specs.declared.fault.LineStop.{LineStop};
 ghost use Rattle.state_judge.specs.Weights.{IsUnfair};
+ghost use Rattle.state_judge.specs.Candidates.{AreListed};
 ghost use Rattle.state_judge.specs.AllowanceVerdicts.{AllowanceIsSpelled, IsAllowed};
 
 use crate::fault::{CheckFault, LineStop};
@@ -87,6 +88,7 @@ fn fair_allowance<C: CountySet>(
     size: u16,
     used: u32,
     line: &Allowance,
+    candidates: Option<&[C]>,
     steps: &mut Steps,
 ) -> Result<u32, LineStop>
     requires graph { IsGraph C.test C.PLACES graph.now }
@@ -94,6 +96,7 @@ fn fair_allowance<C: CountySet>(
     requires order { graph_order graph.now ≡ round.now.order }
     requires size { 1 ≤ size }
     requires used { used ≤ most_counties }
+    requires candidates { AreListed C.test (graph_order graph.now) (graph_problem graph.now) (round_of round.now) (state_at (graph_order graph.now) C.test state.now) size candidates }
     ensures line { MatchResult
         result
         (λ allowed. IsFair round.now.format (graph_problem graph.now) (state_at (graph_order graph.now) C.test state.now) size (allowance_of line.now)
@@ -122,6 +125,7 @@ fn fair_allowance<C: CountySet>(
                 size,
                 *quota,
                 weights.as_slice(),
+                candidates,
                 steps,
             )?;
             Ok(shared(most, weight, *quota))
@@ -130,9 +134,11 @@ fn fair_allowance<C: CountySet>(
 }
 
 /// Judges the line of a bound leaf for a `size`, in counties. The target has `wanted` groups of this size, and smaller
-/// groups use up `used` counties, at most 256.
+/// groups use up `used` counties, at most 256. The `candidates` of this size, if they are given, are lawful groups of
+/// open counties, among them all groups of this size that fit.
 ///
-/// A step is taken for each set that is split.
+/// With candidates no step is taken. Otherwise a step is taken for each connected set of at most `size` open counties
+/// that is met.
 ///
 /// # Errors
 ///
@@ -148,6 +154,7 @@ pub fn judge_allowance<C: CountySet>(
     wanted: u16,
     used: u32,
     line: &Allowance,
+    candidates: Option<&[C]>,
     steps: &mut Steps,
 ) -> Result<Allowed, LineStop>
     requires graph { IsGraph C.test C.PLACES graph.now }
@@ -155,6 +162,7 @@ pub fn judge_allowance<C: CountySet>(
     requires order { graph_order graph.now ≡ round.now.order }
     requires size { 1 ≤ size }
     requires used { used ≤ most_counties }
+    requires candidates { AreListed C.test (graph_order graph.now) (graph_problem graph.now) (round_of round.now) (state_at (graph_order graph.now) C.test state.now) size candidates }
     ensures line { (counts : ℕ → ℕ)
         → counts size ≡ wanted
         → MatchResult
@@ -176,7 +184,7 @@ pub fn judge_allowance<C: CountySet>(
         → LineLooks (allowance_of line.now) (graph_problem graph.now) (round_of round.now) (state_at (graph_order graph.now) C.test state.now) size m
         → steps.old.limit ≤ steps.old.used + 2 * m }
 {
-    let allowance = fair_allowance(graph, round, state, size, used, line, steps)?;
+    let allowance = fair_allowance(graph, round, state, size, used, line, candidates, steps)?;
     let all = closed_of_size(graph.ordered, state, size) + allowance;
     let wanted = u32::from(wanted);
     if all > wanted {

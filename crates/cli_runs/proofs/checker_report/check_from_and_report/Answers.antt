@@ -3,8 +3,8 @@ use Rattle.county_problem.specs.ProblemValue.{problem_of}
 use Rattle.certificate_checker.specs.Answers.{IsCheckAnswer}
 use Rattle.cli_runs.proofs.checker_report.check_from_and_report.Goals as goal
 
-pub returns-in-Ok-report_verdict : goal.returns-in-Ok-report_verdict
-returns-in-Ok-report_verdict g c =
+pub returns-in-Ok-report_verdict-clause-checked : goal.returns-in-Ok-report_verdict-clause-checked
+returns-in-Ok-report_verdict-clause-checked g c =
     let bytes = c.in-Ok.ensures.verdict in
     record {
       bytes = bytes.pulled;
