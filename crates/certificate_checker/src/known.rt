@@ -26,7 +26,7 @@ ghost use Rattle.state_groups.specs.PlacedValues.{state_at, codes_of_set, codes_
 ghost use Rattle.search_groups.specs.PartLists.{AreListsOf};
 ghost use Rattle.search_groups.specs.Positions.{search_problem, search_round, search_state, IsSearchInput, IsPositionAt};
 ghost use Rattle.certificate_checker.specs.Judging.{IsCheckInput};
-ghost use Rattle.certificate_checker.specs.Knowing.{search_of, IsKnownAt};
+ghost use Rattle.certificate_checker.specs.Knowing.{IsKnownAt};
 ghost use Rattle.certificate_checker.specs.declared.input.CheckInput.{CheckInput};
 
 use crate::input::CheckInput;

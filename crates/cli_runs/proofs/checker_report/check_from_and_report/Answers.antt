@@ -1,4 +1,4 @@
-use Rattle.std.proofs.Common.{ℕ, List, refl, sym, subst}
+use Rattle.std.proofs.Common.{ℕ, List, sym, subst}
 use Rattle.county_problem.specs.ProblemValue.{problem_of}
 use Rattle.certificate_checker.specs.Answers.{IsCheckAnswer}
 use Rattle.cli_runs.proofs.checker_report.check_from_and_report.Goals as goal
