@@ -4,6 +4,7 @@ pub mod Putting
 pub mod Standing
 pub mod Pieces
 pub mod Opening
+pub mod PartialTrees
 pub mod Boards
 pub mod Same
 pub mod OneText

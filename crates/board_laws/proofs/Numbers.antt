@@ -30,7 +30,7 @@ onto_some n (Some piece) xs e = omega (arith, true_digit (piece == n) (eq-eqb pi
 mutual
   pub few_wait : (n : ℕ) (skeleton : Skeleton) → count n (waiting skeleton) ≤ count n (pieces skeleton)
   few_wait n (waits piece) = omega arith
-  few_wait n (proved piece tree) = omega arith
+  few_wait n (proved piece tree) = often_onto n piece []
   few_wait n (split piece county limit parts raised) =
       omega (arith, few_wait_in n parts, few_wait n raised, often_append n (waiting_in parts) (waiting raised), often_append n (pieces_in parts) (pieces raised), often_onto n piece (pieces_in parts ++ pieces raised))
 

@@ -214,7 +214,7 @@ module _ (p : Problem) (round : Round) where
     same (waits m) (proved n tree) s state is js f g = absurd (g s (a_tree tree) (refl, refl))
     same (waits m) (split n c l ps r) s state is js f g = absurd (g s (a_split c l) (inl (refl, refl)))
     same (proved m tree) (waits n) s state is js f g = absurd (f s (a_tree tree) (refl, refl))
-    same (proved m tree) (proved n other) s state is js f g = let e = (f s (a_tree tree) (refl, refl)).1 in let k : tree ≡ other = cc in ap (proved 0) k
+    same (proved m tree) (proved n other) s state is js f g = let e = (f s (a_tree tree) (refl, refl)).1 in let k : tree ≡ other = cc in ap (proved None) k
     same (proved m tree) (split n c l ps r) s state is js f g = let e = (g s (a_split c l) (inl (refl, refl))).1 in absurd (cc)
     same (split n c l ps r) (waits m) s state is js f g = absurd (f s (a_split c l) (inl (refl, refl)))
     same (split n c l ps r) (proved m tree) s state is js f g = let e = (f s (a_split c l) (inl (refl, refl))).1 in absurd (cc)

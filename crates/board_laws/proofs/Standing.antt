@@ -1,5 +1,5 @@
 -- Each number names one state.
-use Rattle.std.proofs.Common.{◌≡◌, ℕ, ◌≤◌, List, ◌++◌, ◌==◌, refl, sym, ap, ◌∙◌, subst, arith, ◌⊎◌, inl, inr, ⊎_elim, Option, Some, None}
+use Rattle.std.proofs.Common.{◌≡◌, ℕ, ◌≤◌, List, [], ◌++◌, ◌==◌, refl, sym, ap, ◌∙◌, subst, arith, ◌⊎◌, inl, inr, ⊎_elim, Option, Some, None}
 use Rattle.std.proofs.lemmas.Bool.{eq-eqb}
 use Rattle.grouping_laws.specs.Sets.{count}
 use Rattle.grouping_laws.specs.Problem.{Problem}
@@ -23,7 +23,7 @@ has_onto (Some piece) xs n (inr h) = inr h
 mutual
   pub stands_often : (skeleton : Skeleton) (round : Round) (s : State) (n : ℕ) (t : State) → StandsAt skeleton round s n t → 1 ≤ count n (pieces skeleton)
   stands_often (waits piece) round s n t h = omega (arith, true_digit (piece == n) (eq-eqb piece n h.0))
-  stands_often (proved piece tree) round s n t h = omega (arith, true_digit (piece == n) (eq-eqb piece n h.0))
+  stands_often (proved piece tree) round s n t h = omega (arith, onto_some n piece [] h.0)
   stands_often (split piece county limit parts raised) round s n t (inl h) = omega (arith, onto_some n piece (pieces_in parts ++ pieces raised) h.0)
   stands_often (split piece county limit parts raised) round s n t (inr (inl h)) =
       omega (arith, often_in parts round s n t h, often_append n (pieces_in parts) (pieces raised), often_onto n piece (pieces_in parts ++ pieces raised))
@@ -40,8 +40,7 @@ mutual
   pub stands_there : (skeleton : Skeleton) (round : Round) (s : State) (n : ℕ) → Has (pieces skeleton) n → (t : State) × StandsAt skeleton round s n t
   stands_there (waits piece) round s n (inl e) = (s, (e, refl))
   stands_there (waits piece) round s n (inr h) = absurd h
-  stands_there (proved piece tree) round s n (inl e) = (s, (e, refl))
-  stands_there (proved piece tree) round s n (inr h) = absurd h
+  stands_there (proved piece tree) round s n h = ⊎_elim (λ e. (s, (e, refl))) (λ k. absurd k) (has_onto piece [] n h)
   stands_there (split piece county limit parts raised) round s n h =
       ⊎_elim
       (λ e. (s, inl (e, refl)))

@@ -15,12 +15,14 @@ use Rattle.certificate_laws.specs.Certificate.{HasGroupsWithin, TargetFits}
 use Rattle.board_laws.specs.Skeleton.{Skeleton, waits, proved, split, Parts, no_part, part, groups_in, waiting}
 use Rattle.board_laws.specs.Skeleton.{IsSkeleton, put, split_from}
 use Rattle.board_laws.specs.Standing.{StandsAt, AreNumbered}
+use Rattle.board_laws.specs.PartialTrees.{PartialTree, open_leaves, ProvesPart, IsPart, skeleton_from, as_piece}
 
 -- what may come to a board
 pub data Event : Type 0 where
   hand : (from : ℕ) → Event
   result : (number piece : ℕ) → (tree : Tree) → Event
   split_piece : (number piece county limit : ℕ) → Event
+  partial : (number piece : ℕ) → (tree : PartialTree) → Event
   better : (number : ℕ) → (grouping : Grouping) → Event
   wider : (number : ℕ) → Event
 
@@ -36,6 +38,7 @@ pub data Reply : Type 0 where
   AlreadyDone : Reply
   AlreadySplit : Reply
   CantSplit : Reply
+  NotAPart : Reply
   NotAProof : Reply
   NotBetter : Reply
   CantWiden : Reply
@@ -85,7 +88,7 @@ pub record Fills (p : Problem) (b : Content) (n : ℕ) (tree : Tree) (c : Conten
   pub state : State
   pub waits : Waits p b n state
   pub proves : Proves tree p b.round state
-  pub is : c ≡ record b { skeleton = put n (proved n tree) b.skeleton }
+  pub is : c ≡ record b { skeleton = put n (proved (Some n) tree) b.skeleton }
 
 -- The piece is split at a county of a wide round: its pieces have the next numbers, one for each group that fits, has
 -- the county and has at most `limit` counties, and one for where the county is raised.
@@ -100,6 +103,17 @@ pub record Splits (p : Problem) (b : Content) (n county limit first many : ℕ) 
   pub first_is : first ≡ b.last + 1
   pub many_is : many ≡ length groups + 1
   pub is : c ≡ record b { skeleton = put n (split_from n county limit first groups) b.skeleton; last = b.last + many }
+
+-- The piece is given a part, which proves its state but for its open leaves. Its pieces have the next numbers, one for
+-- each open leaf.
+pub record Parted (p : Problem) (b : Content) (n : ℕ) (tree : PartialTree) (first many : ℕ) (c : Content) : Type 0 where
+  pub state : State
+  pub waits : Waits p b n state
+  pub is_part : IsPart tree
+  pub proves : ProvesPart tree p b.round state
+  pub next : first ≡ b.last + 1
+  pub many_is : many ≡ open_leaves tree
+  pub is : c ≡ record b { skeleton = put n (as_piece n (skeleton_from first tree)) b.skeleton; last = b.last + many }
 
 -- the next round begins
 pub record Renews (p : Problem) (depth : ℕ) (b : Content) (round : Round) (number : ℕ) (c : Content) : Type 0 where
@@ -119,10 +133,11 @@ abbrev pub GivesTree : Problem → Content → Event → Content → Type 0
 GivesTree p b (result number n tree) c = (number ≡ b.number) × Fills p b n tree c
 GivesTree p b event c = ⊥
 
--- a split is one of this round
+-- a split or a part is one of this round
 abbrev pub GivesPieces : Problem → Content → Event → ℕ → ℕ → Content → Type 0
 GivesPieces p b (split_piece number n county limit) first many c =
     (number ≡ b.number) × Splits p b n county limit first many c
+GivesPieces p b (partial number n tree) first many c = (number ≡ b.number) × Parted p b n tree first many c
 GivesPieces p b event first many c = ⊥
 
 -- a new round has a better target, or a limit that is one greater; both come of this round

@@ -1,5 +1,6 @@
 pub mod Skeleton
 pub mod Standing
+pub mod PartialTrees
 pub mod Content
 pub mod Laws
 pub mod JoinedTexts

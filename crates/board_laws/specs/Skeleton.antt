@@ -9,11 +9,11 @@ use Rattle.certificate_data.specs.Tree.{Tree, branch, Takes, no_take, take}
 use Rattle.certificate_laws.specs.Proving.{Proves, NamesLimit, CanBranch, limit_of}
 
 -- A piece waits, or it has its tree, or it was split at a county: one part for each group in which the county may lie
--- up to a limit, and one for where its group is larger. A branch that is no piece has no number.
+-- up to a limit, and one for where its group is larger. A tree or a branch that is no piece has no number.
 mutual
   pub data Skeleton : Type 0 where
     waits : (piece : ℕ) → Skeleton
-    proved : (piece : ℕ) → (tree : Tree) → Skeleton
+    proved : (piece : Option ℕ) → (tree : Tree) → Skeleton
     split : (piece : Option ℕ) → (county : ℕ) → (limit : Option ℕ) → (parts : Parts) → (raised : Skeleton) → Skeleton
 
   pub data Parts : Type 0 where
@@ -34,7 +34,7 @@ onto (Some piece) others = piece ∷ others
 abbrev mutual
   pub pieces : Skeleton → List ℕ
   pieces (waits piece) = piece ∷ []
-  pieces (proved piece tree) = piece ∷ []
+  pieces (proved piece tree) = onto piece []
   pieces (split piece county limit parts raised) = onto piece (pieces_in parts ++ pieces raised)
 
   pub pieces_in : Parts → List ℕ
@@ -56,7 +56,7 @@ abbrev mutual
 abbrev mutual
   pub HasTree : Skeleton → ℕ → Tree → Type 0
   HasTree (waits piece) n tree = ⊥
-  HasTree (proved piece held) n tree = (piece ≡ n) × (held ≡ tree)
+  HasTree (proved piece held) n tree = (piece ≡ Some n) × (held ≡ tree)
   HasTree (split piece county limit parts raised) n tree = EachHasTree parts n tree ⊎ HasTree raised n tree
 
   pub EachHasTree : Parts → ℕ → Tree → Type 0
@@ -135,7 +135,7 @@ split_from piece county limit first groups =
 abbrev mutual
   pub bare : Skeleton → Skeleton
   bare (waits piece) = waits 0
-  bare (proved piece tree) = proved 0 tree
+  bare (proved piece tree) = proved None tree
   bare (split piece county limit parts raised) = split None county limit (bare_parts parts) (bare raised)
 
   pub bare_parts : Parts → Parts

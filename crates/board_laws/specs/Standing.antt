@@ -12,7 +12,7 @@ use Rattle.board_laws.specs.Skeleton.{Skeleton, waits, proved, split, Parts, no_
 abbrev mutual
   pub StandsAt : Skeleton → Round → State → ℕ → State → Type 0
   StandsAt (waits piece) round s n t = (piece ≡ n) × (t ≡ s)
-  StandsAt (proved piece tree) round s n t = (piece ≡ n) × (t ≡ s)
+  StandsAt (proved piece tree) round s n t = (piece ≡ Some n) × (t ≡ s)
   StandsAt (split piece county limit parts raised) round s n t =
       ((piece ≡ Some n) × (t ≡ s))
       ⊎ (StandsIn parts round s n t
