@@ -1,5 +1,5 @@
 -- The skeletons of partial trees, and their numbers.
-use Rattle.std.proofs.Common.{◌≡◌, ℕ, ◌+◌, List, [], ◌∷◌, length, ◌==◌, refl, ap, ◌∙◌, subst, sym, arith, inl, Some}
+use Rattle.std.proofs.Common.{◌≡◌, ℕ, ◌+◌, List, [], ◌∷◌, length, ◌==◌, refl, ap, ◌∙◌, subst, sym, arith, Some}
 use Rattle.std.proofs.lemmas.Bool.Decides.{nat_tests}
 use Rattle.grouping_laws.specs.Sets.{indicator, count}
 use Rattle.grouping_laws.specs.Problem.{Problem}
@@ -8,7 +8,7 @@ use Rattle.certificate_laws.specs.State.{State, close, raise}
 use Rattle.certificate_laws.specs.Groups.{AreGroupsAt}
 use Rattle.certificate_laws.specs.Proving.{limit_of}
 use Rattle.board_laws.specs.Skeleton.{Skeleton, waits, proved, split, part, groups_in, pieces, pieces_in, IsSkeleton, EachIsSkeleton, parts_from, split_from}
-use Rattle.board_laws.specs.Standing.{StandsAt, is_numbered}
+use Rattle.board_laws.specs.Standing.{is_numbered}
 use Rattle.board_laws.specs.PartialTrees.{PartialTree, open_leaf, whole, begun, PartialTakes, no_begun, take_begun, open_leaves, open_in, begun_groups, ProvesPart, EachProvesPart, IsPart, skeleton_from, begun_parts, as_piece, open_takes, open_branch}
 use Rattle.board_laws.proofs.Numbers.{often_append}
 
@@ -77,16 +77,11 @@ mutual
         ap (λ z. indicator (is_numbered z x)) (plus_sum last (open_leaves tree) (open_in others)),
       )
 
--- the root of a part is a branch, so that it has the piece's number and stands where the piece stood
+-- the root of a part is a branch, so that it has the piece's number
 pub piece_count : (x n first : ℕ) (tree : PartialTree) → IsPart tree → count x (pieces (as_piece n (skeleton_from first tree))) ≡ indicator (n == x) + count x (pieces (skeleton_from first tree))
 piece_count x n first open_leaf h = absurd h
 piece_count x n first (whole tree) h = absurd h
 piece_count x n first (begun county limit takes raised) h = refl
-
-pub part_stands : (n first : ℕ) (tree : PartialTree) (round : Round) → IsPart tree → (u : State) → StandsAt (as_piece n (skeleton_from first tree)) round u n u
-part_stands n first open_leaf round h u = absurd h
-part_stands n first (whole tree) round h u = absurd h
-part_stands n first (begun county limit takes raised) round h u = inl (refl, refl)
 
 -- one branch with open leaves alone
 pub open_groups : (groups : List (List ℕ)) → begun_groups (open_takes groups) ≡ groups

@@ -11,8 +11,8 @@ use Rattle.certificate_laws.specs.Proving.{Proves}
 use Rattle.certificate_laws.specs.Certificate.{IsCertificate, TargetFits}
 use Rattle.board_laws.specs.Skeleton.{Skeleton, pieces, waiting, HasTree, WasSplit, joined, IsSkeleton, bare}
 use Rattle.board_laws.specs.Standing.{StandsAt, AreNumbered, Held, Holds}
-use Rattle.board_laws.specs.PartialTrees.{PartialTree, ProvesPart, open_branch}
-use Rattle.board_laws.specs.Content.{Content, Event, result, split_piece, partial, Reply, IsContent, Begins, Splits}
+use Rattle.board_laws.specs.PartialTrees.{PartialTree, open_branch}
+use Rattle.board_laws.specs.Content.{Content, Event, result, split_piece, Reply, IsContent, Begins, Splits}
 use Rattle.board_laws.specs.Content.{Parted, Leads, LeadsOver}
 use Rattle.board_laws.specs.Content.{EventAndReply}
 
@@ -76,7 +76,10 @@ pub record BoardsKeep : Type 0 where
   -- the number of the round never falls, and so an old one never comes again
   pub number : (p : Problem) (depth : ℕ) (b c : Content) (event : Event) (reply : Reply) → Leads p depth b event reply c
       → (c.number ≡ b.number) ⊎ (c.number ≡ b.number + 1)
-  -- what a split does, the part does that is one branch with open leaves alone
+  -- the content after a part is the content of a board, and what a split does, the part does that is one branch with
+  -- open leaves alone
+  pub parted : (p : Problem) (b c : Content) (n : ℕ) (tree : PartialTree) (first many : ℕ) → IsContent p b
+      → Parted p b n tree first many c → IsContent p c
   pub split_is_part : (p : Problem) (b c : Content) (n county limit first many : ℕ)
       → Splits p b n county limit first many c
       → (groups : List (List ℕ)) × Parted p b n (open_branch county limit groups) first many c
@@ -86,20 +89,13 @@ pub record BoardsKeep : Type 0 where
       → number ≢ b.number → Leads p depth b (result number n tree) reply c → c ≡ b
   pub old_split : (p : Problem) (depth : ℕ) (b c : Content) (number n county limit : ℕ) (reply : Reply)
       → number ≢ b.number → Leads p depth b (split_piece number n county limit) reply c → c ≡ b
-  pub old_part : (p : Problem) (depth : ℕ) (b c : Content) (number n : ℕ) (tree : PartialTree) (reply : Reply)
-      → number ≢ b.number → Leads p depth b (partial number n tree) reply c → c ≡ b
   pub late_result : (p : Problem) (depth : ℕ) (b c : Content) (number n : ℕ) (tree : Tree) (reply : Reply)
       → (¬ Contains (waiting b.skeleton) n) → Leads p depth b (result number n tree) reply c → c ≡ b
   pub late_split : (p : Problem) (depth : ℕ) (b c : Content) (number n county limit : ℕ) (reply : Reply)
       → (¬ Contains (waiting b.skeleton) n) → Leads p depth b (split_piece number n county limit) reply c → c ≡ b
-  pub late_part : (p : Problem) (depth : ℕ) (b c : Content) (number n : ℕ) (tree : PartialTree) (reply : Reply)
-      → (¬ Contains (waiting b.skeleton) n) → Leads p depth b (partial number n tree) reply c → c ≡ b
   pub false_result : (p : Problem) (depth : ℕ) (b c : Content) (number n : ℕ) (tree : Tree) (reply : Reply) (s : State)
       → IsContent p b → StandsAt b.skeleton b.round (empty_state p) n s → (¬ Proves tree p b.round s)
       → Leads p depth b (result number n tree) reply c → c ≡ b
-  pub false_part : (p : Problem) (depth : ℕ) (b c : Content) (number n : ℕ) (tree : PartialTree) (reply : Reply)
-      (s : State) → IsContent p b → StandsAt b.skeleton b.round (empty_state p) n s
-      → (¬ ProvesPart tree p b.round s) → Leads p depth b (partial number n tree) reply c → c ≡ b
 
 -- Where two boards hold the same splits and trees, each at the same states, they are the same but for their numbers,
 -- and join to the same tree: it is no matter in which order events came, and which numbers the pieces got.
