@@ -1,0 +1,3 @@
+pub mod PartialLists
+pub mod Spelled
+pub mod Taking

@@ -1,0 +1,30 @@
+use Rattle.std.proofs.Common.{drop}
+use Rattle.connected_sets.specs.Graphs.{graph_problem, graph_order, graph_places}
+use Rattle.certificate_data.specs.RoundValue.{round_of}
+use Rattle.state_groups.specs.PlacedValues.{state_at, codes_of_sets, IsPlaced, IsClosable}
+use Rattle.partial_trees.specs.declared.tree.PartialTree.{out-PartialTree}
+use Rattle.partial_trees.specs.PartialValue.{rest_of, partial_of, list_of_begun, list_onto}
+use Rattle.partial_trees.proofs.PartialLists.{deep, deep_in}
+use Rattle.partial_trees.proofs.Taking.{TakesLeft, PartLeft}
+use Rattle.std.specs.List.{All}
+use Rattle.partial_trees.proofs.judging.+judging.Given as goal
+
+abbrev pub decreases-judge_takes : goal.decreases-judge_takes
+decreases-judge_takes g l = deep_in (list_of_begun l.takes.now)
+
+abbrev pub decreases-judge_part : goal.decreases-judge_part
+decreases-judge_part g l = deep (partial_of l.part.now)
+
+abbrev pub invariant-judge_part-branching : goal.invariant-judge_part-branching
+invariant-judge_part-branching g l = record {
+  placed : IsPlaced (graph_places l.input.graph.now) g.C.CountySet.test l.state;
+  left : PartLeft g.C.CountySet.test (graph_problem l.input.graph.now) (round_of l.input.round.now) (state_at (graph_order l.input.graph.now) g.C.CountySet.test l.fn.state) (list_onto l.branch-items (rest_of (out-PartialTree l.part).rest)) l.fn.open.items
+      (state_at (graph_order l.input.graph.now) g.C.CountySet.test l.state) (list_onto (drop l.branch-index l.branch-items) (rest_of (out-PartialTree l.part).rest)) l.open.items;
+}
+
+abbrev pub invariant-judge_takes-taking : goal.invariant-judge_takes-taking
+invariant-judge_takes-taking g l = record {
+  closable : All (IsClosable g.C.CountySet.test l.state) l.left;
+  taken : TakesLeft g.C.CountySet.test (graph_problem l.input.graph.now) (round_of l.input.round.now) (state_at (graph_order l.input.graph.now) g.C.CountySet.test l.state) (codes_of_sets (graph_order l.input.graph.now) g.C.CountySet.test l.groups) (list_of_begun l.takes) l.fn.open.items
+      (codes_of_sets (graph_order l.input.graph.now) g.C.CountySet.test l.left) (list_of_begun (drop l.take-index l.takes)) l.open.items;
+}

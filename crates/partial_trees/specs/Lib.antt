@@ -1,0 +1,4 @@
+pub mod PartialValue
+pub mod OpenStates
+pub mod Refusals
+pub mod Judged

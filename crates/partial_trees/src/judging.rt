@@ -1,0 +1,218 @@
+//! The verdict on a partial tree at a state.
+
+ghost use Rattle.std.specs.Prelude.{◌≡◌, ◌≤◌, true, false, Some, [], ◌∷◌, ◌++◌, All, map, IfOk, IfErr, OnOk};
+ghost use Rattle.county_codes.specs.Limits.{most_counties};
+ghost use Rattle.connected_sets.specs.Graphs.{graph_problem, graph_order, graph_places, IsGraph};
+ghost use Rattle.certificate_data.specs.RoundValue.{round_of, target_of};
+ghost use Rattle.checker_laws.specs.Verdict.{IsLawfulTarget};
+ghost use Rattle.partial_trees.specs.OpenStates.{open_states};
+ghost use Rattle.state_groups.specs.PlacedValues.{state_at, codes_of_sets, IsPlaced, IsClosable};
+ghost use Rattle.partial_trees.specs.PartialValue.{partial_of, list_of_begun};
+ghost use Rattle.partial_trees.specs.Judged.{IsPartInput, IsTakenPart, AreTakenParts};
+ghost use Rattle.partial_trees.specs.Refusals.{IsPartProof, IsPartRefusal, IsTakesRefusal};
+ghost use Rattle.board_laws.specs.PartialTrees.{whole};
+ghost use Rattle.certificate_data.specs.TreeValue.{tree_of};
+
+use crate::input::PartInput;
+use crate::stop::PartStop;
+use crate::tree::{PartialTake, PartialTree};
+use certificate_checker::{TreeVerdict, check_tree};
+use certificate_data::{Round, Tree};
+use connected_sets::CountyGraph;
+use county_problem::Steps;
+use place_sets::CountySet;
+use state_groups::{State, closed_state, copied_state, raise_place};
+use state_judge::{judge_branch, judge_take};
+use std::alloc::AllocError;
+
+/// Appends `state` to `states`. Returns an error if memory was refused.
+fn keep_state<C: CountySet>(state: State<C>, states: &mut Vec<State<C>>) -> Result<(), AllocError>
+    ensures { OnOk result (states.new.items ≡ states.old.items ++ state ∷ []) }
+{
+    states.push(state)?;
+    Ok(())
+}
+
+/// Returns whether a branch with this `limit` has a line: if it names one, that isn't 0.
+fn has_line(limit: Option<u16>) -> bool
+    ensures some { result ≡ true → limit ≡ Some 0 → ⊥ }
+    ensures none { result ≡ false → limit ≡ Some 0 }
+{
+    match limit {
+        Some(0) => false,
+        _ => true,
+    }
+}
+
+/// Judges a whole `tree` at `state`.
+fn judge_whole<C: CountySet>(
+    input: &PartInput<C>,
+    state: &State<C>,
+    tree: &Tree,
+) -> Result<(), PartStop>
+    requires input { IsPartInput C.PLACES C.test input.now }
+    requires placed { IsPlaced (graph_places input.now.graph.now) C.test state.now }
+    ensures taken { IfOk
+        result
+        (λ _. IsPartProof (graph_problem input.now.graph.now) (round_of input.now.round.now) (state_at (graph_order input.now.graph.now) C.test state.now) (whole (tree_of tree.now))) }
+    ensures refused { IfErr
+        result
+        (IsPartRefusal (graph_problem input.now.graph.now) input.now.budget (round_of input.now.round.now) (state_at (graph_order input.now.graph.now) C.test state.now) (whole (tree_of tree.now))) }
+{
+    match check_tree(
+        input.graph.alloc,
+        input.graph.ordered.problem(),
+        input.round,
+        state,
+        tree,
+        input.budget,
+    ) {
+        Ok(TreeVerdict::Proof) => Ok(()),
+        Ok(TreeVerdict::Fault(_)) => Err(PartStop::NotAProof),
+        Ok(TreeVerdict::Budget) => Err(PartStop::Budget),
+        Err(_) => Err(PartStop::Memory),
+    }
+}
+
+/// Judges the `takes` of a branch at `state`, which have to be those of the `groups`, in order. Appends the states at
+/// their open leaves to `open`.
+#[cycle(judging)]
+fn judge_takes<C: CountySet>(
+    input: &PartInput<C>,
+    state: &State<C>,
+    takes: &[PartialTake],
+    groups: &[C],
+    open: &mut Vec<State<C>>,
+) -> Result<(), PartStop>
+    requires input { IsPartInput C.PLACES C.test input.now }
+    requires placed { IsPlaced (graph_places input.now.graph.now) C.test state.now }
+    requires groups { All (IsClosable C.test state.now) groups.now }
+    ensures taken { IfOk
+        result
+        (λ _. AreTakenParts C.test (graph_problem input.now.graph.now) (round_of input.now.round.now) (state_at (graph_order input.now.graph.now) C.test state.now) (codes_of_sets (graph_order input.now.graph.now) C.test groups.now) (list_of_begun takes.now) open.old.items open.new.items) }
+    ensures refused { IfErr
+        result
+        (IsTakesRefusal (graph_problem input.now.graph.now) input.now.budget (round_of input.now.round.now) (state_at (graph_order input.now.graph.now) C.test state.now) (codes_of_sets (graph_order input.now.graph.now) C.test groups.now) (list_of_begun takes.now)) }
+{
+    let mut left = groups;
+    'taking: for take in takes {
+        match judge_take(input.graph.ordered, left, take.codes.as_slice()) {
+            Ok(()) => {}
+            Err(_) => return Err(PartStop::NotAProof),
+        }
+        let Some((group, others)) = left.split_first() else {
+            return Err(PartStop::NotAProof);
+        };
+        let closed = closed_state(input.graph.alloc, input.graph.ordered, state, group)?;
+        match judge_part(input, closed, &take.tree, open) {
+            Ok(()) => {}
+            Err(stop) => return Err(stop),
+        }
+        left = others;
+    }
+    if !left.is_empty() {
+        return Err(PartStop::NotAProof);
+    }
+    Ok(())
+}
+
+/// Judges `part` at `state`. Appends the states at its open leaves to `open`.
+///
+/// The recursion goes as deep as takes nest.
+#[cycle(judging)]
+fn judge_part<C: CountySet>(
+    input: &PartInput<C>,
+    state: State<C>,
+    part: &PartialTree,
+    open: &mut Vec<State<C>>,
+) -> Result<(), PartStop>
+    requires input { IsPartInput C.PLACES C.test input.now }
+    requires placed { IsPlaced (graph_places input.now.graph.now) C.test state }
+    ensures taken { IfOk
+        result
+        (λ _. IsTakenPart C.test (graph_problem input.now.graph.now) (round_of input.now.round.now) (state_at (graph_order input.now.graph.now) C.test state) (partial_of part.now) open.old.items open.new.items) }
+    ensures refused { IfErr
+        result
+        (IsPartRefusal (graph_problem input.now.graph.now) input.now.budget (round_of input.now.round.now) (state_at (graph_order input.now.graph.now) C.test state) (partial_of part.now)) }
+{
+    let mut state = state;
+    'branching: for branch in &part.branches {
+        if !has_line(branch.limit) {
+            return Err(PartStop::NotAProof);
+        }
+        let mut steps = Steps::new(input.budget);
+        let branching = match judge_branch(
+            input.graph,
+            input.round,
+            &state,
+            branch.county,
+            branch.limit,
+            &mut steps,
+        ) {
+            Ok(branching) => branching,
+            Err(stop) => return Err(PartStop::from(stop)),
+        };
+        match judge_takes(input, &state, &branch.takes, &branching.groups, open) {
+            Ok(()) => {}
+            Err(stop) => return Err(stop),
+        }
+        raise_place(
+            input.graph.ordered,
+            &mut state,
+            branching.place,
+            branching.limit,
+        );
+    }
+    match &part.rest {
+        None => Ok(keep_state(state, open)?),
+        Some(tree) => judge_whole(input, &state, tree),
+    }
+}
+
+/// Judges `part` at `state`, and returns the states at its open leaves, in the order of its lines.
+///
+/// A whole tree in it is judged by `check_tree`. The order has each county of the problem once. The target, if there is
+/// one, is lawful, and the limit is at most 256 counties. The state is by places of the order.
+///
+/// # Errors
+///
+/// Returns `NotAProof` if the part isn't valid at the state or no text spells it. Returns `Budget` only if `budget` is
+/// below the part's cost: three for each of its lines, and three for each set of counties that they ask to look through.
+/// Returns `Memory` if memory was refused.
+pub fn check_part<C: CountySet>(
+    graph: &CountyGraph<C>,
+    round: &Round,
+    state: &State<C>,
+    part: &PartialTree,
+    budget: u64,
+) -> Result<Vec<State<C>>, PartStop>
+    requires graph { IsGraph C.test C.PLACES graph.now }
+    requires order { graph_order graph.now ≡ round.now.order }
+    requires small { round.now.limit ≤ most_counties }
+    requires target { IsLawfulTarget (graph_problem graph.now) (target_of round.now.target) }
+    requires five { All (λ c. c ≤ 99999) (graph_order graph.now) }
+    requires placed { IsPlaced (graph_places graph.now) C.test state.now }
+    ensures proves { IfOk
+        result
+        (λ _. IsPartProof (graph_problem graph.now) (round_of round.now) (state_at (graph_order graph.now) C.test state.now) (partial_of part.now)) }
+    ensures states { IfOk
+        result
+        (λ states. map (state_at (graph_order graph.now) C.test) states.items
+        ≡ open_states (partial_of part.now) (round_of round.now) (state_at (graph_order graph.now) C.test state.now)) }
+    ensures placed { IfOk result (λ states. All (IsPlaced (graph_places graph.now) C.test) states.items) }
+    ensures refused { IfErr
+        result
+        (IsPartRefusal (graph_problem graph.now) budget (round_of round.now) (state_at (graph_order graph.now) C.test state.now) (partial_of part.now)) }
+{
+    let input = PartInput {
+        graph,
+        round,
+        budget,
+    };
+    let mut open = Vec::new(graph.alloc);
+    let state = copied_state(graph.alloc, graph.ordered, state)?;
+    match judge_part(&input, state, part, &mut open) {
+        Ok(()) => Ok(open),
+        Err(stop) => Err(stop),
+    }
+}
