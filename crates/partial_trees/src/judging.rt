@@ -19,11 +19,21 @@ use crate::tree::{PartialTake, PartialTree};
 use certificate_checker::{TreeVerdict, check_tree};
 use certificate_data::{Round, Tree};
 use connected_sets::CountyGraph;
+use county_codes::CountyCode;
 use county_problem::Steps;
 use place_sets::CountySet;
 use state_groups::{State, closed_state, copied_state, raise_place};
 use state_judge::{judge_branch, judge_take};
 use std::alloc::AllocError;
+
+/// Looks at each of the `codes`. A code has at most five digits, which its own contract says.
+fn look_at_codes(codes: &[CountyCode])
+    ensures { All (λ c. c ≤ 99999) codes.now }
+{
+    for code in codes {
+        let _small = code.get();
+    }
+}
 
 /// Appends `state` to `states`. Returns an error if memory was refused.
 fn keep_state<C: CountySet>(state: State<C>, states: &mut Vec<State<C>>) -> Result<(), AllocError>
@@ -190,7 +200,6 @@ pub fn check_part<C: CountySet>(
     requires order { graph_order graph.now ≡ round.now.order }
     requires small { round.now.limit ≤ most_counties }
     requires target { IsLawfulTarget (graph_problem graph.now) (target_of round.now.target) }
-    requires five { All (λ c. c ≤ 99999) (graph_order graph.now) }
     requires placed { IsPlaced (graph_places graph.now) C.test state.now }
     ensures proves { IfOk
         result
@@ -204,6 +213,7 @@ pub fn check_part<C: CountySet>(
         result
         (IsPartRefusal (graph_problem graph.now) budget (round_of round.now) (state_at (graph_order graph.now) C.test state.now) (partial_of part.now)) }
 {
+    look_at_codes(round.order.as_slice());
     let input = PartInput {
         graph,
         round,

@@ -1,18 +1,20 @@
 //! Worked trees and leaves, which no file of the command reaches. From a file of cases come trees, alone and in front
 //! of other text, and lines of words. Then come values without a spelling, and ten thousand trees that are made,
 //! written and read. The next lines tell which leaf is found at the state where nothing is closed, and the checker's
-//! verdict on it. The last lines are verdicts on texts that are pulled from a source a few bytes at a time, or whose
+//! verdict on it, and the verdict on parts at that state. The last lines are verdicts on texts that are pulled from a source a few bytes at a time, or whose
 //! source fails at one pull.
 //!
 //! A case begins with a line `== KIND: NAME`, and its bytes are the lines up to the next such line. In the files
 //! `problems` and `checks` a case of the kind `problem` tells the problem of the cases behind it. `leaf LIMIT` asks for
-//! the leaf that is found, with the grouping of the case as the target. `check` asks for the verdicts on the bytes of
+//! the leaf that is found, with the grouping of the case as the target. `part BUDGET COUNTY LIMIT` asks for the verdict
+//! on a part of one branch, whose leaves are all open, with a take for each line of the case. `check` asks for the verdicts on the bytes of
 //! the case, and `cut` for those on the bytes without the last LF.
 #![tactic(auto)]
 
 mod cases;
 mod generated_trees;
 mod leaves;
+mod parts;
 mod problems;
 mod pulled_texts;
 mod readings;
@@ -22,6 +24,7 @@ mod unspelled_values;
 use crate::cases::{Case, cases_of};
 use crate::generated_trees::round_trips;
 use crate::leaves::leaf_said;
+use crate::parts::part_said;
 use crate::problems::problem_in;
 use crate::pulled_texts::show_check;
 use crate::readings::reading;
@@ -57,19 +60,23 @@ fn show_unspelled(rt: &HostRuntime) -> Result<()> {
     Ok(())
 }
 
-/// Prints which leaf is found over the problem in front of a `case`. If the case tells a problem, keeps that instead.
+/// Prints which leaf is found over the problem in front of a `case`, or what is said of its part. If the case tells a
+/// problem, keeps that instead.
 fn show_leaf(rt: &HostRuntime, problem: &mut Option<Problem>, case: &Case) -> Result<()> {
-    let Some(limit) = case.kind.strip_prefix("leaf ") else {
+    let Some((kind, words)) = case.kind.split_once(' ') else {
         *problem = Some(problem_in(rt.alloc(), &case.bytes)?);
         return Ok(());
     };
     let problem = problem.as_ref().context("a problem")?;
-    let said = leaf_said(rt.alloc(), problem, limit.parse::<u16>()?, &case.bytes)?;
+    let said = match kind {
+        "part" => part_said(rt.alloc(), problem, words, &case.bytes)?,
+        _ => leaf_said(rt.alloc(), problem, words.parse::<u16>()?, &case.bytes)?,
+    };
     println!(rt; "{}: {said}", case.name)?;
     Ok(())
 }
 
-/// Prints which leaves are found over the problems of the file.
+/// Prints which leaves are found over the problems of the file, and what is said of parts.
 fn show_leaves(rt: &HostRuntime) -> Result<()> {
     let text = fs::read(rt, "problems")?;
     let mut problem = None;

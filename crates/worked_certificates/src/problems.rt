@@ -17,7 +17,7 @@ struct Sketch {
 }
 
 /// Parses the two numbers that a `text` spells, with a blank between them.
-fn two_numbers(text: &str) -> Result<(u32, u32)> {
+pub(crate) fn two_numbers(text: &str) -> Result<(u32, u32)> {
     let (first, second) = text.split_once(' ').context("a number is missing")?;
     Ok((first.parse::<u32>()?, second.parse::<u32>()?))
 }
