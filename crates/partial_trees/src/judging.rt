@@ -85,21 +85,21 @@ fn judge_whole<C: CountySet>(
 }
 
 /// Judges the `takes` of a branch at `state`, which have to be those of the `groups`, in order. Appends the states at
-/// their open leaves to `open`.
+/// their open leaves to `states`.
 #[cycle(judging)]
 fn judge_takes<C: CountySet>(
     input: &PartInput<C>,
     state: &State<C>,
     takes: &[PartialTake],
     groups: &[C],
-    open: &mut Vec<State<C>>,
+    states: &mut Vec<State<C>>,
 ) -> Result<(), PartStop>
     requires input { IsPartInput C.PLACES C.test input.now }
     requires placed { IsPlaced (graph_places input.now.graph.now) C.test state.now }
     requires groups { All (IsClosable C.test state.now) groups.now }
     ensures taken { IfOk
         result
-        (λ _. AreTakenParts C.test (graph_problem input.now.graph.now) (round_of input.now.round.now) (state_at (graph_order input.now.graph.now) C.test state.now) (codes_of_sets (graph_order input.now.graph.now) C.test groups.now) (list_of_begun takes.now) open.old.items open.new.items) }
+        (λ _. AreTakenParts C.test (graph_problem input.now.graph.now) (round_of input.now.round.now) (state_at (graph_order input.now.graph.now) C.test state.now) (codes_of_sets (graph_order input.now.graph.now) C.test groups.now) (list_of_begun takes.now) states.old.items states.new.items) }
     ensures refused { IfErr
         result
         (IsTakesRefusal (graph_problem input.now.graph.now) input.now.budget (round_of input.now.round.now) (state_at (graph_order input.now.graph.now) C.test state.now) (codes_of_sets (graph_order input.now.graph.now) C.test groups.now) (list_of_begun takes.now)) }
@@ -114,7 +114,7 @@ fn judge_takes<C: CountySet>(
             return Err(PartStop::NotAProof);
         };
         let closed = closed_state(input.graph.alloc, input.graph.ordered, state, group)?;
-        match judge_part(input, closed, &take.tree, open) {
+        match judge_part(input, closed, &take.tree, states) {
             Ok(()) => {}
             Err(stop) => return Err(stop),
         }
@@ -126,7 +126,7 @@ fn judge_takes<C: CountySet>(
     Ok(())
 }
 
-/// Judges `part` at `state`. Appends the states at its open leaves to `open`.
+/// Judges `part` at `state`. Appends the states at its open leaves to `states`.
 ///
 /// The recursion goes as deep as takes nest.
 #[cycle(judging)]
@@ -134,13 +134,13 @@ fn judge_part<C: CountySet>(
     input: &PartInput<C>,
     state: State<C>,
     part: &PartialTree,
-    open: &mut Vec<State<C>>,
+    states: &mut Vec<State<C>>,
 ) -> Result<(), PartStop>
     requires input { IsPartInput C.PLACES C.test input.now }
     requires placed { IsPlaced (graph_places input.now.graph.now) C.test state }
     ensures taken { IfOk
         result
-        (λ _. IsTakenPart C.test (graph_problem input.now.graph.now) (round_of input.now.round.now) (state_at (graph_order input.now.graph.now) C.test state) (partial_of part.now) open.old.items open.new.items) }
+        (λ _. IsTakenPart C.test (graph_problem input.now.graph.now) (round_of input.now.round.now) (state_at (graph_order input.now.graph.now) C.test state) (partial_of part.now) states.old.items states.new.items) }
     ensures refused { IfErr
         result
         (IsPartRefusal (graph_problem input.now.graph.now) input.now.budget (round_of input.now.round.now) (state_at (graph_order input.now.graph.now) C.test state) (partial_of part.now)) }
@@ -162,7 +162,7 @@ fn judge_part<C: CountySet>(
             Ok(branching) => branching,
             Err(stop) => return Err(PartStop::from(stop)),
         };
-        match judge_takes(input, &state, &branch.takes, &branching.groups, open) {
+        match judge_takes(input, &state, &branch.takes, &branching.groups, states) {
             Ok(()) => {}
             Err(stop) => return Err(stop),
         }
@@ -174,7 +174,7 @@ fn judge_part<C: CountySet>(
         );
     }
     match &part.rest {
-        None => Ok(keep_state(state, open)?),
+        None => Ok(keep_state(state, states)?),
         Some(tree) => judge_whole(input, &state, tree),
     }
 }
@@ -219,10 +219,10 @@ pub fn check_part<C: CountySet>(
         round,
         budget,
     };
-    let mut open = Vec::new(graph.alloc);
+    let mut states = Vec::new(graph.alloc);
     let state = copied_state(graph.alloc, graph.ordered, state)?;
-    match judge_part(&input, state, part, &mut open) {
-        Ok(()) => Ok(open),
+    match judge_part(&input, state, part, &mut states) {
+        Ok(()) => Ok(states),
         Err(stop) => Err(stop),
     }
 }

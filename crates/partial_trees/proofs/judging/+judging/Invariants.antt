@@ -18,13 +18,13 @@ decreases-judge_part g l = deep (partial_of l.part.now)
 abbrev pub invariant-judge_part-branching : goal.invariant-judge_part-branching
 invariant-judge_part-branching g l = record {
   placed : IsPlaced (graph_places l.input.graph.now) g.C.CountySet.test l.state;
-  left : PartLeft g.C.CountySet.test (graph_problem l.input.graph.now) (round_of l.input.round.now) (state_at (graph_order l.input.graph.now) g.C.CountySet.test l.fn.state) (list_onto l.branch-items (rest_of (out-PartialTree l.part).rest)) l.fn.open.items
-      (state_at (graph_order l.input.graph.now) g.C.CountySet.test l.state) (list_onto (drop l.branch-index l.branch-items) (rest_of (out-PartialTree l.part).rest)) l.open.items;
+  left : PartLeft g.C.CountySet.test (graph_problem l.input.graph.now) (round_of l.input.round.now) (state_at (graph_order l.input.graph.now) g.C.CountySet.test l.fn.state) (list_onto l.branch-items (rest_of (out-PartialTree l.part).rest)) l.fn.states.items
+      (state_at (graph_order l.input.graph.now) g.C.CountySet.test l.state) (list_onto (drop l.branch-index l.branch-items) (rest_of (out-PartialTree l.part).rest)) l.states.items;
 }
 
 abbrev pub invariant-judge_takes-taking : goal.invariant-judge_takes-taking
 invariant-judge_takes-taking g l = record {
   closable : All (IsClosable g.C.CountySet.test l.state) l.left;
-  taken : TakesLeft g.C.CountySet.test (graph_problem l.input.graph.now) (round_of l.input.round.now) (state_at (graph_order l.input.graph.now) g.C.CountySet.test l.state) (codes_of_sets (graph_order l.input.graph.now) g.C.CountySet.test l.groups) (list_of_begun l.takes) l.fn.open.items
-      (codes_of_sets (graph_order l.input.graph.now) g.C.CountySet.test l.left) (list_of_begun (drop l.take-index l.takes)) l.open.items;
+  taken : TakesLeft g.C.CountySet.test (graph_problem l.input.graph.now) (round_of l.input.round.now) (state_at (graph_order l.input.graph.now) g.C.CountySet.test l.state) (codes_of_sets (graph_order l.input.graph.now) g.C.CountySet.test l.groups) (list_of_begun l.takes) l.fn.states.items
+      (codes_of_sets (graph_order l.input.graph.now) g.C.CountySet.test l.left) (list_of_begun (drop l.take-index l.takes)) l.states.items;
 }
