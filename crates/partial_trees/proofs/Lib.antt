@@ -1,3 +1,4 @@
 pub mod PartialLists
 pub mod Spelled
 pub mod Taking
+pub mod Standing

@@ -2,3 +2,4 @@ pub mod PartialValue
 pub mod OpenStates
 pub mod Refusals
 pub mod Judged
+pub mod Laws

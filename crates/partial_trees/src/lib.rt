@@ -7,9 +7,11 @@
 
 mod input;
 mod judging;
+mod laws;
 mod stop;
 mod tree;
 
 pub use judging::check_part;
+pub use laws::parts_stand;
 pub use stop::PartStop;
 pub use tree::{PartialBranch, PartialTake, PartialTree};
