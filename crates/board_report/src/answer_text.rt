@@ -4,14 +4,30 @@ ghost use Rattle.std.specs.Prelude.{◌≡◌, ◌≤◌, ℕ, [], ◌∷◌, If
 ghost use Rattle.certificate_lines.specs.Lines.{most};
 ghost use Rattle.share_board.specs.Events.{event_of};
 ghost use Rattle.board_events.specs.Spelling.{text_of_event, HasSpelling, EventsAreSpelled};
-ghost use Rattle.board_report.specs.PieceText.{event_in, piece_text_of, HasText};
+ghost use Rattle.partial_trees.specs.PartialValue.{partial_of};
+ghost use Rattle.board_report.specs.PieceText.{event_in, split_in, piece_text_of, HasText};
 
 use board_events::write_event;
 use branch_bound::Piece;
 use certificate_data::Format;
 use certificate_lines::WriteFault;
+use partial_trees::PartialTree;
 use share_board::Event;
 use std::alloc::{AllocError, Global};
+
+/// Returns the event that splits the piece with this `number` in the round with the number `round` at the first branch
+/// of `part`. Returns `None` if that branch names no limit, as in a plain round.
+fn first_split(part: &PartialTree, round: u32, number: u32) -> Option<Event>
+    ensures { option_map event_of result ≡ split_in round number (partial_of part.now) }
+{
+    match part.branches.first() {
+        Some(branch) => match branch.limit {
+            Some(limit) => Some(Event::Split(round, number, branch.county, limit)),
+            None => None,
+        },
+        None => None,
+    }
+}
 
 /// Returns the event that gives the answer to a board, if there is one.
 fn answer_event(piece: &Piece, round: u32, number: u32) -> Result<Option<Event>, AllocError>
@@ -21,13 +37,19 @@ fn answer_event(piece: &Piece, round: u32, number: u32) -> Result<Option<Event>,
         Piece::Proved(tree) => Ok(Some(Event::Result(round, number, tree.copy()?))),
         Piece::Better(grouping) => Ok(Some(Event::Better(round, grouping.copy()?))),
         Piece::Wider(_) => Ok(Some(Event::Wider(round))),
-        Piece::Open(Some(split)) => Ok(Some(Event::Split(
-            round,
-            number,
-            split.county,
-            split.limit,
-        ))),
+        Piece::Open(Some(part)) => Ok(first_split(part, round, number)),
         Piece::Open(None) => Ok(None),
+    }
+}
+
+/// Returns whether some event gives the answer `piece` to a board.
+pub fn has_event(piece: &Piece) -> bool
+    ensures { (round number : ℕ) → result ≡ is_some (event_in round number piece.now) }
+{
+    match piece {
+        Piece::Proved(_) | Piece::Better(_) | Piece::Wider(_) => true,
+        Piece::Open(Some(part)) => first_split(part, 0, 0).is_some(),
+        Piece::Open(None) => false,
     }
 }
 

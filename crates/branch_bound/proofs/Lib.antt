@@ -4,3 +4,4 @@ pub mod Searches
 pub mod Orders
 pub mod Rounds
 pub mod PlainStates
+pub mod OpenParts

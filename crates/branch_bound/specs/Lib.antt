@@ -1,3 +1,4 @@
+pub mod Parts
 pub mod Searching
 pub mod Answers
 pub mod Solving

@@ -1,35 +1,35 @@
 -- What a solver answers of a piece of a round: a state.
-use Rattle.std.specs.Prelude.{◌≡◌, ◌≤◌, Option, Some, None, ⊤}
+use Rattle.std.specs.Prelude.{Some, None, ⊤}
 use Rattle.grouping_laws.specs.Problem.{Problem}
 use Rattle.certificate_data.specs.TreeValue.{tree_of}
-use Rattle.certificate_data.specs.declared.format.Format.TheVariants.{Wide}
 use Rattle.certificate_data.specs.Round.{Round}
 use Rattle.certificate_laws.specs.Certificate.{HasGroupsWithin}
 use Rattle.certificate_laws.specs.State.{State}
-use Rattle.certificate_laws.specs.Proving.{Proves, CanBranch}
+use Rattle.certificate_laws.specs.Proving.{Proves}
 use Rattle.certificate_laws.specs.Search.{IsFound}
 use Rattle.certificate_text.specs.TreeItems.{HasLines, HasTargetLines}
+use Rattle.board_laws.specs.PartialTrees.{IsPart}
+use Rattle.partial_trees.specs.PartialValue.{partial_of}
+use Rattle.partial_trees.specs.Refusals.{IsPartProof}
+use Rattle.partial_trees.specs.OpenBranches.{BranchesAreOpen}
 use Rattle.branch_bound.specs.declared.piece.Piece.{Piece}
 use Rattle.branch_bound.specs.declared.piece.Piece.TheVariants.{Proved, Better, Wider, Open}
-use Rattle.branch_bound.specs.declared.piece.Split.{Split}
-
--- in a wide round one may branch there, by groups of one county at least
-abbrev pub IsSplit : Round → State → Option Split → Type 0
-IsSplit round s None = ⊤
-IsSplit round s (Some split) = (round.format ≡ Wide) × (1 ≤ split.limit) × CanBranch round s split.county split.limit
 
 -- A proof tree of the state that a text spells, a lawful grouping that agrees with the state and is greater than the
--- target, or a branch that the state may be split at. A grouping that is within the limit is one that a text spells.
+-- target, or a partial tree of the state that texts spell. A grouping that is within the limit is one that a text
+-- spells.
 abbrev pub IsPiece : Problem → Round → State → Piece → Type 0
 IsPiece p round s (Proved tree) = Proves (tree_of tree) p round s × HasLines round.format (tree_of tree)
 IsPiece p round s (Better g) =
     IsFound p round s g.groups.items × HasGroupsWithin round.limit g.groups.items × HasTargetLines g.groups.items
 IsPiece p round s (Wider g) = IsFound p round s g.groups.items × ¬ HasGroupsWithin round.limit g.groups.items
-IsPiece p round s (Open split) = IsSplit round s split
+IsPiece p round s (Open None) = ⊤
+IsPiece p round s (Open (Some part)) =
+    IsPart (partial_of part) × IsPartProof p round s (partial_of part) × BranchesAreOpen (partial_of part)
 
 -- the steps ran out
 abbrev pub IsOpen : Piece → Type 0
 IsOpen (Proved tree) = ⊥
 IsOpen (Better g) = ⊥
 IsOpen (Wider g) = ⊥
-IsOpen (Open split) = ⊤
+IsOpen (Open part) = ⊤

@@ -1,5 +1,5 @@
 -- What a search by branch and bound keeps at a state, and what it answers.
-use Rattle.std.specs.Prelude.{ℕ, ◌+◌, ◌≡◌, ◌<◌, Bool, List, ◌∷◌, filter, length, All, AllPairs}
+use Rattle.std.specs.Prelude.{ℕ, ◌+◌, ◌≡◌, ◌<◌, Bool, List, ◌∷◌, filter, length, All, AllPairs, ⊤}
 use Rattle.std.specs.List.{AllByRecursion}
 use Rattle.county_codes.specs.declared.group.Grouping.{Grouping as GroupingHeld}
 use Rattle.grouping_laws.specs.Sets.{contains}
@@ -24,6 +24,8 @@ use Rattle.certificate_lines.specs.declared.item.Item.TheVariants as item
 use Rattle.state_groups.specs.PlacedValues.{codes_of_sets}
 use Rattle.certificate_text.specs.TreeItems.{FitsInTree, HasLines, HasTargetLines}
 use Rattle.search_ends.specs.GivenLeaf.{IsGivenLeaf}
+use Rattle.partial_trees.specs.PartialValue.{partial_of}
+use Rattle.branch_bound.specs.Parts.{IsOpenPart}
 use Rattle.search_groups.specs.declared.input.SearchInput.{SearchInput}
 pub use Rattle.search_groups.specs.Positions.{search_problem, search_round, search_state, IsSearchInput, IsLargerAt, IsPositionAt, IsChoice}
 use Rattle.branch_bound.specs.declared.outcome.SearchOutcome.{SearchOutcome}
@@ -62,6 +64,13 @@ pub record IsBetter (p : Problem) (round : Round) (s : State) (g : GroupingHeld)
 abbrev pub IsOutcome : Problem → Round → State → SearchOutcome → Type 0
 IsOutcome p round s (outcome.Proved tree) = IsProof p round s tree
 IsOutcome p round s (outcome.Better g) = IsBetter p round s g
+IsOutcome p round s (outcome.Open part) = IsOpenPart p round s (partial_of part)
+
+-- the steps ran out at the state
+abbrev pub IsStopped : SearchOutcome → Type 0
+IsStopped (outcome.Proved tree) = ⊥
+IsStopped (outcome.Better g) = ⊥
+IsStopped (outcome.Open part) = ⊤
 
 -- a take of the group, with its proof tree
 pub record IsTakeOf (p : Problem) (round : Round) (s : State) (group : List ℕ) (t : Take) : Type 0 where
@@ -74,6 +83,13 @@ pub record IsTakeOf (p : Problem) (round : Round) (s : State) (group : List ℕ)
 abbrev pub IsTakenGroup : Problem → Round → State → List ℕ → Taken → Type 0
 IsTakenGroup p round s group (taken.Proved t) = IsTakeOf p round s group t
 IsTakenGroup p round s group (taken.Better g) = IsBetter p round s g
+IsTakenGroup p round s group (taken.Open part) = IsOpenPart p round (close group s) (partial_of part)
+
+-- the steps ran out in the take
+abbrev pub IsTakeStopped : Taken → Type 0
+IsTakeStopped (taken.Proved t) = ⊥
+IsTakeStopped (taken.Better g) = ⊥
+IsTakeStopped (taken.Open part) = ⊤
 
 -- takes of these groups, each with its proof tree
 pub record AreTakesOf (p : Problem) (round : Round) (s : State) (groups : List (List ℕ))
@@ -83,11 +99,18 @@ pub record AreTakesOf (p : Problem) (round : Round) (s : State) (groups : List (
   pub lines : AllByRecursion (FitsInTree round.format) (items_of_takes (list_of_takes list))
   pub complete : TargetFits p round.limit round.target → EachIsComplete (list_of_takes list) p round s
 
--- all takes of a branch, each with its proof tree
+-- All takes of a branch, each with its proof tree. Where the steps ran out, it is a partial tree of the state.
 abbrev pub AreTakesAt : Problem → Round → State → ℕ → ℕ → Takes → Type 0
 AreTakesAt p round s county limit (takes.Proved list) =
     (groups : List (List ℕ)) × AreGroupsAt p round s county limit groups × AreTakesOf p round s groups list.items
 AreTakesAt p round s county limit (takes.Better g) = IsBetter p round s g
+AreTakesAt p round s county limit (takes.Open part) = IsOpenPart p round s (partial_of part)
+
+-- the steps ran out before all takes were proved
+abbrev pub AreTakesStopped : Takes → Type 0
+AreTakesStopped (takes.Proved list) = ⊥
+AreTakesStopped (takes.Better g) = ⊥
+AreTakesStopped (takes.Open part) = ⊤
 
 -- a leaf that is valid, a grouping that is better, or a county to branch at
 abbrev pub IsNextMove : {C : Type 0} → (C → ℕ → Bool) → SearchInput C → State → Move C → Type 0

@@ -21,6 +21,7 @@ mod answer;
 mod judging;
 mod larger_groups;
 mod outcome;
+mod parts;
 mod piece;
 mod pieces;
 mod plain_judging;
@@ -30,7 +31,7 @@ mod solving;
 mod watcher;
 
 pub use answer::Answer;
-pub use piece::{Piece, Split};
+pub use piece::Piece;
 pub use pieces::prove_piece;
 pub use solving::{solve, solve_over, solve_watched};
 pub use watcher::{NoWatcher, Watcher};

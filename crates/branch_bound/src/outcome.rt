@@ -2,6 +2,7 @@
 
 use certificate_data::{Certificate, Leaf, Take, Tree};
 use county_codes::Grouping;
+use partial_trees::PartialTree;
 use search_groups::Position;
 
 /// What a search finds at a state.
@@ -11,6 +12,8 @@ pub(crate) enum SearchOutcome {
     Proved(Tree),
     /// A lawful grouping that agrees with the state and is greater than the target.
     Better(Grouping),
+    /// The steps ran out. What was proved by then is a partial tree of the state.
+    Open(PartialTree),
 }
 
 /// How a state ends, or how the search goes on.
@@ -42,6 +45,8 @@ pub(crate) enum Taken {
     Proved(Take),
     /// A greater grouping was found where its group is closed.
     Better(Grouping),
+    /// The steps ran out. What was proved by then is a partial tree of the state where its group is closed.
+    Open(PartialTree),
 }
 
 /// What the search of all takes of a branch ends with.
@@ -51,15 +56,8 @@ pub(crate) enum Takes {
     Proved(Vec<Take>),
     /// A greater grouping was found where the group of one of them is closed.
     Better(Grouping),
-}
-
-/// Where a search goes on after the takes of a branch.
-#[derive(Drop)]
-pub(crate) enum Raised<C> {
-    /// The position where the county of the branch is raised.
-    At(Position<C>),
-    /// A greater grouping was found among the takes of the branch.
-    Better(Grouping),
+    /// The steps ran out. What was proved by then is a partial tree of the state of the branch.
+    Open(PartialTree),
 }
 
 /// What a search begins with.

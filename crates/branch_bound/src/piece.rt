@@ -1,17 +1,8 @@
-//! The solver's answer to a piece of a shared proof, and the branch at which a piece may be split.
+//! The solver's answer to a piece of a shared proof.
 
 use certificate_data::Tree;
-use county_codes::{CountyCode, Grouping};
-
-/// A branch at which a piece may be split. There is one new piece for each group that fits, has the county and has at
-/// most `limit` counties. In one more piece the county is raised past the limit.
-#[derive(Clone, Copy, Debug, PartialEq, Eq, Drop)]
-pub struct Split {
-    /// The county.
-    pub county: CountyCode,
-    /// The greatest number of counties in a group of the branch.
-    pub limit: u16,
-}
+use county_codes::Grouping;
+use partial_trees::PartialTree;
 
 /// The solver's answer to a piece, which is a state of a round.
 #[derive(Debug, Drop)]
@@ -22,7 +13,7 @@ pub enum Piece {
     Better(Grouping),
     /// A lawful grouping that agrees with the state and is greater than the target, with a group above the limit.
     Wider(Grouping),
-    /// The steps ran out. In a wide round, this has the first branch that the search made at the state, if it came to
-    /// one.
-    Open(Option<Split>),
+    /// The steps ran out. If the search began a branch at the state, this has what was proved by then: a partial tree
+    /// of the state, each of whose branches has an open leaf.
+    Open(Option<PartialTree>),
 }

@@ -1,32 +1,34 @@
 //! The search of a piece of a round, from its state.
 
-ghost use Rattle.std.specs.Prelude.{◌≡◌, ℕ, ◌≤◌, ◌<◌, ◌↔◌, IsTrue, length, IfOk, IsErrOf};
+ghost use Rattle.std.specs.Prelude.{◌≡◌, ℕ, ◌≤◌, ◌<◌, ◌↔◌, IsTrue, length, IfOk};
 ghost use Rattle.county_codes.specs.Limits.{most_counties};
-ghost use Rattle.connected_sets.specs.Graphs.{graph_order, graph_places, place_problem};
+ghost use Rattle.connected_sets.specs.Graphs.{graph_places};
 ghost use Rattle.certificate_laws.specs.Certificate.{HasGroupsWithin};
 ghost use Rattle.certificate_laws.specs.State.{IsState};
+ghost use Rattle.certificate_data.specs.Round.{Round as RoundValue};
 ghost use Rattle.certificate_data.specs.RoundValue.{round_of};
 ghost use Rattle.certificate_laws.specs.State.{State as StateValue};
 ghost use Rattle.grouping_laws.specs.Problem.{Problem as ProblemLaw};
 ghost use Rattle.grouping_laws.specs.GroupsFrom.{IsOrder};
 ghost use Rattle.county_problem.specs.ProblemValue.{problem_of};
-ghost use Rattle.search_groups.specs.PartLists.{AreListsOf};
 ghost use Rattle.state_groups.specs.PlacedValues.{state_at, IsPlaced};
 ghost use Rattle.branch_bound.specs.PlainRounds.{IsPlainGround, IsStateOf};
 ghost use Rattle.branch_bound.specs.Searching.{search_problem, search_round, search_state, IsSearchInput, IsPositionAt};
-ghost use Rattle.branch_bound.specs.Searching.{IsBetter, IsChoice, IsOutcome};
+ghost use Rattle.branch_bound.specs.Searching.{IsBetter, IsOutcome, IsStopped};
+ghost use Rattle.partial_trees.specs.PartialValue.{partial_of};
+ghost use Rattle.branch_bound.specs.Parts.{IsOpenPart};
 ghost use Rattle.branch_bound.specs.Pieces.{IsPiece, IsOpen};
 
-use crate::judging::next_move;
-use crate::outcome::{Move, SearchOutcome};
-use crate::piece::{Piece, Split};
+use crate::outcome::SearchOutcome;
+use crate::piece::Piece;
 use crate::plain_search::prove_plain;
 use crate::search::prove;
 use crate::watcher::NoWatcher;
-use certificate_data::{Format, Round, Tree};
-use connected_sets::{CountyGraph, Stop};
+use certificate_data::{Format, Round};
+use connected_sets::CountyGraph;
 use county_codes::Grouping;
 use county_problem::{OrderFault, Ordered, Problem, Steps};
+use partial_trees::PartialTree;
 use place_sets::CountySet;
 use search_groups::{PartLists, Position, SearchInput};
 use state_groups::{State, copied_state};
@@ -57,15 +59,28 @@ fn found_piece(round: &Round, found: Grouping) -> Piece
     }
 }
 
+/// Returns the answer where the steps ran out, given the `part` that was proved by then.
+fn open_piece(part: PartialTree) -> Piece
+    ensures piece { (p : ProblemLaw) (round : RoundValue) (s : StateValue) → IsOpenPart p round s (partial_of part)
+        → IsPiece p round s result }
+    ensures open { IsOpen result }
+{
+    if part.branches.is_empty() {
+        return Piece::Open(None);
+    }
+    Piece::Open(Some(part))
+}
+
 /// Returns the answer for an `outcome` of the search.
 fn piece_of(round: &Round, outcome: SearchOutcome) -> Piece
     ensures piece { (p : ProblemLaw) (s : StateValue) → IsOutcome p (round_of round.now) s outcome
         → IsPiece p (round_of round.now) s result }
-    ensures closed { ¬ IsOpen result }
+    ensures open { IsOpen result ↔ IsStopped outcome }
 {
     match outcome {
         SearchOutcome::Proved(tree) => Piece::Proved(tree),
         SearchOutcome::Better(found) => found_piece(round, found),
+        SearchOutcome::Open(part) => open_piece(part),
     }
 }
 
@@ -85,35 +100,6 @@ fn begun<C: CountySet>(input: &SearchInput<C>, state: &State<C>) -> Result<Posit
     })
 }
 
-/// Returns the answer for a piece at whose state the search branches at the county at `place`.
-fn branched_piece<C: CountySet>(
-    input: &SearchInput<C>,
-    place: u16,
-    at: Position<C>,
-    lists: &mut PartLists<C>,
-    steps: &mut Steps,
-) -> Result<Piece, AllocError>
-    requires input { IsSearchInput C.PLACES C.test input.now }
-    requires at { IsPositionAt C.test input.now (search_state input.now C.test at.state) at }
-    requires choice { IsChoice C.test (graph_order input.now.graph.now) at.groups.items place }
-    requires lists { AreListsOf C.test (place_problem input.now.graph.now) (graph_places input.now.graph.now) lists.old }
-    ensures piece { IfOk result (IsPiece (search_problem input.now) (search_round input.now) (search_state input.now C.test at.state)) }
-    ensures limit { steps.new.limit ≡ steps.old.limit }
-    ensures counted { IfOk result (λ piece. ¬ IsOpen piece → steps.old.used < steps.new.used) }
-    ensures more { steps.old.used ≤ steps.new.used }
-    ensures open { IfOk result (λ piece. IsOpen piece → steps.new.used ≡ steps.new.limit) }
-{
-    let split = Split {
-        county: input.graph.ordered.code(place),
-        limit: at.size,
-    };
-    match prove(input, at, lists, &mut NoWatcher, steps) {
-        Ok(outcome) => Ok(piece_of(input.round, outcome)),
-        Err(Stop::StepLimit) => Ok(Piece::Open(Some(split))),
-        Err(Stop::Memory) => Err(AllocError),
-    }
-}
-
 /// Returns the answer for a piece of a wide round, whose state is `state`.
 fn wide_piece<C: CountySet>(
     input: &SearchInput<C>,
@@ -131,16 +117,8 @@ fn wide_piece<C: CountySet>(
 {
     let position = begun(input, state)?;
     let mut lists = PartLists::new(input.graph.alloc);
-    match next_move(input, position, &mut lists, steps) {
-        Ok(Move::Leaf(leaf)) => {
-            let branches = Vec::new(input.graph.alloc);
-            Ok(Piece::Proved(Tree { branches, leaf }))
-        }
-        Ok(Move::Better(found)) => Ok(found_piece(input.round, found)),
-        Ok(Move::Branch(place, at)) => branched_piece(input, place, at, &mut lists, steps),
-        Err(Stop::StepLimit) => Ok(Piece::Open(None)),
-        Err(Stop::Memory) => Err(AllocError),
-    }
+    let outcome = prove(input, position, &mut lists, &mut NoWatcher, steps)?;
+    Ok(piece_of(input.round, outcome))
 }
 
 /// Returns the answer for a piece of a plain round, whose state is `state`.
@@ -158,11 +136,8 @@ fn plain_piece<C: CountySet>(
     ensures open { IfOk result (λ piece. IsOpen piece → steps.new.used ≡ steps.new.limit) }
 {
     let copy = copied_state(input.graph.alloc, input.graph.ordered, state)?;
-    match prove_plain(input, copy, steps) {
-        Ok(outcome) => Ok(piece_of(input.round, outcome)),
-        Err(Stop::StepLimit) => Ok(Piece::Open(None)),
-        Err(Stop::Memory) => Err(AllocError),
-    }
+    let outcome = prove_plain(input, copy, steps)?;
+    Ok(piece_of(input.round, outcome))
 }
 
 /// Returns the answer for a piece by the round's order of counties.
@@ -199,8 +174,8 @@ fn ordered_piece<C: CountySet>(
 /// agrees with the state, or that the steps ran out.
 ///
 /// The round's order names each county of the problem once, and its limit is at most 256. The state is one of the round
-/// by the places of the order. If the steps ran out in a wide round, the answer has the branch that the search made
-/// first, so that the piece can be split there. It has none if the steps ran out before that branch.
+/// by the places of the order. If the steps ran out, the answer has a partial tree of the state: what was proved by
+/// then, and an open leaf for each state that is left. It has none if the steps ran out before the first branch.
 ///
 /// A step is a state that is entered, a set that is grown, a group that is tested for being live, or a look for the
 /// list of a part. All steps are taken from `steps`: at least one, unless the steps ran out.

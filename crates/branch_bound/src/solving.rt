@@ -1,6 +1,6 @@
 //! The solver: rounds of the search, each from the state at which nothing is closed.
 
-ghost use Rattle.std.specs.Prelude.{◌≡◌, ℕ, ◌≤◌, ◌<◌, Some, None, length, All, IfOk, OnOk, IsErrOf};
+ghost use Rattle.std.specs.Prelude.{◌≡◌, ℕ, ◌≤◌, ◌<◌, Some, None, length, All, IfOk, OnOk};
 ghost use Rattle.std.specs.List.Sorted.{IsStrictlyIncreasing};
 ghost use Rattle.county_codes.specs.Limits.{most_counties};
 ghost use Rattle.county_codes.specs.Windows.{FitsRange};
@@ -12,9 +12,8 @@ ghost use Rattle.certificate_data.specs.RoundValue.{round_of, target_of};
 ghost use Rattle.certificate_laws.specs.Leaves.{IsStuck, IsOffSeats};
 ghost use Rattle.certificate_laws.specs.State.{empty_state};
 ghost use Rattle.state_groups.specs.PlacedValues.{state_at, IsPlaced};
-ghost use Rattle.connected_sets.specs.declared.stop.Stop.{Stop};
 ghost use Rattle.search_groups.specs.PartLists.{AreListsOf};
-ghost use Rattle.branch_bound.specs.Searching.{IsOutcome, IsProof};
+ghost use Rattle.branch_bound.specs.Searching.{IsOutcome, IsProof, IsStopped};
 ghost use Rattle.branch_bound.specs.Solving.{round_over, IsTarget, IsFirst};
 ghost use Rattle.search_ends.specs.GivenLeaf.{IsGivenLeaf};
 ghost use Rattle.branch_bound.specs.Answers.{IsSolveAnswer, Certifies, SolveIsRight, HasCompleteTree, SaysWhether};
@@ -24,7 +23,7 @@ use crate::outcome::{First, SearchOutcome};
 use crate::search::prove;
 use crate::watcher::{NoWatcher, Watcher};
 use certificate_data::{Certificate, Format, Leaf, Round, Tree};
-use connected_sets::{CountyGraph, Stop};
+use connected_sets::CountyGraph;
 use county_codes::{Codes, Grouping, listed_codes};
 use county_problem::{OrderFault, Ordered, Problem, Steps};
 use place_sets::{CountySet, MaskSet, Places, fits_mask};
@@ -93,17 +92,17 @@ fn prove_first<C: CountySet, W: Watcher>(
     lists: &mut PartLists<C>,
     watcher: &mut W,
     steps: &mut Steps,
-) -> Result<SearchOutcome, Stop>
+) -> Result<SearchOutcome, AllocError>
     requires graph { IsGraph C.test C.PLACES graph.now }
     requires order { graph_order graph.now ≡ round.now.order }
     requires small { round.now.limit ≤ most_counties }
     requires wide { round.now.format ≡ Wide }
     requires lists { AreListsOf C.test (place_problem graph.now) (graph_places graph.now) lists.old }
     ensures outcome { IfOk result (IsOutcome (graph_problem graph.now) (round_of round.now) (empty_state (graph_problem graph.now))) }
-    ensures counted { OnOk result (steps.old.used < steps.new.used) }
+    ensures counted { IfOk result (λ outcome. ¬ IsStopped outcome → steps.old.used < steps.new.used) }
     ensures lists { AreListsOf C.test (place_problem graph.now) (graph_places graph.now) lists.new }
     ensures limit { steps.new.limit ≡ steps.old.limit }
-    ensures stopped { IsErrOf result Stop.StepLimit → steps.new.used ≡ steps.new.limit }
+    ensures stopped { IfOk result (λ outcome. IsStopped outcome → steps.new.used ≡ steps.new.limit) }
 {
     let input = SearchInput { graph, round };
     let first = first_position(&input)?;
@@ -119,7 +118,7 @@ fn prove_round<C: CountySet, W: Watcher>(
     lists: &mut PartLists<C>,
     watcher: &mut W,
     steps: &mut Steps,
-) -> Result<SearchOutcome, Stop>
+) -> Result<SearchOutcome, AllocError>
     requires graph { IsGraph C.test C.PLACES graph.now }
     requires small { limit ≤ most_counties }
     requires lists { AreListsOf C.test (place_problem graph.now) (graph_places graph.now) lists.old }
@@ -129,11 +128,11 @@ fn prove_round<C: CountySet, W: Watcher>(
         (graph_problem graph.now)
         (round_over (graph_problem graph.now) (graph_order graph.now) limit (Some target.now.groups.items) Wide)
         (empty_state (graph_problem graph.now))) }
-    ensures counted { OnOk result (steps.old.used < steps.new.used) }
+    ensures counted { IfOk result (λ outcome. ¬ IsStopped outcome → steps.old.used < steps.new.used) }
     ensures within { OnOk result (steps.new.used ≤ steps.new.limit) }
     ensures lists { AreListsOf C.test (place_problem graph.now) (graph_places graph.now) lists.new }
     ensures limit { steps.new.limit ≡ steps.old.limit }
-    ensures stopped { IsErrOf result Stop.StepLimit → steps.new.used ≡ steps.new.limit }
+    ensures stopped { IfOk result (λ outcome. IsStopped outcome → steps.new.used ≡ steps.new.limit) }
 {
     let round = round_for(
         graph.alloc,
@@ -206,13 +205,13 @@ fn improve<C: CountySet, W: Watcher>(
                 cap = limit_after(cap);
             }
             Ok(SearchOutcome::Better(found)) => target = found,
-            Err(Stop::StepLimit) => {
+            Ok(SearchOutcome::Open(_)) => {
                 return Ok(Answer::Open {
                     found: Some(target),
                     steps: steps.used(),
                 });
             }
-            Err(Stop::Memory) => return Err(AllocError),
+            Err(refused) => return Err(refused),
         }
     }
 }

@@ -13,7 +13,7 @@ ghost use Rattle.cli_runs.specs.BoardCourse.{format_of, depth_of, longest as lon
 ghost use Rattle.cli_runs.specs.BoardCourse.{AnswersOnBoard};
 ghost use Rattle.cli_runs.specs.PieceCourse.{no_such_piece, piece_said, piece_status};
 
-use board_report::{BoardShape, Shared, piece_text, prove_waiting, share};
+use board_report::{BoardShape, Shared, has_event, piece_text, prove_waiting, share};
 use branch_bound::Piece;
 use certificate_data::Format;
 use cli_answers::RunAnswer;
@@ -114,7 +114,7 @@ pub fn share_events(
 fn end_of(piece: &Piece) -> PieceEnd {
     match piece {
         Piece::Proved(_) | Piece::Better(_) | Piece::Wider(_) => PieceEnd::Answered,
-        Piece::Open(split) => PieceEnd::Open(split.is_some()),
+        Piece::Open(_) => PieceEnd::Open(has_event(piece)),
     }
 }
 

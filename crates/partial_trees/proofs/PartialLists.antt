@@ -24,20 +24,20 @@ abbrev takes_row : PartialBranch → (n : Count) × Row_of-PartialTake n
 takes_row (PartialBranch' county limit shape takes) = (_, takes)
 
 -- a partial tree that is made of a list of branches and what stands behind them
-made_tree : (branches : Vec PartialBranch Global) (rest : Option DeclaredTree) → partial_of (roll-PartialTree (record { branches = branches; rest = rest })) ≡ list_onto branches.items (rest_of rest)
+pub made_tree : (branches : Vec PartialBranch Global) (rest : Option DeclaredTree) → partial_of (roll-PartialTree (record { branches = branches; rest = rest })) ≡ list_onto branches.items (rest_of rest)
 unfolding Rattle.partial_trees.specs.declared.tree.PartialBranch.TheBlock.hidden-the_row-PartialBranch-1 roll-PartialTree denote.Hole.Carrier.roll
 made_tree branches rest =
     let row = branches_row (roll-PartialTree (record { branches = branches; rest = rest })) in
     branch_row row.0 row.1 (rest_of rest) ∙ ap (λ (bs : List PartialBranch). list_onto bs (rest_of rest)) (items_hidden-the_row-PartialBranch-1 branches)
 
 -- a branch that is made of a list of takes
-made_takes : (county : ℕ) (limit : Option ℕ) (takes : Vec PartialTake Global) (raised : PartialTree) → begun_onto (roll-PartialBranch (record { county = county; limit = limit; takes = takes })) raised ≡ begun county limit (list_of_begun takes.items) raised
+pub made_takes : (county : ℕ) (limit : Option ℕ) (takes : Vec PartialTake Global) (raised : PartialTree) → begun_onto (roll-PartialBranch (record { county = county; limit = limit; takes = takes })) raised ≡ begun county limit (list_of_begun takes.items) raised
 unfolding Rattle.partial_trees.specs.declared.tree.PartialBranch.TheBlock.hidden-the_row-PartialTake-0 roll-PartialBranch denote.Hole.Carrier.roll
 made_takes county limit takes raised =
     let row = takes_row (roll-PartialBranch (record { county = county; limit = limit; takes = takes })) in
     ap (λ (ts : PartialTakes). begun county limit ts raised) (take_row row.0 row.1 ∙ ap list_of_begun (items_hidden-the_row-PartialTake-0 takes))
 
-made_take : (codes : List ℕ) (tree : Declared) (others : PartialTakes) → take_onto (roll-PartialTake (record { codes = codes; tree = tree })) others ≡ take_begun codes (partial_of tree) others
+pub made_take : (codes : List ℕ) (tree : Declared) (others : PartialTakes) → take_onto (roll-PartialTake (record { codes = codes; tree = tree })) others ≡ take_begun codes (partial_of tree) others
 unfolding roll-PartialTake denote.Hole.Carrier.roll
 made_take codes tree others = refl
 

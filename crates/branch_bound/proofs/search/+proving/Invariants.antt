@@ -13,6 +13,8 @@ use Rattle.certificate_text.specs.TreeItems.{FitsInTree}
 use Rattle.std.proofs.Common.{length}
 use Rattle.county_problem.specs.OrderedValue.{problem_at}
 use Rattle.search_groups.specs.PartLists.{AreListsOf}
+use Rattle.board_laws.specs.PartialTrees.{PartialTree}
+use Rattle.branch_bound.specs.Parts.{whole_branches, IsOpenPart}
 use Rattle.branch_bound.specs.Searching.{search_problem, search_round, search_state, IsPositionAt, AreTakesOf}
 use Rattle.branch_bound.proofs.search.+proving.Given as goal
 
@@ -27,7 +29,7 @@ decreases-prove_take g l = 3 * (l.steps.now.limit - l.steps.now.used) + 1
 
 abbrev pub invariant-prove_takes-taking : goal.invariant-prove_takes-taking
 invariant-prove_takes-taking g l = record {
-  takes : AreTakesOf (search_problem l.input) (search_round l.input) (search_state l.input g.C.CountySet.test l.position.state) (codes_of_sets l.input.graph.now.ordered.now.order g.C.CountySet.test (take l.group-index l.group-items)) l.takes.items;
+  takes : AreTakesOf (search_problem l.input) (search_round l.input) (search_state l.input g.C.CountySet.test l.position.state) (codes_of_sets l.input.graph.now.ordered.now.order g.C.CountySet.test (take l.index l.group-items)) l.takes.items;
   lists : AreListsOf g.C.CountySet.test (problem_at l.input.graph.now.ordered.now) (length l.input.graph.now.ordered.now.order) l.lists;
   more : l.fn.steps.used ≤ l.steps.used;
   limit : l.steps.limit ≡ l.fn.steps.limit;
@@ -41,6 +43,9 @@ invariant-prove-branching g l = record {
   at : IsPositionAt g.C.CountySet.test l.input (search_state l.input g.C.CountySet.test l.position.state) l.position;
   whole : (tree : Tree) → Proves tree (search_problem l.input) (search_round l.input) (search_state l.input g.C.CountySet.test l.position.state)
       → Proves (list_onto l.branches.items tree) (search_problem l.input) (search_round l.input) (search_state l.input g.C.CountySet.test l.fn.position.state);
+  parts : (part : PartialTree)
+      → IsOpenPart (search_problem l.input) (search_round l.input) (search_state l.input g.C.CountySet.test l.position.state) part
+      → IsOpenPart (search_problem l.input) (search_round l.input) (search_state l.input g.C.CountySet.test l.fn.position.state) (whole_branches l.branches.items part);
   complete : TargetFits (search_problem l.input) l.input.round.now.limit (search_round l.input).target
       → (tree : Tree)
       → IsComplete tree (search_problem l.input) (search_round l.input) (search_state l.input g.C.CountySet.test l.position.state)
