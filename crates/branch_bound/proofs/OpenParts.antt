@@ -25,13 +25,14 @@ use Rattle.certificate_laws.specs.State.{State, IsState, close, raise}
 use Rattle.certificate_laws.specs.Groups.{IsGroupAt, AreGroupsAt}
 use Rattle.certificate_laws.specs.Proving.{limit_of, NamesLimit, CanBranch, EachProves}
 use Rattle.certificate_laws.proofs.Branches.{branch_keeps_state}
-use Rattle.board_laws.specs.PartialTrees.{PartialTree, open_leaf, whole, begun, PartialTakes, no_begun, take_begun, open_takes, begun_groups, EachProvesPart}
+use Rattle.board_laws.specs.PartialTrees.{PartialTree, open_leaf, whole, begun, PartialTakes, no_begun, take_begun, open_takes, open_leaves, begun_groups, EachProvesPart, IsPart}
 use Rattle.partial_trees.specs.declared.tree.PartialTree.{PartialTree as PartialTreeHeld, out-PartialTree, roll-PartialTree}
-use Rattle.partial_trees.specs.declared.tree.PartialBranch.{PartialBranch, roll-PartialBranch}
+use Rattle.partial_trees.specs.declared.tree.PartialBranch.{PartialBranch, PartialBranch', roll-PartialBranch}
 use Rattle.partial_trees.specs.declared.tree.PartialTake.{PartialTake, roll-PartialTake}
 use Rattle.partial_trees.specs.PartialValue.{rest_of, partial_of, begun_onto, take_onto as part_onto, list_of_begun, list_onto}
 use Rattle.partial_trees.specs.OpenStates.{AreSets, EachIsSpelled}
-use Rattle.partial_trees.specs.OpenBranches.{BranchesOfTakesAreOpen}
+use Rattle.partial_trees.specs.OpenBranches.{BranchesAreOpen, BranchesOfTakesAreOpen}
+use Rattle.partial_trees.specs.Refusals.{IsPartProof}
 use Rattle.partial_trees.proofs.PartialLists.{made_tree, made_takes, made_take, tree_made}
 use Rattle.branch_bound.specs.declared.outcome.SearchOutcome.{SearchOutcome}
 use Rattle.branch_bound.specs.declared.outcome.SearchOutcome.TheVariants as outcome
@@ -267,3 +268,11 @@ cut_at f xs ys i x same l e =
     sym (take-append-drop i xs) ∙ ap (λ z. firsts i xs ++ z) (drop_more xs i x l ∙ ap (λ z. z ∷ drop (i + 1) xs) (sym e) ∙ ap (λ z. x ∷ z) (sym (take_all (length xs - (i + 1)) (drop (i + 1) xs) (omega (arith, length-drop (i + 1) xs))))) in
     subst (λ z. map f xs ≡ map f (firsts i xs) ++ f x ∷ map f (firsts (length z - (i + 1)) (drop (i + 1) z))) (sym same)
     (ap (map f) cut ∙ map-append f (firsts i xs) (x ∷ firsts (length xs - (i + 1)) (drop (i + 1) xs)))
+
+-- a part with a branch
+pub begun_part : (p : Problem) (round : Round) (s : State) (t : PartialTreeHeld) → ((out-PartialTree t).branches.items ≡ [] → ⊥) → IsOpenPart p round s (partial_of t) → IsPart (partial_of t) × IsPartProof p round s (partial_of t) × BranchesAreOpen (partial_of t)
+begun_part p round s t some is = (go (out-PartialTree t).branches.items (rest_of (out-PartialTree t).rest) (partial_of t) some (tree_made t) is.some, is.proof, is.branches)
+  where
+    go : (bs : List PartialBranch) (rest part : PartialTree) → (bs ≡ [] → ⊥) → part ≡ list_onto bs rest → 1 ≤ open_leaves part → IsPart part
+    go [] rest part none e leaves = absurd (none refl)
+    go (PartialBranch' county limit shape takes ∷ bs) rest part none e leaves = subst IsPart (sym e) (subst (λ z. 1 ≤ open_leaves z) e leaves)
