@@ -1,5 +1,6 @@
 -- A text spells the event that gives a solver's answer to a board.
-use Rattle.std.proofs.Common.{◌≡◌, ◌≤◌, ℕ, List, [], ◌∷◌, ◌++◌, map, length, append-nil, refl, ap, ◌∙◌, subst, Option, Some, None, IfSome, slice_get}
+use Rattle.std.proofs.Common.{◌≡◌, ◌≤◌, ℕ, List, [], ◌∷◌, ◌++◌, map, length, append-nil, refl, ap, ◌∙◌, subst, Option, Some, None, IfSome}
+use Rattle.std.specs.List.{slice_get}
 use Rattle.certificate_lines.specs.Fitting.{AllFit}
 use Rattle.certificate_lines.specs.Items.{groups_wanted}
 use Rattle.certificate_lines.specs.Lines.{most}

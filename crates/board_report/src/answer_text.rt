@@ -42,17 +42,6 @@ fn answer_event(piece: &Piece, round: u32, number: u32) -> Result<Option<Event>,
     }
 }
 
-/// Returns whether some event gives the answer `piece` to a board.
-pub fn has_event(piece: &Piece) -> bool
-    ensures { (round number : ℕ) → result ≡ is_some (event_in round number piece.now) }
-{
-    match piece {
-        Piece::Proved(_) | Piece::Better(_) | Piece::Wider(_) => true,
-        Piece::Open(Some(part)) => first_split(part, 0, 0).is_some(),
-        Piece::Open(None) => false,
-    }
-}
-
 /// Returns the text of an event that has one.
 fn event_lines(
     alloc: Global,

@@ -18,7 +18,7 @@ mod shape;
 mod sharing;
 mod taking;
 
-pub use answer_text::{has_event, piece_text};
+pub use answer_text::piece_text;
 pub use board_outcome::Shared;
 pub use proving::prove_waiting;
 pub use shape::BoardShape;

@@ -13,13 +13,14 @@ ghost use Rattle.cli_runs.specs.BoardCourse.{format_of, depth_of, longest as lon
 ghost use Rattle.cli_runs.specs.BoardCourse.{AnswersOnBoard};
 ghost use Rattle.cli_runs.specs.PieceCourse.{no_such_piece, piece_said, piece_status};
 
-use board_report::{BoardShape, Shared, has_event, piece_text, prove_waiting, share};
+use board_report::{BoardShape, Shared, piece_text, prove_waiting, share};
 use branch_bound::Piece;
 use certificate_data::Format;
 use cli_answers::RunAnswer;
 use cli_words::{PieceWords, RoundWords};
 use county_codes::{Group, Grouping};
 use county_problem::Problem;
+use partial_trees::PartialTree;
 use share_board::{BoardFault, Event};
 use std::alloc::{AllocError, Global};
 
@@ -110,11 +111,22 @@ pub fn share_events(
     share(alloc, problem, grouping, shape, events, budget)
 }
 
+/// Returns whether the first branch of `part`, if there is a part, names a limit, so that a piece may be split there.
+fn names_split(part: &Option<PartialTree>) -> bool {
+    let Some(part) = part else {
+        return false;
+    };
+    match part.branches.first() {
+        Some(branch) => branch.limit.is_some(),
+        None => false,
+    }
+}
+
 /// Returns how `piece` ended.
 fn end_of(piece: &Piece) -> PieceEnd {
     match piece {
         Piece::Proved(_) | Piece::Better(_) | Piece::Wider(_) => PieceEnd::Answered,
-        Piece::Open(_) => PieceEnd::Open(has_event(piece)),
+        Piece::Open(part) => PieceEnd::Open(names_split(part)),
     }
 }
 
