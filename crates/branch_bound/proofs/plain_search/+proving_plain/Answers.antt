@@ -211,4 +211,3 @@ prove_plain_takes-returns-in-Open-clause-takes g t c =
     subst (IsOpenPart p round s) (sym made)
     (stopped_step p round s (subst (IsOrder p) c.requires.input.order c.requires.input.graph.order) c.requires.at.state county limit (omega arith) c.requires.input.small (codes_of_sets order test list) all None c.taking.takes.items
     (codes_of_sets order test (take i list)) later (f item) part refl (plain_names round.format c.requires.input.plain) c.requires.can fits cut c.taking.invariant.takes c.in_ok-parts-in-Open.ensures.small is)
-
