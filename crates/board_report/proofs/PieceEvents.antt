@@ -1,5 +1,5 @@
 -- A text spells the event that gives a solver's answer to a board.
-use Rattle.std.proofs.Common.{◌≡◌, ◌≤◌, ℕ, List, [], ◌∷◌, ◌++◌, map, length, append-nil, refl, ap, ◌∙◌, subst, Option, Some, None, IfSome}
+use Rattle.std.proofs.Common.{◌≡◌, ◌≤◌, ℕ, List, [], ◌∷◌, ◌++◌, map, length, append-nil, refl, sym, ap, ◌∙◌, subst, Option, Some, None, IfSome}
 use Rattle.std.specs.List.{slice_get}
 use Rattle.certificate_lines.specs.Fitting.{AllFit}
 use Rattle.certificate_lines.specs.Items.{groups_wanted}
@@ -31,10 +31,10 @@ use Rattle.certificate_lines.specs.declared.item.Item.TheVariants.{Opens}
 use Rattle.certificate_lines.specs.declared.item.Opening.TheVariants.{Branch}
 use Rattle.certificate_text.specs.TreeItems.{FitsInTree}
 use Rattle.partial_trees.specs.OpenStates.{IsSpelledPart}
-use Rattle.partial_trees.specs.PartialValue.{partial_of, rest_of, list_onto, list_of_begun}
+use Rattle.partial_trees.specs.PartialValue.{partial_of, rest_of, begun_onto, list_onto, list_of_begun}
 use Rattle.partial_trees.specs.declared.tree.PartialTree.{PartialTree as PartialTreeHeld, out-PartialTree}
-use Rattle.partial_trees.specs.declared.tree.PartialBranch.{PartialBranch, out-PartialBranch}
-use Rattle.partial_trees.proofs.PartialLists.{tree_made, branch_made}
+use Rattle.partial_trees.specs.declared.tree.PartialBranch.{PartialBranch, out-PartialBranch, roll-out-PartialBranch}
+use Rattle.partial_trees.proofs.PartialLists.{tree_made, made_takes}
 use Rattle.board_report.specs.PieceText.{split_in, HasText}
 
 groups_fit : (g : Grouping) → HasTargetLines g → AllFit (groups_wanted (length g)) (map Grouped g)
@@ -64,6 +64,10 @@ named_split round number county (Some limit) = Some (split_piece round number co
 split_named : (round number county : ℕ) (limit : Option ℕ) (takes : PartialTakes) (raised : PartialTree) → split_in round number (begun county limit takes raised) ≡ named_split round number county limit
 split_named round number county None takes raised = refl
 split_named round number county (Some limit) takes raised = refl
+
+-- a branch of the code's type, by its fields
+branch_made : (b : PartialBranch) (raised : PartialTree) → begun_onto b raised ≡ begun (out-PartialBranch b).county (out-PartialBranch b).limit (list_of_begun (out-PartialBranch b).takes.items) raised
+branch_made b raised = ap (λ z. begun_onto z raised) (sym (roll-out-PartialBranch b)) ∙ made_takes (out-PartialBranch b).county (out-PartialBranch b).limit (out-PartialBranch b).takes raised
 
 -- the split at the first branch of a partial tree, by the code's type
 pub no_branch : (round number : ℕ) (t : PartialTreeHeld) → slice_get (out-PartialTree t).branches.items 0 ≡ None → split_in round number (partial_of t) ≡ None
