@@ -8,8 +8,8 @@ use Rattle.field_lines.specs.Fault.{most_bytes}
 use Rattle.field_lines.specs.RawPieces.{RawLine}
 use Rattle.certificate_lines.specs.Words.{line_bytes, line_words, code, pair}
 use Rattle.certificate_lines.specs.Lines as line
-use Rattle.certificate_lines.specs.Lines.{most, named, counted, number_at, code_word_at, each, ascend, order_on, limit_on, target_on, group_on, branch_on, stuck_on, bound_on, opening_on, take_on, weigh_on, allowance_on}
-use Rattle.certificate_lines.specs.Items.{by_words, head_in, headed, seen, taken, item_on, wanted_after, items_in_front, items_from}
+use Rattle.certificate_lines.specs.Lines.{most, named, counted, number_at, code_word_at, each, ascend, order_on, limit_on, target_on, group_on, branch_on, stuck_on, bound_on, opening_on, part_on, take_on, weigh_on, allowance_on}
+use Rattle.certificate_lines.specs.Items.{by_words, head_in, headed, seen, taken, parted, item_on, wanted_after, items_in_front, items_from}
 use Rattle.certificate_lines.specs.Rest.{text_fault_at}
 use Rattle.county_codes.specs.Digits.{five_digits}
 use Rattle.certificate_lines.specs.Spelling.{item_words}
@@ -150,6 +150,21 @@ module _ (format : Format) (levels : ℕ) (line : List (List ℕ)) (o : Opening)
   unfolding opening_on
   opening_fits h = branch_go _ _ _ _ h
 
+module _ (format : Format) (levels : ℕ) (line : List (List ℕ)) (r : Option Opening) where
+  open_go : (t : Bool) → cond t (counted 0 0 (drop 1 line) >>= λ _. Ok None) (opening_on format levels line >>= λ o. Ok (Some o)) ≡ Ok r → IsWanted (want.Part format levels) (parted r)
+  open_go false h =
+      let a = bind_ok (opening_on format levels line) _ r h in
+      let same : Some a.value ≡ r = cc (a.then) in
+      subst (λ (q : Option Opening). IsWanted (want.Part format levels) (parted q)) same (opening_fits format levels line a.value a.first)
+  open_go true h =
+      let a = bind_ok (counted 0 0 (drop 1 line)) _ r h in
+      let same : None ≡ r = cc (a.then) in
+      subst (λ (q : Option Opening). IsWanted (want.Part format levels) (parted q)) same tt
+
+  part_fits : part_on format levels line ≡ Ok r → IsWanted (want.Part format levels) (parted r)
+  unfolding part_on
+  part_fits h = open_go _ h
+
 module _ (format : Format) (levels : ℕ) (line : List (List ℕ)) (r : Option (List ℕ)) where
   mark_go : (t : Bool) → cond t (counted 0 0 (drop 1 line) >>= λ _. Ok None) (Err BadWord) ≡ Ok r → IsWanted (want.Takes format levels) (taken r)
   mark_go false h = cc
@@ -170,6 +185,11 @@ module _ (format : Format) (levels : ℕ) (line : List (List ℕ)) (r : Option (
   take_fits : take_on line ≡ Ok r → IsWanted (want.Takes format levels) (taken r)
   unfolding take_on
   take_fits h = take_go _ _ h
+
+-- a take, or the mark, fits in a branch of a partial tree where it does in a branch of a tree
+taken_fits : (format : Format) (levels : ℕ) (r : Option (List ℕ)) → IsWanted (want.Takes format levels) (taken r) → IsWanted (want.PartTakes format levels) (taken r)
+taken_fits format levels None h = h
+taken_fits format levels (Some county_codes) h = h
 
 ascend_go : (quota : ℕ) (ws : List Weight) (a : Allowance) (t : Bool) → ascend ws ≡ t → cond t (Ok (Weigh quota ws)) (Err NotCanonical) ≡ Ok a → (Weigh quota ws ≡ a) × (ascend ws ≡ true)
 ascend_go quota ws a true e h = (cc, e)
@@ -247,6 +267,8 @@ item_fits want.Target piece item h = said_fits want.Target line.target_on Target
 item_fits (want.Groups left) piece item h = said_fits (want.Groups left) line.group_on Grouped piece item group_fits h
 item_fits (want.Tree format levels) piece item h = said_fits (want.Tree format levels) (line.opening_on format levels) Opens piece item (λ words o e. opening_fits format levels words o e) h
 item_fits (want.Takes format levels) piece item h = said_fits (want.Takes format levels) line.take_on taken piece item (λ words r e. take_fits format levels words r e) h
+item_fits (want.Part format levels) piece item h = said_fits (want.Part format levels) (line.part_on format levels) parted piece item (λ words r e. part_fits format levels words r e) h
+item_fits (want.PartTakes format levels) piece item h = said_fits (want.PartTakes format levels) line.take_on taken piece item (λ words r e. taken_fits format levels r (take_fits format levels words r e)) h
 item_fits (want.Allowances left) piece item h = allows_fits left piece item h
 item_fits want.End piece item h = said_fits want.End line.end_on (λ _. End) piece item (λ words x e. tt) h
 

@@ -10,10 +10,10 @@ use Rattle.county_codes.specs.Windows.{is_window}
 use Rattle.county_codes.specs.declared.group.Group.{Group}
 use Rattle.county_codes.specs.declared.window.Window.{Window}
 use Rattle.certificate_lines.specs.Words.{number, code, pair}
-use Rattle.certificate_lines.specs.Lines.{most, begins, named, counted, number_at, code_word_at, each, ascend, window_on, order_on, limit_on, target_on, group_on, branch_on, stuck_on, bound_on, opening_on, take_on, weigh_on, allowance_on, end_on}
+use Rattle.certificate_lines.specs.Lines.{most, begins, named, counted, number_at, code_word_at, each, ascend, window_on, order_on, limit_on, target_on, group_on, branch_on, stuck_on, bound_on, opening_on, take_on, weigh_on, allowance_on, end_on, part_on}
 use Rattle.county_codes.specs.Digits.{five_digits}
 use Rattle.certificate_lines.specs.Spelling.{weight_word, item_words}
-use Rattle.certificate_lines.specs.Items.{taken}
+use Rattle.certificate_lines.specs.Items.{taken, parted}
 use Rattle.certificate_lines.specs.Fitting.{FitsWeight}
 use Rattle.certificate_lines.proofs.WordLaws.{bind_ok, number_ok, code_ok, pair_ok, each_ok}
 use Rattle.certificate_lines.specs.declared.fault.TextKind.TheVariants.{BadWord, BadNumber, NotCanonical, TooDeep}
@@ -276,6 +276,20 @@ module _ (format : Format) (levels : ℕ) (line : List (List ℕ)) (opening : Op
   pub opening_ok : opening_on format levels line ≡ Ok opening → line ≡ item_words (Opens opening)
   unfolding opening_on
   opening_ok h = branch_go _ refl h
+
+module _ (format : Format) (levels : ℕ) (line : List (List ℕ)) (r : Option Opening) where
+  open_go : (t : Bool) → begins (codes "open") line ≡ t → cond t (counted 0 0 (drop 1 line) >>= λ _. Ok None) (opening_on format levels line >>= λ o. Ok (Some o)) ≡ Ok r → line ≡ item_words (parted r)
+  open_go false e h =
+      let a = bind_ok (opening_on format levels line) _ r h in
+      let same : Some a.value ≡ r = cc (a.then) in
+      opening_ok format levels line a.value a.first ∙ ap (λ (o : Option Opening). item_words (parted o)) same
+  open_go true e h =
+      let is = none_ok None r (drop 1 line) h in
+      begins_ok (codes "open") line e ∙ ap (λ (ws : List (List ℕ)). codes "open" ∷ ws) is.0 ∙ ap (λ (o : Option Opening). item_words (parted o)) is.1
+
+  pub part_ok : part_on format levels line ≡ Ok r → line ≡ item_words (parted r)
+  unfolding part_on
+  part_ok h = open_go _ refl h
 
 module _ (line : List (List ℕ)) (r : Option (List ℕ)) where
   mark_go : (t : Bool) → begins (codes "mark") line ≡ t → cond t (counted 0 0 (drop 1 line) >>= λ _. Ok None) (Err BadWord) ≡ Ok r → line ≡ item_words (taken r)

@@ -12,7 +12,7 @@ use Rattle.certificate_data.specs.declared.format.Format.TheVariants.{Plain, Wid
 use Rattle.certificate_lines.specs.Words.{is_numeral, has_leading_zero, is_canonical, words_of, line_bytes, line_words, number, code, halves, pair}
 use Rattle.certificate_lines.specs.Lines as line
 use Rattle.certificate_lines.specs.Lines.{most, begins, named, counted, number_at, code_word_at, each}
-use Rattle.certificate_lines.specs.Items.{by_words, seen, taken, item_on, groups_wanted, allowances_wanted, wanted_after}
+use Rattle.certificate_lines.specs.Items.{by_words, seen, taken, parted, item_on, groups_wanted, allowances_wanted, wanted_after}
 use Rattle.certificate_lines.specs.declared.fault.TextKind.{TextKind}
 use Rattle.certificate_lines.specs.declared.fault.TextKind.TheVariants.{BadHead, BadWord, BadNumber, NotCanonical, AfterEnd, ReadFault, Memory}
 use Rattle.certificate_lines.specs.declared.item.Item.{Item}
@@ -143,6 +143,12 @@ opening_said format levels words =
     (cond_said (begins (codes "seats") words) _ _ (bind_said (counted 0 0 (drop 1 words)) _ (counted_said 0 0 (drop 1 words)) (λ ws. tt))
     (cond_said (begins (codes "bound") words) _ _ (bound_said (drop 1 words)) tt)))
 
+pub part_said : (format : Format) (levels : ℕ) (words : List (List ℕ)) → Said (line.part_on format levels words)
+unfolding line.part_on
+part_said format levels words =
+    cond_said (begins (codes "open") words) _ _ (bind_said (counted 0 0 (drop 1 words)) _ (counted_said 0 0 (drop 1 words)) (λ ws. tt))
+    (bind_said (line.opening_on format levels words) _ (opening_said format levels words) (λ o. tt))
+
 pub take_said : (words : List (List ℕ)) → Said (line.take_on words)
 unfolding line.take_on
 take_said words =
@@ -184,6 +190,8 @@ abbrev pub IsBehind : Wanted → Type 0
 IsBehind (want.Groups left) = Unit {0}
 IsBehind (want.Tree format levels) = Unit {0}
 IsBehind (want.Takes format levels) = Unit {0}
+IsBehind (want.Part format levels) = Unit {0}
+IsBehind (want.PartTakes format levels) = Unit {0}
 IsBehind (want.Allowances left) = Unit {0}
 IsBehind wanted = ⊥
 
@@ -214,6 +222,12 @@ after_behind (want.Tree format levels) _ b = tt
 after_behind (want.Takes format levels) (item.Takes county_codes) b = (tt, (tt, tt))
 after_behind (want.Takes format levels) item.Mark b = (tt, tt)
 after_behind (want.Takes format levels) _ b = tt
+after_behind (want.Part format levels) (item.Opens (opening.Branch county limit)) b = (tt, tt)
+after_behind (want.Part format levels) (item.Opens (opening.Bound lines)) b = allowances_behind lines
+after_behind (want.Part format levels) _ b = tt
+after_behind (want.PartTakes format levels) (item.Takes county_codes) b = (tt, (tt, tt))
+after_behind (want.PartTakes format levels) item.Mark b = (tt, tt)
+after_behind (want.PartTakes format levels) _ b = tt
 after_behind _ i b = absurd b
 
 pub item_said : (wanted : Wanted) (piece : RawLine) → IsBehind wanted → Said (item_on wanted piece)
@@ -221,6 +235,9 @@ item_said (want.Groups left) piece b = seen_said item.Grouped (by_words line.gro
 item_said (want.Tree format levels) piece b = seen_said item.Opens (by_words (line.opening_on format levels) piece)
     (words_then_said (line.opening_on format levels) piece (opening_said format levels))
 item_said (want.Takes format levels) piece b = seen_said taken (by_words line.take_on piece) (words_then_said line.take_on piece take_said)
+item_said (want.Part format levels) piece b = seen_said parted (by_words (line.part_on format levels) piece)
+    (words_then_said (line.part_on format levels) piece (part_said format levels))
+item_said (want.PartTakes format levels) piece b = seen_said taken (by_words line.take_on piece) (words_then_said line.take_on piece take_said)
 item_said (want.Allowances left) piece b = seen_said item.Allows (by_words line.allowance_on piece)
     (words_then_said line.allowance_on piece allowance_said)
 item_said _ piece b = absurd b

@@ -46,6 +46,15 @@ module _ (below : List Wanted) where
       counted_go (want.Allowances lines) below (nat_lt 0 lines) one h
   bounded_after (want.Takes format levels) (Takes county_codes) fits room h = omega arith
   bounded_after (want.Takes format levels) Mark fits room h = omega (arith, raised format levels)
+  bounded_after (want.Part Plain levels) (Opens (Branch county None)) fits room h = omega arith
+  bounded_after (want.Part Plain levels) (Opens (Branch county (Some limit))) fits room h = absurd fits
+  bounded_after (want.Part Wide levels) (Opens (Branch county None)) fits room h = absurd fits
+  bounded_after (want.Part Wide levels) (Opens (Branch county (Some limit))) fits room h = omega arith
+  bounded_after (want.Part format levels) (Opens (Bound lines)) fits room h =
+      let one : HasRoom (length below) (want.Allowances lines) = omega arith in
+      counted_go (want.Allowances lines) below (nat_lt 0 lines) one h
+  bounded_after (want.PartTakes format levels) (Takes county_codes) fits room h = omega arith
+  bounded_after (want.PartTakes format levels) Mark fits room h = omega (arith, raised format levels)
   bounded_after (want.Allowances left) item fits room h = counted_go (want.Allowances (left - 1)) below (nat_lt 0 (left - 1)) room h
   bounded_after w item fits room h = h
 

@@ -9,11 +9,11 @@ use Rattle.field_lines.specs.RawPieces.{RawLine, raw_lines_from, bytes_of, text_
 use Rattle.field_lines.proofs.TextLemmas.{text_of-raw_lines}
 use Rattle.certificate_lines.specs.Words.{words_of, line_bytes, line_words, is_canonical}
 use Rattle.certificate_lines.specs.Lines as line
-use Rattle.certificate_lines.specs.Items.{by_words, head_in, headed, seen, taken, item_on, wanted_after, items_in_front, items_from}
+use Rattle.certificate_lines.specs.Items.{by_words, head_in, headed, seen, taken, parted, item_on, wanted_after, items_in_front, items_from}
 use Rattle.certificate_lines.specs.Rest.{text_fault_at}
 use Rattle.certificate_lines.specs.Spelling.{item_words, item_line, text_of_items}
 use Rattle.certificate_lines.proofs.WordLaws.{bind_ok}
-use Rattle.certificate_lines.proofs.FormLaws.{window_ok, order_ok, limit_ok, target_ok, group_ok, opening_ok, take_ok, allowance_ok, end_ok}
+use Rattle.certificate_lines.proofs.FormLaws.{window_ok, order_ok, limit_ok, target_ok, group_ok, opening_ok, part_ok, take_ok, allowance_ok, end_ok}
 use Rattle.certificate_lines.specs.declared.fault.TextKind.{TextKind}
 use Rattle.certificate_lines.specs.declared.fault.TextKind.TheVariants.{BadWord, NotCanonical, CutShort}
 use Rattle.certificate_lines.specs.declared.fault.TextFault.{TextFault}
@@ -108,6 +108,8 @@ item_ok want.Target piece item h = by_words_ok line.target_on Target piece item 
 item_ok (want.Groups left) piece item h = by_words_ok line.group_on Grouped piece item group_ok h
 item_ok (want.Tree format levels) piece item h = by_words_ok (line.opening_on format levels) Opens piece item (λ words x e. opening_ok format levels words x e) h
 item_ok (want.Takes format levels) piece item h = by_words_ok line.take_on taken piece item take_ok h
+item_ok (want.Part format levels) piece item h = by_words_ok (line.part_on format levels) parted piece item (λ words x e. part_ok format levels words x e) h
+item_ok (want.PartTakes format levels) piece item h = by_words_ok line.take_on taken piece item take_ok h
 item_ok (want.Allowances left) piece item h = by_words_ok line.allowance_on Allows piece item allowance_ok h
 item_ok want.End piece item h = by_words_ok line.end_on (λ _. End) piece item end_ok h
 

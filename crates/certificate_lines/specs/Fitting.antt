@@ -6,13 +6,15 @@ use Rattle.county_codes.specs.Windows.{is_window}
 use Rattle.certificate_lines.specs.Lines.{most, ascend}
 use Rattle.certificate_lines.specs.Items.{wanted_after}
 use Rattle.certificate_lines.specs.Spelling.{item_words}
+use Rattle.certificate_data.specs.declared.format.Format.{Format}
 use Rattle.certificate_data.specs.declared.format.Format.TheVariants.{Plain, Wide}
 use Rattle.certificate_data.specs.declared.weights.Weight.{Weight}
 use Rattle.certificate_data.specs.declared.allowance.Allowance.TheVariants.{Room, Weigh}
+use Rattle.certificate_lines.specs.declared.item.Opening.{Opening}
 use Rattle.certificate_lines.specs.declared.item.Opening.TheVariants.{Branch, Stuck, Seats, Bound}
 use Rattle.certificate_lines.specs.declared.item.Item.{Item}
 use Rattle.certificate_lines.specs.declared.item.Item.TheVariants.{Head, Within, Order, Limit, Target, Grouped, Opens}
-use Rattle.certificate_lines.specs.declared.item.Item.TheVariants.{Takes, Mark, Allows, End}
+use Rattle.certificate_lines.specs.declared.item.Item.TheVariants.{Takes, Mark, Open, Allows, End}
 use Rattle.certificate_lines.specs.declared.item.Wanted.{Wanted}
 use Rattle.certificate_lines.specs.declared.item.Wanted.TheVariants as want
 
@@ -38,6 +40,15 @@ pub record AreWeights (quota : ℕ) (weights : List Weight) : Type 0 where
   pub ascending : ascend weights ≡ true
   pub short : length (join_with_byte 32 (item_words (Allows (Weigh quota weights)))) ≤ most_bytes
 
+-- the line may open a tree of so many levels, and its numbers are in their ranges
+abbrev pub IsOpening : Format → ℕ → Opening → Type 0
+IsOpening Plain levels (Branch county None) = (county ≤ 99999) × (0 < levels)
+IsOpening Wide levels (Branch county (Some limit)) = (county ≤ 99999) × (1 ≤ limit) × (limit ≤ most) × (0 < levels)
+IsOpening format levels (Stuck county) = county ≤ 99999
+IsOpening format levels Seats = Unit {0}
+IsOpening format levels (Bound lines) = lines ≤ most
+IsOpening format levels first = ⊥
+
 -- the item may stand where this is wanted, and its numbers are in their ranges
 abbrev pub IsWanted : Wanted → Item → Type 0
 IsWanted want.Head (Head format version) = Unit {0}
@@ -47,14 +58,13 @@ IsWanted want.Limit (Limit limit) = limit ≤ most
 IsWanted want.Target (Target None) = Unit {0}
 IsWanted want.Target (Target (Some groups)) = groups ≤ most
 IsWanted (want.Groups left) (Grouped group) = (group.seats ≤ 65535) × IsSet group.codes
-IsWanted (want.Tree Plain levels) (Opens (Branch county None)) = (county ≤ 99999) × (0 < levels)
-IsWanted (want.Tree Wide levels) (Opens (Branch county (Some limit))) =
-    (county ≤ 99999) × (1 ≤ limit) × (limit ≤ most) × (0 < levels)
-IsWanted (want.Tree format levels) (Opens (Stuck county)) = county ≤ 99999
-IsWanted (want.Tree format levels) (Opens Seats) = Unit {0}
-IsWanted (want.Tree format levels) (Opens (Bound lines)) = lines ≤ most
+IsWanted (want.Tree format levels) (Opens first) = IsOpening format levels first
 IsWanted (want.Takes format levels) (Takes county_codes) = IsSet county_codes
 IsWanted (want.Takes format levels) Mark = Unit {0}
+IsWanted (want.Part format levels) (Opens first) = IsOpening format levels first
+IsWanted (want.Part format levels) Open = Unit {0}
+IsWanted (want.PartTakes format levels) (Takes county_codes) = IsSet county_codes
+IsWanted (want.PartTakes format levels) Mark = Unit {0}
 IsWanted (want.Allowances left) (Allows Room) = Unit {0}
 IsWanted (want.Allowances left) (Allows (Weigh quota weights)) = AreWeights quota weights
 IsWanted want.End End = Unit {0}

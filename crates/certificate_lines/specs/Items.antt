@@ -13,10 +13,11 @@ use Rattle.certificate_lines.specs.declared.fault.TextFault.{TextFault}
 use Rattle.certificate_data.specs.declared.format.Format.{Format}
 use Rattle.certificate_lines.specs.declared.item.Version.{Version}
 use Rattle.certificate_lines.specs.declared.item.Version.TheVariants.{One, Two}
+use Rattle.certificate_lines.specs.declared.item.Opening.{Opening}
 use Rattle.certificate_lines.specs.declared.item.Opening.TheVariants as opening
 use Rattle.certificate_lines.specs.declared.item.Item.{Item}
 use Rattle.certificate_lines.specs.declared.item.Item.TheVariants.{Head, Within, Order, Limit, Target, Grouped, Opens}
-use Rattle.certificate_lines.specs.declared.item.Item.TheVariants.{Takes, Mark, Allows, End}
+use Rattle.certificate_lines.specs.declared.item.Item.TheVariants.{Takes, Mark, Open, Allows, End}
 use Rattle.certificate_lines.specs.declared.item.Wanted.{Wanted}
 use Rattle.certificate_lines.specs.declared.item.Wanted.TheVariants as want
 
@@ -42,6 +43,11 @@ abbrev pub taken : Option (List ℕ) → Item
 taken (Some county_codes) = Takes county_codes
 taken None = Mark
 
+-- a branch or a leaf of a partial tree, or an open leaf
+abbrev pub parted : Option Opening → Item
+parted (Some first) = Opens first
+parted None = Open
+
 -- a head
 abbrev pub headed : Format × Version → Item
 headed head = Head head.0 head.1
@@ -56,6 +62,8 @@ item_on want.Target piece = seen Target (by_words line.target_on piece)
 item_on (want.Groups left) piece = seen Grouped (by_words line.group_on piece)
 item_on (want.Tree format levels) piece = seen Opens (by_words (line.opening_on format levels) piece)
 item_on (want.Takes format levels) piece = seen taken (by_words line.take_on piece)
+item_on (want.Part format levels) piece = seen parted (by_words (line.part_on format levels) piece)
+item_on (want.PartTakes format levels) piece = seen taken (by_words line.take_on piece)
 item_on (want.Allowances left) piece = seen Allows (by_words line.allowance_on piece)
 item_on want.End piece = seen (λ _. End) (by_words line.end_on piece)
 
@@ -80,6 +88,11 @@ wanted_after (want.Tree format levels) (Opens (opening.Bound lines)) = allowance
 wanted_after (want.Takes format levels) (Takes county_codes) =
     want.Tree format (levels - 1) ∷ want.Takes format levels ∷ []
 wanted_after (want.Takes format levels) Mark = want.Tree format (after_raise format levels) ∷ []
+wanted_after (want.Part format levels) (Opens (opening.Branch county limit)) = want.PartTakes format levels ∷ []
+wanted_after (want.Part format levels) (Opens (opening.Bound lines)) = allowances_wanted lines
+wanted_after (want.PartTakes format levels) (Takes county_codes) =
+    want.Part format (levels - 1) ∷ want.PartTakes format levels ∷ []
+wanted_after (want.PartTakes format levels) Mark = want.Part format (after_raise format levels) ∷ []
 wanted_after (want.Allowances left) item = allowances_wanted (left - 1)
 wanted_after wanted item = []
 

@@ -146,6 +146,16 @@ opening_on format levels line =
     else if begins (codes "bound") line then bound_on (drop 1 line)
     else Err BadWord
 
+-- a branch or a leaf of a partial tree, or none at an open leaf
+unfoldable pub part_on : Format → ℕ → List (List ℕ) → Result (Option Opening) TextKind
+part_on format levels line =
+    if begins (codes "open") line then (do
+      words ← counted 0 0 (drop 1 line)
+      Ok None)
+    else (do
+      opening ← opening_on format levels line
+      Ok (Some opening))
+
 -- the codes of a take, or none at the mark
 unfoldable pub take_on : List (List ℕ) → Result (Option (List ℕ)) TextKind
 take_on line =
@@ -184,3 +194,7 @@ HasLevel levels (Branch county limit) = 0 < levels
 HasLevel levels (Stuck county) = Unit {0}
 HasLevel levels Seats = Unit {0}
 HasLevel levels (Bound lines) = Unit {0}
+
+abbrev pub HasPartLevel : ℕ → Option Opening → Type 0
+HasPartLevel levels None = Unit {0}
+HasPartLevel levels (Some opening) = HasLevel levels opening

@@ -9,7 +9,7 @@ use Rattle.certificate_data.specs.declared.allowance.Allowance.TheVariants.{Room
 use Rattle.certificate_lines.specs.declared.item.Opening.TheVariants.{Branch, Stuck, Seats, Bound}
 use Rattle.certificate_lines.specs.declared.item.Item.{Item}
 use Rattle.certificate_lines.specs.declared.item.Item.TheVariants.{Head, Within, Order, Limit, Target, Grouped, Opens}
-use Rattle.certificate_lines.specs.declared.item.Item.TheVariants.{Takes, Mark, Allows, End}
+use Rattle.certificate_lines.specs.declared.item.Item.TheVariants.{Takes, Mark, Open, Allows, End}
 
 -- a weight: the code, a colon and the number
 abbrev pub weight_word : Weight → List ℕ
@@ -34,6 +34,7 @@ item_words (Opens Seats) = codes "seats" ∷ []
 item_words (Opens (Bound lines)) = codes "bound" ∷ decimal lines ∷ []
 item_words (Takes county_codes) = codes "take" ∷ map five_digits county_codes
 item_words Mark = codes "mark" ∷ []
+item_words Open = codes "open" ∷ []
 item_words (Allows Room) = codes "room" ∷ []
 item_words (Allows (Weigh quota weights)) = codes "weigh" ∷ decimal quota ∷ map weight_word weights
 item_words End = codes "end" ∷ []

@@ -12,6 +12,8 @@ room_of (want.Window format) = most + 1
 room_of (want.Order format) = most + 1
 room_of (want.Tree format levels) = levels
 room_of (want.Takes format levels) = 1 + (levels - 1)
+room_of (want.Part format levels) = levels
+room_of (want.PartTakes format levels) = 1 + (levels - 1)
 room_of wanted = 0
 
 -- above `below` things there is room for what is wanted, and for all that may lie above its place

@@ -10,8 +10,8 @@ ghost use Rattle.certificate_lines.specs.Items.{by_words, head_in};
 use crate::fault::{TextFault, TextKind};
 use crate::item::{Opening, Version};
 use crate::lines::{
-    allowance_on, end_on, group_on, head_on, limit_on, opening_on, order_on, take_on, target_on,
-    window_on,
+    allowance_on, end_on, group_on, head_on, limit_on, opening_on, order_on, part_on, take_on,
+    target_on, window_on,
 };
 use crate::words::{Words, bytes_of_line};
 use certificate_data::{Allowance, Format};
@@ -201,6 +201,23 @@ impl<'a> Cursor<'a> {
     {
         let (mut words, line) = self.next_words()?;
         match opening_on(format, levels, &mut words) {
+            Ok(opening) => Ok(opening),
+            Err(kind) => Err(TextFault { kind, line }),
+        }
+    }
+
+    /// Reads a branch or a leaf of a partial tree, where branches may still open `levels` levels, or `None` at an open
+    /// leaf.
+    pub fn part_opening(
+        &mut self,
+        format: Format,
+        levels: u16,
+    ) -> Result<Option<Opening>, TextFault>
+        ensures read { ReadsLine (λ r. r) (by_words (line.part_on format levels)) self.old result self.new }
+        ensures level { IfOk result (λ o. line.HasPartLevel levels o) }
+    {
+        let (mut words, line) = self.next_words()?;
+        match part_on(format, levels, &mut words) {
             Ok(opening) => Ok(opening),
             Err(kind) => Err(TextFault { kind, line }),
         }

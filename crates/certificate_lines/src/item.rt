@@ -54,6 +54,8 @@ pub enum Item {
     Takes(Codes),
     /// The end of a branch's groups.
     Mark,
+    /// An open leaf of a partial tree.
+    Open,
     /// A line of a bound leaf.
     Allows(Allowance),
     /// The end of the certificate.
@@ -80,6 +82,11 @@ pub enum Wanted {
     Tree(Format, u16),
     /// A group that is taken, or the mark, inside a branch. The number is how many levels the branch was opened with.
     Takes(Format, u16),
+    /// A partial tree, with the number of its levels.
+    Part(Format, u16),
+    /// A group that is taken, or the mark, inside a branch of a partial tree. The number is how many levels the branch
+    /// was opened with.
+    PartTakes(Format, u16),
     /// Lines of a bound leaf, with how many are wanted.
     Allowances(u16),
     /// The end.

@@ -1,9 +1,9 @@
 //! The item of one line where something is wanted, and what is wanted after it.
 
-ghost use Rattle.std.specs.Prelude.{◌≡◌, ◌-◌, List, [], ◌∷◌, ◌++◌};
+ghost use Rattle.std.specs.Prelude.{◌≡◌, ◌-◌, List, [], ◌∷◌, ◌++◌, reverse};
 ghost use Rattle.arrayvec.specs.ArrayVec.{array_vec_len};
 ghost use Rattle.certificate_lines.specs.Stacks.{HasRoom};
-ghost use Rattle.certificate_lines.specs.Items.{wanted_after};
+ghost use Rattle.certificate_lines.specs.Items.{wanted_after, parted};
 ghost use Rattle.certificate_lines.specs.Courses.{HasItem, IsStacked};
 ghost use Rattle.certificate_lines.specs.declared.item.Item.TheVariants as item;
 ghost use Rattle.certificate_lines.specs.declared.item.Wanted.{Wanted as WantedValue};
@@ -13,7 +13,7 @@ use crate::cursor::head_of;
 use crate::fault::TextKind;
 use crate::item::{Item, Opening, Version, Wanted};
 use crate::lines::{
-    allowance_on, end_on, group_on, levels_after, limit_on, opening_on, order_on, take_on,
+    allowance_on, end_on, group_on, levels_after, limit_on, opening_on, order_on, part_on, take_on,
     target_on, window_on,
 };
 use crate::words::Words;
@@ -197,6 +197,83 @@ fn take_item(
     }
 }
 
+/// Pushes what is wanted after the first line of a partial tree onto the `stack`. The line is an `opening`, or `None` at
+/// an open leaf.
+fn want_after_part(stack: &mut Stack, format: Format, levels: u16, opening: &Option<Opening>)
+    requires { HasRoom (array_vec_len stack.old) (want.Part format levels) }
+    ensures { reverse stack.new.items
+        ≡ wanted_after (want.Part format levels) (parted opening.now) ++ reverse stack.old.items }
+{
+    match opening {
+        Some(Opening::Branch { .. }) => stack.push(Wanted::PartTakes(format, levels)),
+        Some(Opening::Bound(lines)) => {
+            if *lines > 0 {
+                stack.push(Wanted::Allowances(*lines));
+            }
+        }
+        Some(Opening::Stuck(_) | Opening::Seats) | None => {}
+    }
+}
+
+/// Reads the first line of a partial tree, and pushes what is wanted after it onto the `stack`. Branches may still open
+/// `levels` levels.
+fn part_item(
+    bytes: &[u8],
+    ended: bool,
+    stack: &mut Stack,
+    format: Format,
+    levels: u16,
+) -> Result<Item, TextKind>
+    requires room { HasRoom (array_vec_len stack.old) (want.Part format levels) }
+    ensures read { HasItem (want.Part format levels) bytes.now ended result }
+    ensures stacked { IsStacked (want.Part format levels) result stack.old.items stack.new.items }
+{
+    let mut words = Words::new(bytes, ended)?;
+    let opening = part_on(format, levels, &mut words)?;
+    want_after_part(stack, format, levels, &opening);
+    match &opening {
+        Some(first) => Ok(Item::Opens(*first)),
+        None => Ok(Item::Open),
+    }
+}
+
+/// Pushes what is wanted after a group that is taken in a partial tree onto the `stack`.
+fn want_after_part_take(stack: &mut Stack, format: Format, levels: u16)
+    requires { HasRoom (array_vec_len stack.old) (want.PartTakes format levels) }
+    ensures { stack.new.items
+        ≡ stack.old.items ++ (want.PartTakes format levels ∷ want.Part format (levels - 1) ∷ []) }
+{
+    stack.push(Wanted::PartTakes(format, levels));
+    stack.push(Wanted::Part(format, levels.saturating_sub(1)));
+}
+
+/// Reads a take or a mark of a partial tree, and pushes what is wanted after it onto the `stack`.
+fn part_take_item(
+    alloc: Global,
+    bytes: &[u8],
+    ended: bool,
+    stack: &mut Stack,
+    format: Format,
+    levels: u16,
+) -> Result<Item, TextKind>
+    requires room { HasRoom (array_vec_len stack.old) (want.PartTakes format levels) }
+    ensures read { HasItem (want.PartTakes format levels) bytes.now ended result }
+    ensures stacked { IsStacked (want.PartTakes format levels) result stack.old.items stack.new.items }
+{
+    let mut words = Words::new(bytes, ended)?;
+    match take_on(alloc, &mut words)? {
+        Some(codes) => {
+            want_after_part_take(stack, format, levels);
+            Ok(Item::Takes(codes))
+        }
+        None => {
+            let after = Wanted::Part(format, levels_after(format, levels));
+            stack.push(after);
+            Ok(Item::Mark)
+        }
+    }
+}
+
 /// Reads a line of a bound leaf where `left` lines are wanted, and pushes what is wanted after it onto the `stack`.
 fn allowance_item(
     alloc: Global,
@@ -258,6 +335,10 @@ pub(crate) fn item_at(
         Wanted::Groups(left) => group_item(alloc, bytes, ended, stack, left),
         Wanted::Tree(format, levels) => opening_item(bytes, ended, stack, format, levels),
         Wanted::Takes(format, levels) => take_item(alloc, bytes, ended, stack, format, levels),
+        Wanted::Part(format, levels) => part_item(bytes, ended, stack, format, levels),
+        Wanted::PartTakes(format, levels) => {
+            part_take_item(alloc, bytes, ended, stack, format, levels)
+        }
         Wanted::Allowances(left) => allowance_item(alloc, bytes, ended, stack, left),
         Wanted::End => end_item(bytes, ended),
     }

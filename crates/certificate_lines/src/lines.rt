@@ -4,8 +4,8 @@ ghost use Rattle.std.specs.Prelude.{◌≡◌, ℕ, nat_lt, None, Ok, Err, IfOk,
 ghost use Rattle.field_lines.specs.Values.{GivesUnless};
 ghost use Rattle.certificate_data.specs.Levels.{after_raise};
 ghost use Rattle.certificate_lines.specs.Lines.{head_on, window_on, order_on, limit_on, target_on, group_on, branch_on};
-ghost use Rattle.certificate_lines.specs.Lines.{stuck_on, bound_on, opening_on, take_on, weigh_on, allowance_on};
-ghost use Rattle.certificate_lines.specs.Lines.{end_on, ascend, HasLevel};
+ghost use Rattle.certificate_lines.specs.Lines.{stuck_on, bound_on, opening_on, part_on, take_on, weigh_on};
+ghost use Rattle.certificate_lines.specs.Lines.{allowance_on, end_on, ascend, HasLevel, HasPartLevel};
 ghost use Rattle.certificate_lines.specs.declared.fault.TextKind.TheVariants.{Memory, TooDeep};
 ghost use Rattle.certificate_lines.specs.declared.item.Opening.TheVariants.{Branch};
 ghost use Rattle.certificate_data.specs.declared.format.Format.TheVariants.{Plain, Wide};
@@ -201,6 +201,24 @@ pub(crate) fn opening_on(
         bound_on(words)
     } else {
         Err(TextKind::BadWord)
+    }
+}
+
+/// Reads a branch or a leaf of a partial tree, where branches may still open `levels` levels, or `None` at an open leaf.
+#[tactic(auto, unfolding(crate::specs::Lines::part_on))]
+pub(crate) fn part_on(
+    format: Format,
+    levels: u16,
+    words: &mut Words,
+) -> Result<Option<Opening>, TextKind>
+    ensures value { result ≡ part_on format levels words.old }
+    ensures level { IfOk result (λ o. HasPartLevel levels o) }
+{
+    if words.skipped(b"open") {
+        words.counted(0, 0)?;
+        Ok(None)
+    } else {
+        Ok(Some(opening_on(format, levels, words)?))
     }
 }
 

@@ -26,6 +26,12 @@ returns-in-Tree-clause-read c = subst (λ w. HasItem w c.args.bytes.now c.args.e
 pub returns-in-Takes-clause-read : goal.returns-in-Takes-clause-read
 returns-in-Takes-clause-read c = subst (λ w. HasItem w c.args.bytes.now c.args.ended c.take_item.result) (sym c.in-Takes.is) c.take_item.ensures.read
 
+pub returns-in-Part-clause-read : goal.returns-in-Part-clause-read
+returns-in-Part-clause-read c = subst (λ w. HasItem w c.args.bytes.now c.args.ended c.part_item.result) (sym c.in-Part.is) c.part_item.ensures.read
+
+pub returns-in-PartTakes-clause-read : goal.returns-in-PartTakes-clause-read
+returns-in-PartTakes-clause-read c = subst (λ w. HasItem w c.args.bytes.now c.args.ended c.part_take_item.result) (sym c.in-PartTakes.is) c.part_take_item.ensures.read
+
 pub returns-in-Allowances-clause-read : goal.returns-in-Allowances-clause-read
 returns-in-Allowances-clause-read c = subst (λ w. HasItem w c.args.bytes.now c.args.ended c.allowance_item.result) (sym c.in-Allowances.is) c.allowance_item.ensures.read
 
