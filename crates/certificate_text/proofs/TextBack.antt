@@ -10,16 +10,19 @@ use Rattle.std.proofs.lemmas.List.Splits.{slice_split_at}
 use Rattle.field_lines.specs.Fault.{most_bytes}
 use Rattle.field_lines.specs.RawPieces.{RawLine, raw_lines_from, numbered, is_lf}
 use Rattle.field_lines.proofs.SplitLemmas.{numbered-ended}
-use Rattle.certificate_lines.specs.Words.{line_bytes}
+use Rattle.certificate_lines.specs.Words.{line_bytes, line_words}
 use Rattle.certificate_lines.specs.Lines as line
-use Rattle.certificate_lines.specs.Lines.{most}
-use Rattle.certificate_lines.specs.Items.{by_words, seen, taken, item_on, wanted_after, items_in_front, items_from}
+use Rattle.certificate_lines.specs.Lines.{most, begins}
+use Rattle.certificate_lines.specs.Items.{by_words, seen, taken, parted, item_on, wanted_after, items_in_front, items_from}
 use Rattle.county_codes.specs.Digits.{five_digits}
 use Rattle.certificate_lines.specs.Spelling.{weight_word, item_words, text_of_items}
-use Rattle.certificate_lines.specs.Fitting.{AreCodes, IsSet, FitsWeight, AreWeights, IsWanted, AllFit}
+use Rattle.certificate_lines.specs.Fitting.{AreCodes, IsSet, FitsWeight, AreWeights, IsOpening, IsWanted, AllFit}
 use Rattle.certificate_lines.specs.Rest.{text_fault_at}
 use Rattle.field_lines.proofs.NumbersBack.{Digit, decimal_digits}
 use Rattle.county_codes.proofs.DigitsBack.{code_digits}
+use Rattle.certificate_lines.proofs.WordLaws.{bind_ok}
+use Rattle.certificate_lines.proofs.FormLaws.{opening_ok}
+use Rattle.certificate_lines.proofs.TextLaws.{seen_ok}
 use Rattle.certificate_text.proofs.SpellLaws.{Shown, IsWord, Printed, printed_line, line_words_back, window_back, order_back, limit_back, group_back, take_back, plain_back, wide_back, stuck_back, bound_back, weigh_back, target_back}
 use Rattle.certificate_lines.specs.declared.fault.TextKind.{TextKind}
 use Rattle.certificate_lines.specs.declared.fault.TextFault.{TextFault}
@@ -33,9 +36,10 @@ use Rattle.county_codes.specs.declared.window.Window.{Window}
 use Rattle.certificate_lines.specs.declared.item.Version.{Version}
 use Rattle.certificate_lines.specs.declared.item.Version.TheVariants.{One, Two}
 use Rattle.certificate_data.specs.declared.allowance.Allowance.TheVariants.{Room, Weigh}
+use Rattle.certificate_lines.specs.declared.item.Opening.{Opening}
 use Rattle.certificate_lines.specs.declared.item.Opening.TheVariants.{Branch, Stuck, Seats, Bound}
 use Rattle.certificate_lines.specs.declared.item.Item.{Item}
-use Rattle.certificate_lines.specs.declared.item.Item.TheVariants.{Head, Within, Order, Limit, Target, Grouped, Opens, Takes, Mark, Allows, End}
+use Rattle.certificate_lines.specs.declared.item.Item.TheVariants.{Head, Within, Order, Limit, Target, Grouped, Opens, Takes, Mark, Open, Allows, End}
 use Rattle.certificate_lines.specs.declared.item.Wanted.{Wanted}
 use Rattle.certificate_lines.specs.declared.item.Wanted.TheVariants as want
 
@@ -246,6 +250,48 @@ mark_line n format levels =
       read = few_said line.take_on taken n (codes "mark") [] None name tt (omega arith) refl;
     }
 
+open_line : (n : ℕ) (format : Format) (levels : ℕ) → IsLine n (want.Part format levels) Open
+unfolding line.part_on
+open_line n format levels =
+    let name = named_word (codes "open") refl (omega arith) (omega arith) in
+    record {
+      printed = few_printed (line.part_on format levels) parted n (codes "open") [] None name tt (omega arith);
+      read = few_said (line.part_on format levels) parted n (codes "open") [] None name tt (omega arith) refl;
+    }
+
+-- the line of what opens a tree
+opening_line : (n : ℕ) (format : Format) (levels : ℕ) (o : Opening) → IsOpening format levels o → IsLine n (want.Tree format levels) (Opens o)
+opening_line n Plain levels (Branch c None) f = plain_line n levels c f.0 f.1
+opening_line n Wide levels (Branch c (Some limit)) f = wide_line n levels c limit f.0 f.1 f.2 f.3
+opening_line n Plain levels (Branch c (Some limit)) f = absurd f
+opening_line n Wide levels (Branch c None) f = absurd f
+opening_line n Plain levels (Stuck c) f = stuck_line n Plain levels c f
+opening_line n Wide levels (Stuck c) f = stuck_line n Wide levels c f
+opening_line n format levels Seats f = seats_line n format levels
+opening_line n Plain levels (Bound k) f = bound_line n Plain levels k f
+opening_line n Wide levels (Bound k) f = bound_line n Wide levels k f
+
+-- it opens a partial tree too, since its first word is not that of an open leaf
+not_open : (o : Opening) → begins (codes "open") (item_words (Opens o)) ≡ false
+not_open (Branch c None) = refl
+not_open (Branch c (Some limit)) = refl
+not_open (Stuck c) = refl
+not_open Seats = refl
+not_open (Bound k) = refl
+
+part_back : (format : Format) (levels : ℕ) (words : List (List ℕ)) (o : Opening) → line.opening_on format levels words ≡ Ok o → line.part_on format levels words ≡ Ok (Some o)
+unfolding line.part_on
+part_back format levels words o h =
+    let closed : begins (codes "open") words ≡ false = ap (begins (codes "open")) (opening_ok format levels words o h) ∙ not_open o in
+    rw (closed, h) refl
+
+part_line : (n : ℕ) (format : Format) (levels : ℕ) (o : Opening) → IsLine n (want.Tree format levels) (Opens o) → IsLine n (want.Part format levels) (Opens o)
+part_line n format levels o one =
+    let bytes = join_with_byte 32 (item_words (Opens o)) in
+    let s = seen_ok Opens (by_words (line.opening_on format levels) (record { number = n; bytes = bytes; ended = true })) (Opens o) one.read in
+    let w = bind_ok (line_words bytes true) (line.opening_on format levels) s.value s.first in
+    record { printed = one.printed; read = rw (w.first, part_back format levels w.value s.value w.then) (ap (λ (i : Item). Ok i) s.view_is) }
+
 room_line : (n left : ℕ) → IsLine n (want.Allowances left) (Allows Room)
 unfolding line.allowance_on
 room_line n left =
@@ -291,15 +337,17 @@ fits_line n want.Limit (Limit limit) f = limit_line n limit f
 fits_line n want.Target (Target None) f = none_line n
 fits_line n want.Target (Target (Some k)) f = target_line n k f
 fits_line n (want.Groups left) (Grouped g) f = group_line n left g f.0 f.1
-fits_line n (want.Tree Plain levels) (Opens (Branch c None)) f = plain_line n levels c f.0 f.1
-fits_line n (want.Tree Wide levels) (Opens (Branch c (Some limit))) f = wide_line n levels c limit f.0 f.1 f.2 f.3
-fits_line n (want.Tree Plain levels) (Opens (Branch c (Some limit))) f = absurd f
-fits_line n (want.Tree Wide levels) (Opens (Branch c None)) f = absurd f
-fits_line n (want.Tree format levels) (Opens (Stuck c)) f = stuck_line n format levels c f
-fits_line n (want.Tree format levels) (Opens Seats) f = seats_line n format levels
-fits_line n (want.Tree format levels) (Opens (Bound k)) f = bound_line n format levels k f
+fits_line n (want.Tree format levels) (Opens o) f = opening_line n format levels o f
 fits_line n (want.Takes format levels) (Takes cs) f = take_line n format levels cs f
 fits_line n (want.Takes format levels) Mark f = mark_line n format levels
+fits_line n (want.Part format levels) (Opens o) f = part_line n format levels o (opening_line n format levels o f)
+fits_line n (want.Part format levels) Open f = open_line n format levels
+fits_line n (want.PartTakes format levels) (Takes cs) f =
+    let one = take_line n format levels cs f in
+    record { printed = one.printed; read = one.read }
+fits_line n (want.PartTakes format levels) Mark f =
+    let one = mark_line n format levels in
+    record { printed = one.printed; read = one.read }
 fits_line n (want.Allowances left) (Allows Room) f = room_line n left
 fits_line n (want.Allowances left) (Allows (Weigh quota ws)) f = weigh_line n left quota ws f
 fits_line n want.End End f = end_line n

@@ -6,8 +6,8 @@ use Rattle.field_lines.specs.Chain.{◌>>=◌}
 use Rattle.field_lines.specs.RawPieces.{RawLine}
 use Rattle.certificate_lines.specs.Words.{line_bytes}
 use Rattle.certificate_lines.specs.Lines as line
-use Rattle.certificate_lines.specs.Items.{by_words, head_in, headed, seen, taken, item_on, wanted_after}
-use Rattle.certificate_lines.proofs.LineKinds.{OfLine, Said, words_then_said, bytes_said, window_said, order_said, limit_said, target_said, group_said, opening_said, take_said, allowance_said, end_said}
+use Rattle.certificate_lines.specs.Items.{by_words, head_in, headed, seen, taken, parted, item_on, wanted_after}
+use Rattle.certificate_lines.proofs.LineKinds.{OfLine, Said, words_then_said, bytes_said, window_said, order_said, limit_said, target_said, group_said, opening_said, part_said, take_said, allowance_said, end_said}
 use Rattle.certificate_lines.specs.Courses.{Unread, only_fault, first, course_from}
 use Rattle.certificate_lines.specs.Rest.{text_fault_at}
 use Rattle.certificate_lines.specs.declared.fault.TextKind.{TextKind}
@@ -75,6 +75,8 @@ item_text want.Target piece = by_words_text line.target_on item.Target piece tar
 item_text (want.Groups left) piece = by_words_text line.group_on item.Grouped piece group_said
 item_text (want.Tree format levels) piece = by_words_text (line.opening_on format levels) item.Opens piece (opening_said format levels)
 item_text (want.Takes format levels) piece = by_words_text line.take_on taken piece take_said
+item_text (want.Part format levels) piece = by_words_text (line.part_on format levels) parted piece (part_said format levels)
+item_text (want.PartTakes format levels) piece = by_words_text line.take_on taken piece take_said
 item_text (want.Allowances left) piece = by_words_text line.allowance_on item.Allows piece allowance_said
 item_text want.End piece = by_words_text line.end_on (λ _. item.End) piece end_said
 
