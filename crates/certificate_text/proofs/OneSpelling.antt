@@ -78,7 +78,7 @@ pub tree_told : (t u : Tree) → items_of_tree t ≡ items_of_tree u → t ≡ u
 tree_told t u h = (tree_back t u [] [] (append-nil (items_of_tree t) ∙ h ∙ sym (append-nil (items_of_tree u)))).0
 
 -- items that fit and have the same text are the same
-same_items : (wanted : List Wanted) (text : List ℕ) (is js : List Item) → AllFit wanted is → AllFit wanted js → text ≡ text_of_items is → text ≡ text_of_items js → is ≡ js
+pub same_items : (wanted : List Wanted) (text : List ℕ) (is js : List Item) → AllFit wanted is → AllFit wanted js → text ≡ text_of_items is → text ≡ text_of_items js → is ≡ js
 same_items wanted text is js f g e h =
     let both : Ok is ≡ Ok js = sym (items_back wanted 1 is f) ∙ ap (λ (t : List ℕ). items_from wanted 1 (raw_lines_from 1 t)) (sym e ∙ h) ∙ items_back wanted 1 js g in
     ok_same is js both
@@ -86,7 +86,7 @@ same_items wanted text is js f g e h =
     ok_same : (xs ys : List Item) → ◌≡◌ {A = Result (List Item) TextFault} (Ok xs) (Ok ys) → xs ≡ ys
     ok_same xs ys e = cc
 
-read_from : (wanted : List Wanted) (text : List ℕ) (is : List Item) → AllFit wanted is → text ≡ text_of_items is → items_from wanted 1 (raw_lines_from 1 text) ≡ Ok is
+pub read_from : (wanted : List Wanted) (text : List ℕ) (is : List Item) → AllFit wanted is → text ≡ text_of_items is → items_from wanted 1 (raw_lines_from 1 text) ≡ Ok is
 read_from wanted text is f e = ap (λ (t : List ℕ). items_from wanted 1 (raw_lines_from 1 t)) e ∙ items_back wanted 1 is f
 
 pub one_text : (t u : List ℕ) (c : Certificate) → IsSpelling t c → IsSpelling u c → t ≡ u

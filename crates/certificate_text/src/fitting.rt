@@ -76,7 +76,7 @@ fn takes_fit(takes: &[Take], format: Format, levels: u16) -> bool
 
 /// Returns whether the lines of a `tree` fit, where its branches may open `levels` levels.
 #[cycle(fitting)]
-fn tree_fits(tree: &Tree, format: Format, levels: u16) -> bool
+pub fn tree_fits(tree: &Tree, format: Format, levels: u16) -> bool
     ensures { Tests (want.Tree format levels ∷ []) (items_of_tree (tree_of tree.now)) [] result }
 {
     let mut levels = levels;

@@ -25,10 +25,11 @@ pub use certificate_lines::{
     Item, ItemSource, Items, Opening, TextFault, TextKind, Version, Wanted, Words, WriteFault,
 };
 pub use county_codes::Window;
+pub use fitting::tree_fits;
 pub use laws::{
     certificates_have_one_text, items_and_texts_agree, items_come_in_turn, proof_trees_have_texts,
     trees_have_one_text, trees_spell,
 };
-pub use lines::tree_lines;
-pub use reading::{front_tree, read, read_tree};
+pub use lines::{push_branch_line, push_mark_line, push_take_line, push_tree, tree_lines};
+pub use reading::{allowances_at, front_tree, read, read_tree};
 pub use writing::{write, write_tree};

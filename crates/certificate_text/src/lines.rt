@@ -72,8 +72,8 @@ fn push_leaf(out: &mut Vec<u8>, leaf: &Leaf) -> Result<(), AllocError>
     }
 }
 
-/// Appends the line that opens a branch.
-fn push_branch_line(
+/// Appends the line that opens a branch. Returns an error if memory was refused.
+pub fn push_branch_line(
     out: &mut Vec<u8>,
     county: CountyCode,
     limit: Option<u16>,
@@ -86,15 +86,15 @@ fn push_branch_line(
     }
 }
 
-/// Appends the line of a take.
-fn push_take_line(out: &mut Vec<u8>, codes: &[CountyCode]) -> Result<(), AllocError>
+/// Appends the line of a take. Returns an error if memory was refused.
+pub fn push_take_line(out: &mut Vec<u8>, codes: &[CountyCode]) -> Result<(), AllocError>
     ensures { OnOk result (Added (item.Takes codes.now ∷ []) out.old.items out.new.items) }
 {
     push_codes_line(out, b"take", codes)
 }
 
-/// Appends the line of the mark.
-fn push_mark_line(out: &mut Vec<u8>) -> Result<(), AllocError>
+/// Appends the line of the mark. Returns an error if memory was refused.
+pub fn push_mark_line(out: &mut Vec<u8>) -> Result<(), AllocError>
     ensures { OnOk result (Added (item.Mark ∷ []) out.old.items out.new.items) }
 {
     out.extend_from_slice(b"mark\n")
@@ -121,9 +121,9 @@ fn push_branch(out: &mut Vec<u8>, branch: &Branch) -> Result<(), AllocError>
     push_mark_line(out)
 }
 
-/// Appends the lines of a `tree`.
+/// Appends the lines of a `tree`. Returns an error if memory was refused.
 #[cycle(push_lines)]
-fn push_tree(out: &mut Vec<u8>, tree: &Tree) -> Result<(), AllocError>
+pub fn push_tree(out: &mut Vec<u8>, tree: &Tree) -> Result<(), AllocError>
     ensures { OnOk result (Added (items_of_tree (tree_of tree.now)) out.old.items out.new.items) }
 {
     'branching: for branch in &tree.branches {

@@ -27,7 +27,11 @@ use county_codes::{Group, Grouping, Window};
 use std::alloc::Global;
 
 /// Reads `count` lines of a bound leaf.
-fn allowances_at(
+///
+/// # Errors
+///
+/// Returns the first fault of the lines. If memory was refused, it returns `Memory` in place of any answer.
+pub fn allowances_at(
     alloc: Global,
     cursor: &mut Cursor,
     count: u16,

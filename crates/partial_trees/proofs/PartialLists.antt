@@ -45,10 +45,10 @@ made_take codes tree others = refl
 pub tree_made : (t : Declared) → partial_of t ≡ list_onto (out-PartialTree t).branches.items (rest_of (out-PartialTree t).rest)
 tree_made t = ap partial_of (sym (roll-out-PartialTree t)) ∙ made_tree (out-PartialTree t).branches (out-PartialTree t).rest
 
-branch_made : (b : PartialBranch) (raised : PartialTree) → begun_onto b raised ≡ begun (out-PartialBranch b).county (out-PartialBranch b).limit (list_of_begun (out-PartialBranch b).takes.items) raised
+pub branch_made : (b : PartialBranch) (raised : PartialTree) → begun_onto b raised ≡ begun (out-PartialBranch b).county (out-PartialBranch b).limit (list_of_begun (out-PartialBranch b).takes.items) raised
 branch_made b raised = ap (λ z. begun_onto z raised) (sym (roll-out-PartialBranch b)) ∙ made_takes (out-PartialBranch b).county (out-PartialBranch b).limit (out-PartialBranch b).takes raised
 
-take_made : (t : PartialTake) (others : PartialTakes) → take_onto t others ≡ take_begun (out-PartialTake t).codes (partial_of (out-PartialTake t).tree) others
+pub take_made : (t : PartialTake) (others : PartialTakes) → take_onto t others ≡ take_begun (out-PartialTake t).codes (partial_of (out-PartialTake t).tree) others
 take_made t others = ap (λ z. take_onto z others) (sym (roll-out-PartialTake t)) ∙ made_take (out-PartialTake t).codes (out-PartialTake t).tree others
 
 -- the branches and takes that are left when one is read

@@ -1,0 +1,4 @@
+pub mod PartLists
+pub mod ReadSteps
+pub mod PartBack
+pub mod OnePart

@@ -1,0 +1,4 @@
+pub mod PartItems
+pub mod Spelling
+pub mod Reading
+pub mod Writing
