@@ -5,8 +5,15 @@
 //! `PartItems` (the items of a partial tree) and `Spelling`.
 #![tactic(auto)]
 
+mod fitting;
+mod laws;
+mod lines;
+mod opened;
 mod reading;
+mod writing;
 
 pub use certificate_lines::{TextFault, TextKind, WriteFault};
+pub use laws::parts_have_one_text;
 pub use partial_trees::{PartialBranch, PartialTake, PartialTree};
 pub use reading::front_part;
+pub use writing::write_part;
