@@ -24,7 +24,7 @@ use Rattle.certificate_text.specs.Trees.{items_of_tree, items_of_takes, items_of
 use Rattle.certificate_text.specs.TreeItems.{FitsInTree, TargetHasLines}
 
 -- a branch fits where there are levels, and a leaf fits anywhere
-branch_fits : (format : Format) (levels county : ℕ) (limit : Option ℕ) → 1 ≤ levels → IsWanted (want.Tree format 1) (item.Opens (opening.Branch county limit)) → IsWanted (want.Tree format levels) (item.Opens (opening.Branch county limit))
+pub branch_fits : (format : Format) (levels county : ℕ) (limit : Option ℕ) → 1 ≤ levels → IsWanted (want.Tree format 1) (item.Opens (opening.Branch county limit)) → IsWanted (want.Tree format levels) (item.Opens (opening.Branch county limit))
 branch_fits Plain levels county None some f = (f.0, omega (arith, some))
 branch_fits Plain levels county (Some limit) some f = absurd f
 branch_fits Wide levels county None some f = absurd f

@@ -5,3 +5,5 @@ pub mod OnePart
 pub mod OpenTests
 pub mod PartFits
 pub mod AddsLaws
+pub mod PartDepth
+pub mod PartTexts

@@ -34,7 +34,7 @@ lines_as (suc n) (line ∷ lines) old new later many k h =
 
 -- the items of a tree fit as those of a partial tree
 mutual
-  as_part : (format : Format) (levels : ℕ) (t : Tree) (old new : List Wanted) (later : List Item) → (AllFit old later → AllFit new later)
+  pub as_part : (format : Format) (levels : ℕ) (t : Tree) (old new : List Wanted) (later : List Item) → (AllFit old later → AllFit new later)
       → AllFit (want.Tree format levels ∷ old) (items_of_tree t ++ later) → AllFit (want.Part format levels ∷ new) (items_of_tree t ++ later)
   as_part format levels (leaf (stuck c)) old new later k h = (h.0, k h.1)
   as_part format levels (leaf seats) old new later k h = (h.0, k h.1)

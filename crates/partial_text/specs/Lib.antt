@@ -2,3 +2,4 @@ pub mod PartItems
 pub mod Spelling
 pub mod Reading
 pub mod Writing
+pub mod TextLaws

@@ -13,7 +13,7 @@ mod reading;
 mod writing;
 
 pub use certificate_lines::{TextFault, TextKind, WriteFault};
-pub use laws::parts_have_one_text;
+pub use laws::{parts_have_one_text, parts_have_texts};
 pub use partial_trees::{PartialBranch, PartialTake, PartialTree};
 pub use reading::front_part;
 pub use writing::write_part;
