@@ -50,9 +50,11 @@ mutual
   as_part_takes format levels no_take old new later k h = (h.0, k h.1)
   as_part_takes format levels (take cs t ts) old new later k h =
       let split = append_assoc (items_of_tree t) (items_of_takes ts) (item.Mark ∷ later) in
-      let inside = subst (AllFit (want.Tree format (levels - 1) ∷ want.Takes format levels ∷ old)) split h.1 in
-      (h.0, subst (AllFit (want.Part format (levels - 1) ∷ want.PartTakes format levels ∷ new)) (sym split)
-      (as_part format (levels - 1) t (want.Takes format levels ∷ old) (want.PartTakes format levels ∷ new) (items_of_takes ts ++ item.Mark ∷ later) (as_part_takes format levels ts old new later k) inside))
+      let inside = subst (AllFit (want.Tree format (levels - 1) ∷ want.Takes format levels ∷ old)) split h.1 in (
+        h.0,
+        subst (AllFit (want.Part format (levels - 1) ∷ want.PartTakes format levels ∷ new)) (sym split)
+            (as_part format (levels - 1) t (want.Takes format levels ∷ old) (want.PartTakes format levels ∷ new) (items_of_takes ts ++ item.Mark ∷ later) (as_part_takes format levels ts old new later k) inside),
+      )
 
 -- and the other way round
 mutual
@@ -72,9 +74,11 @@ mutual
   as_tree_takes format levels no_take old new later k h = (h.0, k h.1)
   as_tree_takes format levels (take cs t ts) old new later k h =
       let split = append_assoc (items_of_tree t) (items_of_takes ts) (item.Mark ∷ later) in
-      let inside = subst (AllFit (want.Part format (levels - 1) ∷ want.PartTakes format levels ∷ old)) split h.1 in
-      (h.0, subst (AllFit (want.Tree format (levels - 1) ∷ want.Takes format levels ∷ new)) (sym split)
-      (as_tree format (levels - 1) t (want.PartTakes format levels ∷ old) (want.Takes format levels ∷ new) (items_of_takes ts ++ item.Mark ∷ later) (as_tree_takes format levels ts old new later k) inside))
+      let inside = subst (AllFit (want.Part format (levels - 1) ∷ want.PartTakes format levels ∷ old)) split h.1 in (
+        h.0,
+        subst (AllFit (want.Tree format (levels - 1) ∷ want.Takes format levels ∷ new)) (sym split)
+            (as_tree format (levels - 1) t (want.PartTakes format levels ∷ old) (want.Takes format levels ∷ new) (items_of_takes ts ++ item.Mark ∷ later) (as_tree_takes format levels ts old new later k) inside),
+      )
 
 -- a whole tree fits where a partial tree is wanted just where it fits as a tree
 pub whole_tested : (format : Format) (levels : ℕ) (t : Tree) (r : Bool) → Tests (want.Tree format levels ∷ []) (items_of_tree t) [] r → Tests (want.Part format levels ∷ []) (items_of_tree t) [] r

@@ -41,9 +41,10 @@ module _ (p : Problem) (round : Round) (order : IsOrder p round.order) where
         let less = raised_depth p round order s state county (limit_of round limit) can round.format n can.in_turn few in
         let behind = part_fits raised (raise county (limit_of round limit) s) (after_raise round.format n) more rest keep spelled.3 v.4 less f in
         let sets = recursion_from_All IsSet (begun_groups takes) spelled.1 in
-        let inside = begun_fits takes s n more (items_of_part raised ++ rest) sets spelled.2 v.3 (closed_states p round order s state county (limit_of round limit) can (begun_groups takes) n v.2 few) behind in
-        (branch_fits round.format n county limit (omega (arith, some, few)) spelled.0,
-        subst (λ (l : List Item). AllFit (want.PartTakes round.format n ∷ more) l) (sym (append_assoc (items_of_begun takes) (item.Mark ∷ items_of_part raised) rest)) inside)
+        let inside = begun_fits takes s n more (items_of_part raised ++ rest) sets spelled.2 v.3 (closed_states p round order s state county (limit_of round limit) can (begun_groups takes) n v.2 few) behind in (
+          branch_fits round.format n county limit (omega (arith, some, few)) spelled.0,
+          subst (λ (l : List Item). AllFit (want.PartTakes round.format n ∷ more) l) (sym (append_assoc (items_of_begun takes) (item.Mark ∷ items_of_part raised) rest)) inside,
+        )
 
     begun_fits : (takes : PartialTakes) (s : State) (n : ℕ) (more : List Wanted) (rest : List Item) → AllByRecursion IsSet (begun_groups takes) → EachIsSpelled round takes → EachProvesPart takes p round s
         → ((g : List ℕ) → Has (begun_groups takes) g → IsState p round (close g s) × (depth_left round.format round (close g s) ≤ n - 1))
@@ -57,9 +58,11 @@ module _ (p : Problem) (round : Round) (order : IsOrder p round.order) where
 
 pub have_texts : PartsHaveTexts
 have_texts p round s part order state spelled v opened =
-    let fits = part_fits p round order part s (length round.order) [] [] state spelled v (at_most round.format round s) tt in
-    (text_of_items (items_of_part part), record {
-      opened = opened;
-      fits = subst (λ (l : List Item). AllFit (want.Part round.format (length round.order) ∷ []) l) (append-nil (items_of_part part)) fits;
-      text_is = refl;
-    })
+    let fits = part_fits p round order part s (length round.order) [] [] state spelled v (at_most round.format round s) tt in (
+      text_of_items (items_of_part part),
+      record {
+        opened = opened;
+        fits = subst (λ (l : List Item). AllFit (want.Part round.format (length round.order) ∷ []) l) (append-nil (items_of_part part)) fits;
+        text_is = refl;
+      },
+    )
