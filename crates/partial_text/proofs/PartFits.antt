@@ -1,10 +1,10 @@
 -- Partial trees that fit, part by part.
-use Rattle.std.proofs.Common.{◌≡◌, ℕ, zero, suc, ◌-◌, ◌≤◌, Bool, true, false, List, [], ◌∷◌, ◌++◌, length, map, Option, refl, sym, subst, append_assoc, arith}
+use Rattle.std.proofs.Common.{◌≡◌, ℕ, zero, suc, ◌-◌, Bool, true, false, List, [], ◌∷◌, ◌++◌, length, map, Option, refl, sym, subst, append_assoc, arith}
 use Rattle.certificate_data.specs.declared.format.Format.{Format}
 use Rattle.certificate_data.specs.Tree.{Allowance, Tree, leaf, stuck, seats, bound, branch, Takes, no_take, take}
 use Rattle.certificate_data.specs.TreeValue.{declared_allowance}
 use Rattle.certificate_laws.specs.Depth.{after_raise}
-use Rattle.certificate_lines.specs.Items.{wanted_after, allowances_wanted}
+use Rattle.certificate_lines.specs.Items.{allowances_wanted}
 use Rattle.certificate_lines.specs.Fitting.{IsWanted, IsSet, AllFit}
 use Rattle.certificate_lines.specs.Writing.{DontFit}
 use Rattle.certificate_lines.specs.declared.item.Opening.TheVariants as opening

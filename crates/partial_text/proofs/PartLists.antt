@@ -1,5 +1,5 @@
 -- The items of partial trees as lists of branches and takes, and where an open leaf stands.
-use Rattle.std.proofs.Common.{◌≡◌, ℕ, zero, suc, ◌+◌, ◌<◌, ◌≤◌, List, [], ◌∷◌, ◌++◌, length, get_or, ◌==◌, Bool, true, false, Option, Some, None, All, refl, ap, sym, subst, ◌∙◌, append_assoc, append-nil, arith}
+use Rattle.std.proofs.Common.{◌≡◌, ℕ, zero, suc, ◌+◌, ◌<◌, ◌≤◌, List, [], ◌∷◌, ◌++◌, length, get_or, ◌==◌, Bool, true, false, Option, Some, None, All, refl, ap, sym, subst, ◌∙◌, append_assoc, arith}
 use Rattle.std.specs.List.{AllByRecursion, flat_map}
 use Rattle.std.specs.Option.{is_some}
 use Rattle.std.proofs.lemmas.Bool.{false≢true, ne_eqb}
@@ -11,15 +11,15 @@ use Rattle.certificate_data.specs.Tree.{Tree}
 use Rattle.certificate_data.specs.TreeValue.{tree_of}
 use Rattle.certificate_data.specs.declared.tree.Tree.{Tree as DeclaredTree}
 use Rattle.certificate_text.specs.Trees.{items_of_tree}
-use Rattle.board_laws.specs.PartialTrees.{PartialTree, open_leaf, whole, begun, PartialTakes, no_begun, open_leaves, open_in}
+use Rattle.board_laws.specs.PartialTrees.{PartialTree, open_leaf, whole, begun, no_begun, open_leaves, open_in}
 use Rattle.partial_trees.specs.declared.tree.PartialTree.{PartialTree as Declared, out-PartialTree}
 use Rattle.partial_trees.specs.declared.tree.PartialBranch.{PartialBranch, out-PartialBranch}
 use Rattle.partial_trees.specs.declared.tree.PartialTake.{PartialTake, out-PartialTake}
-use Rattle.partial_trees.specs.PartialValue.{rest_of, partial_of, begun_onto, take_onto, list_of_begun, list_onto}
+use Rattle.partial_trees.specs.PartialValue.{rest_of, partial_of, begun_onto, list_of_begun, list_onto}
 use Rattle.partial_trees.specs.OpenBranches.{BranchesAreOpen, BranchesOfTakesAreOpen}
 use Rattle.partial_trees.proofs.PartialLists.{tree_made, branch_made, take_made}
 use Rattle.partial_text.specs.PartItems.{items_of_part, items_of_begun}
-use Rattle.partial_text.specs.Reading.{part_branch_items, part_take_items, takes_in, IsWholeTake, IsWholeBranch, StayOpen, StayOpenBefore}
+use Rattle.partial_text.specs.Reading.{part_branch_items, part_take_items, takes_in, IsWholeTake, StayOpen, StayOpenBefore}
 
 pub list_items : (bs : List PartialBranch) (t : PartialTree) → items_of_part (list_onto bs t) ≡ flat_map part_branch_items bs ++ items_of_part t
 list_items [] t = refl

@@ -17,10 +17,9 @@ use Rattle.certificate_lines.specs.declared.item.Item.TheVariants as item
 use Rattle.certificate_lines.specs.declared.item.Wanted.{Wanted}
 use Rattle.certificate_lines.specs.declared.item.Wanted.TheVariants as want
 use Rattle.certificate_text.proofs.LoopLaws.{reads_as}
-use Rattle.board_laws.specs.PartialTrees.{PartialTree, open_leaf, whole, begun, PartialTakes, no_begun, take_begun}
 use Rattle.partial_trees.specs.declared.tree.PartialTree.{PartialTree as Declared}
-use Rattle.partial_trees.specs.declared.tree.PartialBranch.{PartialBranch, out-PartialBranch, roll-PartialBranch, out-roll-PartialBranch}
-use Rattle.partial_trees.specs.declared.tree.PartialTake.{PartialTake, out-PartialTake, roll-PartialTake, out-roll-PartialTake}
+use Rattle.partial_trees.specs.declared.tree.PartialBranch.{PartialBranch, roll-PartialBranch, out-roll-PartialBranch}
+use Rattle.partial_trees.specs.declared.tree.PartialTake.{PartialTake, roll-PartialTake, out-roll-PartialTake}
 use Rattle.partial_trees.specs.PartialValue.{partial_of, list_of_begun}
 use Rattle.partial_text.specs.PartItems.{items_of_part, items_of_begun}
 use Rattle.partial_text.specs.Reading.{part_branch_items, part_take_items}

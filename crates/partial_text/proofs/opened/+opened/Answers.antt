@@ -1,14 +1,14 @@
-use Rattle.std.proofs.Common.{◌≡◌, ◌≤◌, ◌+◌, true, false, List, [], ◌∷◌, ◌++◌, length, take, All, ap, sym, subst, ◌∙◌, arith, take_all}
+use Rattle.std.proofs.Common.{◌≡◌, ◌≤◌, ◌+◌, List, [], ◌∷◌, ◌++◌, take, All, ap, sym, subst, ◌∙◌, arith, take_all}
 use Rattle.std.proofs.lemmas.Bool.{false≢true}
 use Rattle.certificate_data.proofs.ListLaws.{taken_more}
 use Rattle.board_laws.specs.PartialTrees.{PartialTree, open_leaves, open_in}
 use Rattle.partial_trees.specs.declared.tree.PartialTree.{out-PartialTree}
-use Rattle.partial_trees.specs.declared.tree.PartialBranch.{PartialBranch, out-PartialBranch}
+use Rattle.partial_trees.specs.declared.tree.PartialBranch.{PartialBranch}
 use Rattle.partial_trees.specs.declared.tree.PartialTake.{PartialTake}
-use Rattle.partial_trees.specs.PartialValue.{rest_of, partial_of, list_of_begun, list_onto}
+use Rattle.partial_trees.specs.PartialValue.{rest_of, list_of_begun, list_onto}
 use Rattle.partial_trees.specs.OpenBranches.{BranchesAreOpen, BranchesOfTakesAreOpen}
 use Rattle.partial_trees.proofs.PartialLists.{tree_made, branch_falls, take_falls, deep_in}
-use Rattle.partial_text.specs.Reading.{takes_in, IsWholeTake, StayOpen, StayOpenBefore}
+use Rattle.partial_text.specs.Reading.{IsWholeTake, StayOpen, StayOpenBefore}
 use Rattle.partial_text.proofs.PartLists.{stay_more, stay_none, before_more, begun_more, open_at}
 use Rattle.partial_text.proofs.OpenTests.{takes_open, open_later, stays_open, ends_open}
 use Rattle.partial_text.proofs.opened.+opened.Goals as goal

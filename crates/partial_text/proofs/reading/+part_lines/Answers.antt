@@ -1,6 +1,5 @@
-use Rattle.std.proofs.Common.{◌≡◌, ◌∙◌, ℕ, List, [], ◌∷◌, ◌++◌, Option, None, Some, map, refl, ap, sym, subst, arith, rules, append_assoc}
+use Rattle.std.proofs.Common.{◌≡◌, ◌∙◌, ℕ, List, [], ◌∷◌, ◌++◌, Option, None, Some, map, refl, ap, sym, subst, arith, rules}
 use Rattle.std.specs.List.{flat_map}
-use Rattle.certificate_laws.specs.Depth.{after_raise}
 use Rattle.certificate_lines.specs.Items.{by_words}
 use Rattle.certificate_lines.specs.Lines as line
 use Rattle.certificate_lines.specs.Rest.{TakesTextLine}
@@ -12,7 +11,6 @@ use Rattle.certificate_lines.specs.declared.item.Item.TheVariants as item
 use Rattle.certificate_lines.specs.declared.item.Wanted.TheVariants as want
 use Rattle.certificate_text.proofs.TreeViews.{bound_items}
 use Rattle.certificate_text.proofs.LoopLaws.{after_raise-le}
-use Rattle.partial_trees.specs.declared.tree.PartialBranch.{PartialBranch}
 use Rattle.partial_trees.specs.declared.tree.PartialTake.{PartialTake, roll-PartialTake, out-roll-PartialTake}
 use Rattle.partial_trees.specs.PartialValue.{partial_of, list_of_begun}
 use Rattle.partial_trees.specs.OpenBranches.{BranchesAreOpen, BranchesOfTakesAreOpen}

@@ -1,7 +1,6 @@
-use Rattle.std.proofs.Common.{◌≡◌, ◌+◌, List, [], ◌∷◌, take, All, sym, subst, arith, take_all}
+use Rattle.std.proofs.Common.{[], ◌∷◌, take, All, sym, subst, arith, take_all}
 use Rattle.std.proofs.lemmas.List.Elements.{All-append}
 use Rattle.certificate_data.proofs.ListLaws.{taken_more}
-use Rattle.partial_trees.specs.declared.tree.PartialTake.{PartialTake}
 use Rattle.partial_text.specs.Reading.{IsWholeTake}
 use Rattle.partial_text.proofs.PartLists.{open_at, one_of}
 use Rattle.partial_text.proofs.reading.have_open_leaf.Goals as goal

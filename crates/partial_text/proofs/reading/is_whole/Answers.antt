@@ -1,4 +1,4 @@
-use Rattle.std.proofs.Common.{◌≡◌, ◌==◌, List, length, ap, sym, ◌∙◌}
+use Rattle.std.proofs.Common.{◌==◌, List, length, ap, sym, ◌∙◌}
 use Rattle.partial_trees.specs.declared.tree.PartialTree.{out-PartialTree}
 use Rattle.partial_trees.specs.declared.tree.PartialBranch.{PartialBranch}
 use Rattle.partial_trees.specs.declared.tree.PartialTake.{out-PartialTake}

@@ -1,7 +1,7 @@
-use Rattle.std.proofs.Common.{◌≡◌, ◌≤◌, List, [], ◌∷◌, ◌++◌, All, ap, sym, subst, ◌∙◌}
+use Rattle.std.proofs.Common.{◌≤◌, List, [], ◌∷◌, ◌++◌, All, ap, sym, subst, ◌∙◌}
 use Rattle.std.proofs.lemmas.List.Elements.{All-append}
 use Rattle.board_laws.specs.PartialTrees.{open_in}
-use Rattle.partial_trees.specs.declared.tree.PartialBranch.{PartialBranch, out-PartialBranch}
+use Rattle.partial_trees.specs.declared.tree.PartialBranch.{PartialBranch}
 use Rattle.partial_trees.specs.declared.tree.PartialTake.{PartialTake}
 use Rattle.partial_trees.specs.PartialValue.{list_of_begun}
 use Rattle.partial_text.specs.Reading.{IsWholeTake, IsWholeBranch, StayOpen, StayOpenBefore}

@@ -1,11 +1,11 @@
-use Rattle.std.proofs.Common.{◌≡◌, List, [], ◌∷◌, ◌++◌, Some, None, length, refl, ap, sym, subst, ◌∙◌, append_assoc, append-nil, arith}
+use Rattle.std.proofs.Common.{◌≡◌, List, [], ◌∷◌, ◌++◌, length, ap, sym, ◌∙◌, append_assoc, append-nil, arith}
 use Rattle.std.specs.List.{flat_map}
 use Rattle.std.specs.Vec.Iter.{into_iter_items}
 use Rattle.std.proofs.lemmas.Grind.{flat_map-append}
 use Rattle.certificate_lines.specs.declared.item.Opening.TheVariants as opening
 use Rattle.certificate_lines.specs.declared.item.Item.{Item}
 use Rattle.certificate_lines.specs.declared.item.Item.TheVariants as item
-use Rattle.certificate_data.specs.declared.tree.Branch.{Branch, roll-Branch, out-roll-Branch}
+use Rattle.certificate_data.specs.declared.tree.Branch.{roll-Branch, out-roll-Branch}
 use Rattle.certificate_data.specs.TreeValue.{list_of_takes}
 use Rattle.certificate_text.specs.Trees.{items_of_takes}
 use Rattle.certificate_text.specs.Writing.{branch_items}

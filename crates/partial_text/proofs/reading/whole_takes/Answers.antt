@@ -1,4 +1,4 @@
-use Rattle.std.proofs.Common.{◌≡◌, List, [], ◌∷◌, ◌++◌, Some, None, length, refl, ap, sym, subst, ◌∙◌, append_assoc, append-nil, arith}
+use Rattle.std.proofs.Common.{◌≡◌, List, [], ◌∷◌, ◌++◌, length, ap, sym, ◌∙◌, append_assoc, append-nil, arith}
 use Rattle.std.specs.List.{flat_map}
 use Rattle.std.specs.Vec.Iter.{into_iter_items}
 use Rattle.std.proofs.lemmas.Grind.{flat_map-append}
@@ -7,7 +7,6 @@ use Rattle.certificate_data.specs.declared.tree.Take.{Take, roll-Take}
 use Rattle.certificate_data.specs.TreeValue.{list_of_takes}
 use Rattle.certificate_text.specs.Trees.{items_of_takes}
 use Rattle.certificate_text.proofs.TreeViews.{items_of_take, takes_more, made_take}
-use Rattle.partial_trees.specs.declared.tree.PartialTree.{out-PartialTree}
 use Rattle.partial_trees.specs.declared.tree.PartialTake.{PartialTake, out-PartialTake}
 use Rattle.partial_text.specs.Reading.{IsWholeTake, part_take_items}
 use Rattle.partial_text.proofs.PartLists.{all_at, whole_items, no_rest, takes_items, nothing_left}

@@ -1,15 +1,13 @@
-use Rattle.std.proofs.Common.{◌≡◌, List, [], ◌∷◌, ◌++◌, Some, ap, sym, subst, ◌∙◌, append_assoc}
+use Rattle.std.proofs.Common.{◌≡◌, List, ◌++◌, Some, ap, sym, subst, ◌∙◌, append_assoc}
 use Rattle.std.specs.List.{flat_map}
 use Rattle.std.proofs.lemmas.Grind.{flat_map-append}
 use Rattle.certificate_lines.specs.declared.item.Item.{Item}
-use Rattle.certificate_data.specs.declared.tree.Branch.{Branch}
 use Rattle.certificate_data.specs.declared.tree.Tree.{roll-Tree, out-roll-Tree}
 use Rattle.certificate_data.specs.TreeValue.{leaf_of, tree_of}
 use Rattle.certificate_text.specs.Trees.{leaf_items, items_of_tree}
 use Rattle.certificate_text.specs.Writing.{branch_items}
 use Rattle.certificate_text.proofs.Parts.{tree_is}
 use Rattle.board_laws.specs.PartialTrees.{whole}
-use Rattle.partial_trees.specs.PartialValue.{partial_of, list_onto}
 use Rattle.partial_trees.specs.OpenBranches.{BranchesAreOpen}
 use Rattle.partial_trees.proofs.PartialLists.{made_tree}
 use Rattle.partial_text.specs.PartItems.{items_of_part}

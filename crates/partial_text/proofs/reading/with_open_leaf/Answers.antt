@@ -1,11 +1,9 @@
-use Rattle.std.proofs.Common.{◌≡◌, List, [], ◌∷◌, ◌++◌, None, ap, sym, subst, ◌∙◌}
+use Rattle.std.proofs.Common.{List, [], ◌∷◌, ◌++◌, None, ap, sym, subst, ◌∙◌}
 use Rattle.std.specs.List.{flat_map}
-use Rattle.certificate_lines.specs.declared.item.Item.{Item}
 use Rattle.certificate_lines.specs.declared.item.Item.TheVariants as item
-use Rattle.board_laws.specs.PartialTrees.{PartialTree as PartValue, open_leaf}
-use Rattle.partial_trees.specs.declared.tree.PartialTree.{roll-PartialTree}
+use Rattle.board_laws.specs.PartialTrees.{open_leaf}
 use Rattle.partial_trees.specs.declared.tree.PartialBranch.{PartialBranch}
-use Rattle.partial_trees.specs.PartialValue.{partial_of, list_onto}
+use Rattle.partial_trees.specs.PartialValue.{list_onto}
 use Rattle.partial_trees.specs.OpenBranches.{BranchesAreOpen}
 use Rattle.partial_trees.proofs.PartialLists.{made_tree}
 use Rattle.partial_text.specs.PartItems.{items_of_part}
