@@ -19,8 +19,8 @@ use Rattle.certificate_laws.specs.Certificate.{TargetFits, IsCertificate, Conclu
 use Rattle.certificate_laws.proofs.Agreement.{certificate_shows}
 use Rattle.board_laws.specs.Skeleton.{Skeleton, proved, groups_in, pieces, pieces_in, waiting, HasTree, WasSplit, joined, IsSkeleton, EachIsSkeleton, put, parts_from, split_from}
 use Rattle.board_laws.specs.Standing.{StandsAt, AreNumbered, is_numbered}
-use Rattle.board_laws.specs.PartialTrees.{PartialTree, skeleton_from, as_piece, open_branch}
-use Rattle.board_laws.specs.Content.{Content, Event, hand, result, split_piece, better, wider, Reply, Piece, NothingLeft, Accepted, Split, NewRound, OldRound, NoSuchPiece, AlreadyDone, AlreadySplit, CantSplit, NotAProof, NotBetter, CantWiden, TooManyPieces, Budget, Memory, Waits, Begins, Fills, Splits, Parted, Renews, Improves, Leads, EventAndReply, LeadsOver, IsContent}
+use Rattle.board_laws.specs.PartialTrees.{PartialTree, open_leaf, whole, begun, IsPart, ProvesPart, skeleton_from, as_piece, open_branch}
+use Rattle.board_laws.specs.Content.{Content, Event, hand, result, split_piece, part_piece, better, wider, Reply, Piece, NothingLeft, Accepted, Split, NewRound, OldRound, NoSuchPiece, AlreadyDone, AlreadySplit, CantSplit, NotAPart, NotAProof, NotBetter, CantWiden, TooManyPieces, Budget, Memory, Waits, Begins, Fills, Splits, Parted, Renews, Improves, Leads, EventAndReply, LeadsOver, IsContent}
 use Rattle.board_laws.specs.Laws.{TargetGrew, BoardsKeep}
 use Rattle.board_laws.proofs.Joining.{joined_proves}
 use Rattle.board_laws.proofs.Numbers.{often_append, often_contains, few_wait, put_count}
@@ -152,6 +152,12 @@ split_part p b c n county limit first many f = record {
   is = f.is ∙ ap (λ (z : Skeleton). record b { skeleton = put n z b.skeleton; last = b.last + many }) (open_skeleton n county limit first f.groups);
 }
 
+-- the piece of a part stands where the part begins
+part_stands : (n first : ℕ) (tree : PartialTree) (round : Round) (s : State) → IsPart tree → StandsAt (as_piece n (skeleton_from first tree)) round s n s
+part_stands n first open_leaf round s h = absurd h
+part_stands n first (whole tree) round s h = absurd h
+part_stands n first (begun county limit takes raised) round s h = inl (refl, refl)
+
 -- a target that fits a limit fits one more
 pub wider_fits : (p : Problem) (limit : ℕ) (target : Option Grouping) → TargetFits p limit target → TargetFits p (limit + 1) target
 wider_fits p limit None fits = tt
@@ -162,6 +168,7 @@ pub data Change (p : Problem) (depth : ℕ) (b c : Content) : Type 0 where
   nothing : c ≡ b → Change p depth b c
   filled : (n : ℕ) (tree : Tree) → Fills p b n tree c → Change p depth b c
   divided : (n county limit first many : ℕ) → Splits p b n county limit first many c → Change p depth b c
+  parted : (n : ℕ) (tree : PartialTree) (first many : ℕ) → Parted p b n tree first many c → Change p depth b c
   improved : (g : Grouping) (next : ℕ) → Improves p b.round g → Renews p depth b (record (b.round) { target = Some g }) next c → Change p depth b c
   widened : (next : ℕ) → Renews p depth b (record (b.round) { limit = b.round.limit + 1 }) next c → Change p depth b c
 
@@ -169,9 +176,11 @@ pub change : (p : Problem) (depth : ℕ) (b c : Content) (event : Event) (reply 
 change p depth b c (result number n tree) Accepted l = filled n tree l.1
 change p depth b c (hand from) Accepted l = absurd l
 change p depth b c (split_piece number n county limit) Accepted l = absurd l
+change p depth b c (part_piece number n tree) Accepted l = absurd l
 change p depth b c (better number g) Accepted l = absurd l
 change p depth b c (wider number) Accepted l = absurd l
 change p depth b c (split_piece number n county limit) (Split first many) l = divided n county limit first many l.1
+change p depth b c (part_piece number n tree) (Split first many) l = parted n tree first many l.1
 change p depth b c (hand from) (Split first many) l = absurd l
 change p depth b c (result number n tree) (Split first many) l = absurd l
 change p depth b c (better number g) (Split first many) l = absurd l
@@ -181,6 +190,7 @@ change p depth b c (wider number) (NewRound next) l = widened next l.2
 change p depth b c (hand from) (NewRound next) l = absurd l
 change p depth b c (result number n tree) (NewRound next) l = absurd l
 change p depth b c (split_piece number n county limit) (NewRound next) l = absurd l
+change p depth b c (part_piece number n tree) (NewRound next) l = absurd l
 change p depth b c event (Piece number n state) l = nothing l
 change p depth b c event NothingLeft l = nothing l
 change p depth b c event OldRound l = nothing l
@@ -188,6 +198,7 @@ change p depth b c event NoSuchPiece l = nothing l
 change p depth b c event AlreadyDone l = nothing l
 change p depth b c event AlreadySplit l = nothing l
 change p depth b c event CantSplit l = nothing l
+change p depth b c event NotAPart l = nothing l
 change p depth b c event NotAProof l = nothing l
 change p depth b c event NotBetter l = nothing l
 change p depth b c event CantWiden l = nothing l
@@ -204,6 +215,7 @@ changed_content : (p : Problem) (depth : ℕ) (b c : Content) → IsContent p b 
 changed_content p depth b c is (nothing e) = subst (IsContent p) (sym e) is
 changed_content p depth b c is (filled n tree f) = fills_content p b n tree c is f
 changed_content p depth b c is (divided n county limit first many f) = splits_content p b n county limit first many c is f
+changed_content p depth b c is (parted n tree first many f) = parts_content p b n tree first many c is f
 changed_content p depth b c is (improved g next gain r) = renews_content p depth b c (record (b.round) { target = Some g }) next g is.window is.order refl (gain.lawful, gain.small) r
 changed_content p depth b c is (widened next r) =
     renews_content p depth b c (record (b.round) { limit = b.round.limit + 1 }) next is.target is.window is.order is.target_is (wider_fits p b.round.limit b.round.target is.fits) r
@@ -226,6 +238,7 @@ changed_order : (p : Problem) (depth : ℕ) (b c : Content) → Change p depth b
 changed_order p depth b c (nothing e) = (ap (λ (z : Content). z.round.order) e, ap (λ (z : Content). z.round.format) e)
 changed_order p depth b c (filled n tree f) = (ap (λ (z : Content). z.round.order) f.is, ap (λ (z : Content). z.round.format) f.is)
 changed_order p depth b c (divided n county limit first many f) = (ap (λ (z : Content). z.round.order) f.is, ap (λ (z : Content). z.round.format) f.is)
+changed_order p depth b c (parted n tree first many f) = (ap (λ (z : Content). z.round.order) f.is, ap (λ (z : Content). z.round.format) f.is)
 changed_order p depth b c (improved g next gain r) = (ap (λ (z : Round). z.order) r.round_is, ap (λ (z : Round). z.format) r.round_is)
 changed_order p depth b c (widened next r) = (ap (λ (z : Round). z.order) r.round_is, ap (λ (z : Round). z.format) r.round_is)
 
@@ -247,6 +260,7 @@ changed_target : (p : Problem) (depth : ℕ) (b c : Content) → Change p depth 
 changed_target p depth b c (nothing e) = inl (ap (λ (z : Content). z.round.target) e)
 changed_target p depth b c (filled n tree f) = inl (ap (λ (z : Content). z.round.target) f.is)
 changed_target p depth b c (divided n county limit first many f) = inl (ap (λ (z : Content). z.round.target) f.is)
+changed_target p depth b c (parted n tree first many f) = inl (ap (λ (z : Content). z.round.target) f.is)
 changed_target p depth b c (improved g next gain r) = inr (grew b.round.target c.round.target g (ap (λ (z : Round). z.target) r.round_is) gain.greater)
 changed_target p depth b c (widened next r) = inl (ap (λ (z : Round). z.target) r.round_is)
 
@@ -275,6 +289,7 @@ changed_trees : (p : Problem) (depth : ℕ) (b c : Content) (n : ℕ) (tree : Tr
 changed_trees p depth b c n tree (nothing e) same h = subst (λ (z : Content). HasTree z.skeleton n tree) (sym e) h
 changed_trees p depth b c n tree (filled m new f) same h = subst (λ (z : Content). HasTree z.skeleton n tree) (sym f.is) (put_trees m (proved (Some m) new) b.skeleton n tree h)
 changed_trees p depth b c n tree (divided m county limit first many f) same h = subst (λ (z : Content). HasTree z.skeleton n tree) (sym f.is) (put_trees m (split_from m county limit first f.groups) b.skeleton n tree h)
+changed_trees p depth b c n tree (parted m part first many f) same h = subst (λ (z : Content). HasTree z.skeleton n tree) (sym f.is) (put_trees m (as_piece m (skeleton_from first part)) b.skeleton n tree h)
 changed_trees p depth b c n tree (improved g next gain r) same h = absurd (renews_other p depth b c (record (b.round) { target = Some g }) next r same)
 changed_trees p depth b c n tree (widened next r) same h = absurd (renews_other p depth b c (record (b.round) { limit = b.round.limit + 1 }) next r same)
 
@@ -282,6 +297,7 @@ changed_splits : (p : Problem) (depth : ℕ) (b c : Content) (n at : ℕ) (most 
 changed_splits p depth b c n at most (nothing e) same h = subst (λ (z : Content). WasSplit z.skeleton n at most) (sym e) h
 changed_splits p depth b c n at most (filled m new f) same h = subst (λ (z : Content). WasSplit z.skeleton n at most) (sym f.is) (put_splits m (proved (Some m) new) b.skeleton n at most h)
 changed_splits p depth b c n at most (divided m county limit first many f) same h = subst (λ (z : Content). WasSplit z.skeleton n at most) (sym f.is) (put_splits m (split_from m county limit first f.groups) b.skeleton n at most h)
+changed_splits p depth b c n at most (parted m part first many f) same h = subst (λ (z : Content). WasSplit z.skeleton n at most) (sym f.is) (put_splits m (as_piece m (skeleton_from first part)) b.skeleton n at most h)
 changed_splits p depth b c n at most (improved g next gain r) same h = absurd (renews_other p depth b c (record (b.round) { target = Some g }) next r same)
 changed_splits p depth b c n at most (widened next r) same h = absurd (renews_other p depth b c (record (b.round) { limit = b.round.limit + 1 }) next r same)
 
@@ -289,6 +305,8 @@ changed_stands : (p : Problem) (depth : ℕ) (b c : Content) (n : ℕ) (s : Stat
 changed_stands p depth b c n s (nothing e) same h = subst (λ (z : Content). StandsAt z.skeleton z.round (empty_state p) n s) (sym e) h
 changed_stands p depth b c n s (filled m new f) same h = subst (λ (z : Content). StandsAt z.skeleton z.round (empty_state p) n s) (sym f.is) (put_stands m (proved (Some m) new) b.skeleton b.round (empty_state p) n s (λ u. (refl, refl)) h)
 changed_stands p depth b c n s (divided m county limit first many f) same h = subst (λ (z : Content). StandsAt z.skeleton z.round (empty_state p) n s) (sym f.is) (put_stands m (split_from m county limit first f.groups) b.skeleton b.round (empty_state p) n s (λ u. inl (refl, refl)) h)
+changed_stands p depth b c n s (parted m part first many f) same h =
+    subst (λ (z : Content). StandsAt z.skeleton z.round (empty_state p) n s) (sym f.is) (put_stands m (as_piece m (skeleton_from first part)) b.skeleton b.round (empty_state p) n s (λ u. part_stands m first part b.round u f.is_part) h)
 changed_stands p depth b c n s (improved g next gain r) same h = absurd (renews_other p depth b c (record (b.round) { target = Some g }) next r same)
 changed_stands p depth b c n s (widened next r) same h = absurd (renews_other p depth b c (record (b.round) { limit = b.round.limit + 1 }) next r same)
 
@@ -296,6 +314,7 @@ changed_number : (p : Problem) (depth : ℕ) (b c : Content) → Change p depth 
 changed_number p depth b c (nothing e) = inl (ap (λ (z : Content). z.number) e)
 changed_number p depth b c (filled n tree f) = inl (ap (λ (z : Content). z.number) f.is)
 changed_number p depth b c (divided n county limit first many f) = inl (ap (λ (z : Content). z.number) f.is)
+changed_number p depth b c (parted n tree first many f) = inl (ap (λ (z : Content). z.number) f.is)
 changed_number p depth b c (improved g next gain r) = inr (r.counted ∙ r.number_is)
 changed_number p depth b c (widened next r) = inr (r.counted ∙ r.number_is)
 
@@ -311,6 +330,7 @@ same_result p depth b c number n tree NoSuchPiece f l = l
 same_result p depth b c number n tree AlreadyDone f l = l
 same_result p depth b c number n tree AlreadySplit f l = l
 same_result p depth b c number n tree CantSplit f l = l
+same_result p depth b c number n tree NotAPart f l = l
 same_result p depth b c number n tree NotAProof f l = l
 same_result p depth b c number n tree NotBetter f l = l
 same_result p depth b c number n tree CantWiden f l = l
@@ -329,12 +349,32 @@ same_split p depth b c number n county limit NoSuchPiece f l = l
 same_split p depth b c number n county limit AlreadyDone f l = l
 same_split p depth b c number n county limit AlreadySplit f l = l
 same_split p depth b c number n county limit CantSplit f l = l
+same_split p depth b c number n county limit NotAPart f l = l
 same_split p depth b c number n county limit NotAProof f l = l
 same_split p depth b c number n county limit NotBetter f l = l
 same_split p depth b c number n county limit CantWiden f l = l
 same_split p depth b c number n county limit TooManyPieces f l = l
 same_split p depth b c number n county limit Budget f l = l
 same_split p depth b c number n county limit Memory f l = l
+
+same_part : (p : Problem) (depth : ℕ) (b c : Content) (number n : ℕ) (tree : PartialTree) (reply : Reply) → (number ≡ b.number → (first many : ℕ) → Parted p b n tree first many c → ⊥) → Leads p depth b (part_piece number n tree) reply c → c ≡ b
+same_part p depth b c number n tree Accepted f l = absurd l
+same_part p depth b c number n tree (Split first many) f l = absurd (f l.0 first many l.1)
+same_part p depth b c number n tree (NewRound next) f l = absurd l
+same_part p depth b c number n tree (Piece k m state) f l = l
+same_part p depth b c number n tree NothingLeft f l = l
+same_part p depth b c number n tree OldRound f l = l
+same_part p depth b c number n tree NoSuchPiece f l = l
+same_part p depth b c number n tree AlreadyDone f l = l
+same_part p depth b c number n tree AlreadySplit f l = l
+same_part p depth b c number n tree CantSplit f l = l
+same_part p depth b c number n tree NotAPart f l = l
+same_part p depth b c number n tree NotAProof f l = l
+same_part p depth b c number n tree NotBetter f l = l
+same_part p depth b c number n tree CantWiden f l = l
+same_part p depth b c number n tree TooManyPieces f l = l
+same_part p depth b c number n tree Budget f l = l
+same_part p depth b c number n tree Memory f l = l
 
 pub boards_keep : BoardsKeep
 boards_keep = record {
@@ -355,5 +395,9 @@ boards_keep = record {
   old_split = λ p depth b c number n county limit reply other l. same_split p depth b c number n county limit reply (λ e f. other e) l;
   late_result = λ p depth b c number n tree reply gone l. same_result p depth b c number n tree reply (λ e f. gone f.waits.0) l;
   late_split = λ p depth b c number n county limit reply gone l. same_split p depth b c number n county limit reply (λ e f. gone f) l;
+  old_part = λ p depth b c number n tree reply other l. same_part p depth b c number n tree reply (λ e first many f. other e) l;
+  late_part = λ p depth b c number n tree reply gone l. same_part p depth b c number n tree reply (λ e first many f. gone f.waits.0) l;
+  false_part = λ p depth b c number n tree reply s is h none l.
+      same_part p depth b c number n tree reply (λ e first many f. none (subst (ProvesPart tree p b.round) (waits_there p b n f.state s is.numbered f.waits h) f.proves)) l;
   false_result = λ p depth b c number n tree reply s is h none l. same_result p depth b c number n tree reply (λ e f. none (subst (Proves tree p b.round) (waits_there p b n f.state s is.numbered f.waits h) f.proves)) l;
 }

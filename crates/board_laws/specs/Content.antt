@@ -22,6 +22,7 @@ pub data Event : Type 0 where
   hand : (from : ℕ) → Event
   result : (number piece : ℕ) → (tree : Tree) → Event
   split_piece : (number piece county limit : ℕ) → Event
+  part_piece : (number piece : ℕ) → (tree : PartialTree) → Event
   better : (number : ℕ) → (grouping : Grouping) → Event
   wider : (number : ℕ) → Event
 
@@ -37,6 +38,7 @@ pub data Reply : Type 0 where
   AlreadyDone : Reply
   AlreadySplit : Reply
   CantSplit : Reply
+  NotAPart : Reply
   NotAProof : Reply
   NotBetter : Reply
   CantWiden : Reply
@@ -131,10 +133,11 @@ abbrev pub GivesTree : Problem → Content → Event → Content → Type 0
 GivesTree p b (result number n tree) c = (number ≡ b.number) × Fills p b n tree c
 GivesTree p b event c = ⊥
 
--- a split is one of this round
+-- a split is one of this round, and so is a part
 abbrev pub GivesPieces : Problem → Content → Event → ℕ → ℕ → Content → Type 0
 GivesPieces p b (split_piece number n county limit) first many c =
     (number ≡ b.number) × Splits p b n county limit first many c
+GivesPieces p b (part_piece number n tree) first many c = (number ≡ b.number) × Parted p b n tree first many c
 GivesPieces p b event first many c = ⊥
 
 -- a new round has a better target, or a limit that is one greater; both come of this round

@@ -11,9 +11,9 @@ use Rattle.certificate_laws.specs.Proving.{Proves}
 use Rattle.certificate_laws.specs.Certificate.{IsCertificate, TargetFits}
 use Rattle.board_laws.specs.Skeleton.{Skeleton, pieces, waiting, HasTree, WasSplit, joined, IsSkeleton, bare}
 use Rattle.board_laws.specs.Standing.{StandsAt, AreNumbered, Held, Holds}
-use Rattle.board_laws.specs.PartialTrees.{PartialTree, open_branch}
-use Rattle.board_laws.specs.Content.{Content, Event, result, split_piece, Reply, IsContent, Begins, Splits}
-use Rattle.board_laws.specs.Content.{Parted, Leads, LeadsOver}
+use Rattle.board_laws.specs.PartialTrees.{PartialTree, ProvesPart, open_branch}
+use Rattle.board_laws.specs.Content.{Content, Event, result, split_piece, part_piece, Reply, IsContent, Begins}
+use Rattle.board_laws.specs.Content.{Splits, Parted, Leads, LeadsOver}
 use Rattle.board_laws.specs.Content.{EventAndReply}
 
 -- A skeleton in which no piece waits is a proof tree, and only then is there one to be joined.
@@ -93,6 +93,14 @@ pub record BoardsKeep : Type 0 where
       → (¬ Contains (waiting b.skeleton) n) → Leads p depth b (result number n tree) reply c → c ≡ b
   pub late_split : (p : Problem) (depth : ℕ) (b c : Content) (number n county limit : ℕ) (reply : Reply)
       → (¬ Contains (waiting b.skeleton) n) → Leads p depth b (split_piece number n county limit) reply c → c ≡ b
+  pub old_part : (p : Problem) (depth : ℕ) (b c : Content) (number n : ℕ) (tree : PartialTree) (reply : Reply)
+      → number ≢ b.number → Leads p depth b (part_piece number n tree) reply c → c ≡ b
+  pub late_part : (p : Problem) (depth : ℕ) (b c : Content) (number n : ℕ) (tree : PartialTree) (reply : Reply)
+      → (¬ Contains (waiting b.skeleton) n) → Leads p depth b (part_piece number n tree) reply c → c ≡ b
+  pub false_part : (p : Problem) (depth : ℕ) (b c : Content) (number n : ℕ) (tree : PartialTree) (reply : Reply)
+      (s : State)
+      → IsContent p b → StandsAt b.skeleton b.round (empty_state p) n s → (¬ ProvesPart tree p b.round s)
+      → Leads p depth b (part_piece number n tree) reply c → c ≡ b
   pub false_result : (p : Problem) (depth : ℕ) (b c : Content) (number n : ℕ) (tree : Tree) (reply : Reply) (s : State)
       → IsContent p b → StandsAt b.skeleton b.round (empty_state p) n s → (¬ Proves tree p b.round s)
       → Leads p depth b (result number n tree) reply c → c ≡ b

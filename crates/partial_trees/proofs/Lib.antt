@@ -1,4 +1,5 @@
 pub mod PartialLists
+pub mod OpenLeaves
 pub mod Spelled
 pub mod Taking
 pub mod Standing

@@ -3,7 +3,7 @@ use Rattle.std.proofs.Common.{◌≡◌, ℕ, zero, suc, ◌+◌, ◌<◌, ◌�
 use Rattle.std.proofs.lemmas.List.{drop_more}
 use mathlib.Core.Former.{Count}
 use Rattle.certificate_data.specs.declared.tree.Tree.{Tree as DeclaredTree}
-use Rattle.board_laws.specs.PartialTrees.{PartialTree, open_leaf, whole, begun, PartialTakes, no_begun, take_begun}
+use Rattle.board_laws.specs.PartialTrees.{PartialTree, open_leaf, whole, begun, PartialTakes, no_begun, take_begun, open_leaves, open_in}
 use Rattle.partial_trees.specs.declared.tree.PartialTree.{PartialTree as Declared, PartialTree', Row_of-PartialBranch, end_of-PartialBranch, more_of-PartialBranch, items-the_row-PartialBranch, items_hidden-the_row-PartialBranch-1, roll-PartialTree, out-PartialTree, roll-out-PartialTree}
 use Rattle.partial_trees.specs.declared.tree.PartialBranch.{PartialBranch, PartialBranch', Row_of-PartialTake, end_of-PartialTake, more_of-PartialTake, items-the_row-PartialTake, items_hidden-the_row-PartialTake-0, roll-PartialBranch, out-PartialBranch, roll-out-PartialBranch}
 use Rattle.partial_trees.specs.declared.tree.PartialTake.{PartialTake, roll-PartialTake, out-PartialTake, roll-out-PartialTake}
@@ -93,3 +93,12 @@ branch_falls part branches i b are is lt =
 
 pub take_falls : (takes : List PartialTake) (i : ℕ) (t : PartialTake) → t ≡ get_or takes i t → i < length takes → deep (partial_of (out-PartialTake t).tree) < deep_in (list_of_begun takes)
 take_falls takes i t is lt = omega (arith, ap deep_in (left_takes takes i t is lt), deep_others takes i)
+
+-- how many open leaves are left when a branch or a take is read
+pub leaves_left : (branches : List PartialBranch) (i : ℕ) (b : PartialBranch) (rest : PartialTree) → b ≡ get_or branches i b → i < length branches
+    → open_leaves (list_onto (drop i branches) rest) ≡ open_in (list_of_begun (out-PartialBranch b).takes.items) + open_leaves (list_onto (drop (i + 1) branches) rest)
+leaves_left branches i b rest is lt = ap open_leaves (left_branches branches i b rest is lt)
+
+pub takes_left : (takes : List PartialTake) (i : ℕ) (t : PartialTake) → t ≡ get_or takes i t → i < length takes
+    → open_in (list_of_begun (drop i takes)) ≡ open_leaves (partial_of (out-PartialTake t).tree) + open_in (list_of_begun (drop (i + 1) takes))
+takes_left takes i t is lt = ap open_in (left_takes takes i t is lt)

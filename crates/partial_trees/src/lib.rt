@@ -8,6 +8,7 @@
 mod input;
 mod judging;
 mod laws;
+mod open_leaves;
 mod stop;
 mod tree;
 

@@ -3,7 +3,7 @@ use Rattle.std.proofs.Common.{◌≡◌, ℕ, zero, suc, ◌+◌, ◌<◌, Bool,
 use Rattle.std.specs.declared.alloc.AllocError.{AllocError}
 use Rattle.std.specs.List.Sorted.{IsStrictlyIncreasing}
 use Rattle.grouping_laws.proofs.Elements.{Has, has_from_contains, contains_from_has}
-use Rattle.certificate_data.specs.TreeValue.{tree_of}
+use Rattle.partial_trees.specs.PartialValue.{partial_of}
 use Rattle.board_laws.specs.Skeleton.{waiting}
 use Rattle.board_laws.specs.Content.{Content}
 use Rattle.share_board.specs.declared.piece.Fate.{Fate}
@@ -12,7 +12,7 @@ use Rattle.share_board.specs.HeldSkeleton.{is_waiting}
 use Rattle.share_board.specs.BoardValue.{IsOf}
 use Rattle.share_board.specs.OpenPieces.{AreOpen, numbers}
 use Rattle.share_board.proofs.Filling.{waits_there}
-use Rattle.share_board.proofs.HandedOut.{waits_below, numbers_wait, wait_numbers}
+use Rattle.share_board.proofs.HandedOut.{waits_at, numbers_wait, wait_numbers}
 
 -- one number more, in front of greater ones
 rising_on : (x : ℕ) (ys : List ℕ) → ((y : ℕ) → Has ys y → x < y) → IsStrictlyIncreasing ys → IsStrictlyIncreasing (x ∷ ys)
@@ -41,7 +41,7 @@ are_open test board b is = record {
   each = λ n. (
     λ h. let r = numbers_wait 1 n board.fates.items (has_from_contains (numbers 1 board.fates.items) n h) in subst (Contains (waiting b.skeleton)) (omega (arith, r.1)) (waits_there test board b is r.0 r.2),
     λ h.
-        let at = waits_below board.fates.items (tree_of board.above) 0 is.opening b.skeleton n is.shows (has_from_contains (waiting b.skeleton) n h) in
+        let at = waits_at board.fates.items (partial_of board.above) 0 b.skeleton n is.shows (has_from_contains (waiting b.skeleton) n h) in
         contains_from_has (numbers 1 board.fates.items) n (subst (Has (numbers 1 board.fates.items)) (omega (arith, at.1)) (wait_numbers 1 at.0 board.fates.items at.2)),
   );
 }

@@ -6,47 +6,49 @@ use Rattle.certificate_data.specs.Round.{Round}
 use Rattle.certificate_laws.specs.State.{State, open_to, close, raise}
 use Rattle.state_groups.specs.declared.state.State.{State as StateHeld}
 use Rattle.certificate_laws.specs.Groups.{AreGroupsAt}
-use Rattle.certificate_data.specs.Tree.{Tree, Leaf, leaf, branch, Takes, no_take, take}
+use Rattle.board_laws.specs.PartialTrees.{PartialTree, open_leaf, begun, PartialTakes, no_begun, take_begun}
 use Rattle.certificate_laws.specs.Proving.{NamesLimit, CanBranch, limit_of}
 use Rattle.certificate_laws.proofs.Decided.{leaves_are_decided}
 use Rattle.board_laws.specs.Skeleton.{Skeleton, waits, proved, split, Parts, no_part, part, groups_in}
 use Rattle.board_laws.specs.Standing.{StandsAt, StandsIn}
 use Rattle.board_laws.specs.Content.{Opens, EachOpens}
 use Rattle.share_board.specs.Replies.{most_opening, OpensWithMore}
+use Rattle.share_board.specs.HeldSkeleton.{Shows, PartsShow}
 use Rattle.share_board.specs.BoardValue.{IsPieceState}
 use Rattle.share_board.specs.Openings.{IsOpened, AreOpened, EachOpensWithMore}
 use Rattle.share_board.proofs.OneOpening.{opens_up, opens_up_in, opens_one, opens_one_in, one_county, at_limit}
 
 module _ {C : Type 0} (test : C → ℕ → Bool) (p : Problem) (round : Round) where
   -- what was opened stays so where states are kept
-  pub opened_kept : (depth : ℕ) (s : State) (tree : Tree) (first next : ℕ) (states news : List (StateHeld C)) → IsOpened test p round depth s tree first next states
+  pub opened_kept : (depth : ℕ) (s : State) (tree : PartialTree) (first next : ℕ) (states news : List (StateHeld C)) → IsOpened test p round depth s tree first next states
       → ((k : ℕ) (t : State) → IsPieceState round.order test states k t → IsPieceState round.order test news k t) → IsOpened test p round depth s tree first next news
-  opened_kept depth s tree first next states news o kept = record { skeleton = o.skeleton; opens = o.opens; shows = o.shows; stand = λ k t h. kept k t (o.stand k t h) }
+  opened_kept depth s tree first next states news o kept = record { skeleton = o.skeleton; opens = o.opens; places = o.places; shows = o.shows; stand = λ k t h. kept k t (o.stand k t h) }
 
-  pub are_opened_kept : (depth : ℕ) (s : State) (groups : List (List ℕ)) (takes : Takes) (first next : ℕ) (states news : List (StateHeld C)) → AreOpened test p round depth s groups takes first next states
+  pub are_opened_kept : (depth : ℕ) (s : State) (groups : List (List ℕ)) (takes : PartialTakes) (first next : ℕ) (states news : List (StateHeld C)) → AreOpened test p round depth s groups takes first next states
       → ((k : ℕ) (t : State) → IsPieceState round.order test states k t → IsPieceState round.order test news k t) → AreOpened test p round depth s groups takes first next news
   are_opened_kept depth s groups takes first next states news o kept =
-      record { parts = o.parts; groups_are = o.groups_are; opens = o.opens; shows = o.shows; stand = λ k t h. kept k t (o.stand k t h) }
+      record { parts = o.parts; groups_are = o.groups_are; opens = o.opens; places = o.places; shows = o.shows; stand = λ k t h. kept k t (o.stand k t h) }
 
   -- one piece
-  pub piece_opened : (depth : ℕ) (s : State) (l : Leaf) (first : ℕ) (states : List (StateHeld C)) → (depth ≡ 0) ⊎ ((c : ℕ) → open_to s round.limit c ≢ true) → IsPieceState round.order test states first s
-      → IsOpened test p round depth s (leaf l) first (first + 1) states
-  piece_opened depth s l first states why kept = record {
+  pub piece_opened : (depth : ℕ) (s : State) (first : ℕ) (states : List (StateHeld C)) → (depth ≡ 0) ⊎ ((c : ℕ) → open_to s round.limit c ≢ true) → IsPieceState round.order test states first s
+      → IsOpened test p round depth s open_leaf first (first + 1) states
+  piece_opened depth s first states why kept = record {
     skeleton = waits (first + 1);
     opens = (refl, refl, why);
-    shows = λ fates all. (refl, (refl, all first (omega arith) (omega arith)));
+    places = refl;
+    shows = λ fates all. (refl, refl, all first (omega arith) (omega arith));
     stand = λ k t h.
         let place : first ≡ k = omega (arith, h.0) in
         subst (λ z. IsPieceState round.order test states k z) (sym h.1) (subst (λ z. IsPieceState round.order test states z s) place kept);
   }
 
   -- no group
-  pub none_opened : (depth : ℕ) (s : State) (first : ℕ) (states : List (StateHeld C)) → AreOpened test p round depth s [] no_take first first states
-  none_opened depth s first states = record { parts = no_part; groups_are = refl; opens = refl; shows = λ fates all. refl; stand = λ k t h. absurd h }
+  pub none_opened : (depth : ℕ) (s : State) (first : ℕ) (states : List (StateHeld C)) → AreOpened test p round depth s [] no_begun first first states
+  none_opened depth s first states = record { parts = no_part; groups_are = refl; opens = refl; places = omega arith; shows = λ fates all. refl; stand = λ k t h. absurd h }
 
   -- one group in front of others
-  pub more_opened : (depth : ℕ) (s : State) (g : List ℕ) (groups : List (List ℕ)) (tree : Tree) (others : Takes) (first between next : ℕ) (states : List (StateHeld C)) → IsOpened test p round depth (close g s) tree first between states
-      → AreOpened test p round depth s groups others between next states → AreOpened test p round depth s (g ∷ groups) (take g tree others) first next states
+  pub more_opened : (depth : ℕ) (s : State) (g : List ℕ) (groups : List (List ℕ)) (tree : PartialTree) (others : PartialTakes) (first between next : ℕ) (states : List (StateHeld C)) → IsOpened test p round depth (close g s) tree first between states
+      → AreOpened test p round depth s groups others between next states → AreOpened test p round depth s (g ∷ groups) (take_begun g tree others) first next states
   more_opened depth s g groups tree others first between next states o a =
       let low = opens_up depth o.skeleton p round (close g s) (first + 1) (between + 1) o.opens in
       let high = opens_up_in depth a.parts p round s (between + 1) (next + 1) a.opens in
@@ -54,7 +56,8 @@ module _ {C : Type 0} (test : C → ℕ → Bool) (p : Problem) (round : Round) 
         parts = part g o.skeleton a.parts;
         groups_are = ap (λ z. g ∷ z) a.groups_are;
         opens = (between + 1, o.opens, a.opens);
-        shows = λ fates all. (refl, (between, o.shows fates (λ k l h. all k l (omega (arith, h, high))), a.shows fates (λ k l h. all k (omega (arith, l, low)) h)));
+        places = omega (arith, o.places, a.places);
+        shows = λ fates all. (tree, others, refl, o.shows fates (λ k l h. all k l (omega (arith, h, high))), subst (λ z. PartsShow fates others z a.parts) o.places (a.shows fates (λ k l h. all k (omega (arith, l, low)) h)));
         stand = stand;
       }
     where
@@ -63,16 +66,17 @@ module _ {C : Type 0} (test : C → ℕ → Bool) (p : Problem) (round : Round) 
       stand k t (inr h) = a.stand k t h
 
   -- a branch
-  pub branch_opened : (depth : ℕ) (s : State) (county : ℕ) (groups : List (List ℕ)) (takes : Takes) (raised : Tree) (first between next : ℕ) (states : List (StateHeld C)) → 1 ≤ depth → NamesLimit round.format None
+  pub branch_opened : (depth : ℕ) (s : State) (county : ℕ) (groups : List (List ℕ)) (takes : PartialTakes) (raised : PartialTree) (first between next : ℕ) (states : List (StateHeld C)) → 1 ≤ depth → NamesLimit round.format None
       → CanBranch round s county round.limit → AreGroupsAt p round s county round.limit groups → AreOpened test p round (depth - 1) s groups takes first between states
-      → IsOpened test p round (depth - 1) (raise county round.limit s) raised between next states → IsOpened test p round depth s (branch county None takes raised) first next states
+      → IsOpened test p round (depth - 1) (raise county round.limit s) raised between next states → IsOpened test p round depth s (begun county None takes raised) first next states
   branch_opened depth s county groups takes raised first between next states some names can are a o =
       let low = opens_up_in (depth - 1) a.parts p round s (first + 1) (between + 1) a.opens in
       let high = opens_up (depth - 1) o.skeleton p round (raise county round.limit s) (between + 1) (next + 1) o.opens in
       record {
         skeleton = split None county None a.parts o.skeleton;
         opens = (refl, some, names, can, subst (AreGroupsAt p round s county round.limit) (sym a.groups_are) are, (between + 1, a.opens, o.opens));
-        shows = λ fates all. (refl, refl, (between, a.shows fates (λ k l h. all k l (omega (arith, h, high))), o.shows fates (λ k l h. all k (omega (arith, l, low)) h)));
+        places = omega (arith, o.places, a.places);
+        shows = λ fates all. (takes, raised, first, (refl, refl, refl), a.shows fates (λ k l h. all k l (omega (arith, h, high))), subst (λ z. Shows fates raised z o.skeleton) a.places (o.shows fates (λ k l h. all k (omega (arith, l, low)) h)));
         stand = stand;
       }
     where

@@ -10,10 +10,10 @@ use Rattle.certificate_laws.specs.State.{State, empty_state, open_to}
 use Rattle.state_groups.specs.declared.state.State.{State as StateHeld}
 use Rattle.certificate_laws.specs.Groups.{AreGroupsAt}
 use Rattle.certificate_laws.specs.Proving.{CanBranch}
-use Rattle.certificate_data.specs.Tree.{Tree, Takes}
 use Rattle.checker_laws.specs.Cost.{AreSoMany}
 use Rattle.state_groups.specs.PlacedValues.{state_at, codes_of_sets, IsClosable}
 use Rattle.state_judge.specs.declared.branch.Branching.{Branching}
+use Rattle.board_laws.specs.PartialTrees.{PartialTree, PartialTakes, open_leaves, open_in}
 use Rattle.board_laws.specs.Skeleton.{Skeleton, Parts, groups_in}
 use Rattle.board_laws.specs.Standing.{StandsAt, StandsIn}
 use Rattle.board_laws.specs.Content.{Opens, EachOpens}
@@ -24,7 +24,7 @@ use Rattle.share_board.specs.declared.stop.OpeningStop.{OpeningStop}
 use Rattle.share_board.specs.declared.stop.OpeningStop.TheVariants as stop
 use Rattle.share_board.specs.declared.reply.Reply.{Reply as ReplyHeld}
 use Rattle.share_board.specs.declared.reply.Reply.TheVariants as held
-use Rattle.share_board.specs.HeldSkeleton.{IsFateAt, ShowsAbove, PartsShowAbove}
+use Rattle.share_board.specs.HeldSkeleton.{IsFateAt, Shows, PartsShow}
 use Rattle.share_board.specs.Replies.{most_opening, IsSmallSet, OpensWithMore, IsBelowOpening}
 use Rattle.share_board.specs.BoardValue.{IsPieceState}
 
@@ -35,20 +35,22 @@ AllWait fates first next = (k : ℕ) → first ≤ k → k < next → IsFateAt f
 -- at a state the round may open with these branches, and with pieces that stand at the places from one on up to the
 -- next
 pub record IsOpened {C : Type 0} (test : C → ℕ → Bool) (p : Problem) (round : Round) (depth : ℕ) (s : State)
-    (tree : Tree) (first next : ℕ) (states : List (StateHeld C)) : Type 0 where
+    (tree : PartialTree) (first next : ℕ) (states : List (StateHeld C)) : Type 0 where
   pub skeleton : Skeleton
   pub opens : Opens depth skeleton p round s (first + 1) (next + 1)
-  pub shows : (fates : List Fate) → AllWait fates first next → ShowsAbove fates tree first next skeleton
+  pub places : next ≡ first + open_leaves tree
+  pub shows : (fates : List Fate) → AllWait fates first next → Shows fates tree first skeleton
   pub stand : (k : ℕ) (t : State) → StandsAt skeleton round s (k + 1) t → IsPieceState round.order test states k t
 
 -- at the states where each of these groups is closed the round may open with these takes, and with pieces that stand at
 -- the places from one on up to the next
 pub record AreOpened {C : Type 0} (test : C → ℕ → Bool) (p : Problem) (round : Round) (depth : ℕ) (s : State)
-    (groups : List (List ℕ)) (takes : Takes) (first next : ℕ) (states : List (StateHeld C)) : Type 0 where
+    (groups : List (List ℕ)) (takes : PartialTakes) (first next : ℕ) (states : List (StateHeld C)) : Type 0 where
   pub parts : Parts
   pub groups_are : groups_in parts ≡ groups
   pub opens : EachOpens depth parts p round s (first + 1) (next + 1)
-  pub shows : (fates : List Fate) → AllWait fates first next → PartsShowAbove fates takes first next parts
+  pub places : next ≡ first + open_in takes
+  pub shows : (fates : List Fate) → AllWait fates first next → PartsShow fates takes first parts
   pub stand : (k : ℕ) (t : State) → StandsIn parts round s (k + 1) t → IsPieceState round.order test states k t
 
 -- where each of these groups is closed there are too many pieces, however the round opens there

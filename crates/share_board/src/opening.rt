@@ -3,7 +3,7 @@
 ghost use Rattle.std.specs.Prelude.{◌≡◌, ◌-◌, ◌≤◌, All, length, IfOk, IfErr};
 ghost use Rattle.county_codes.specs.Limits.{most_counties};
 ghost use Rattle.connected_sets.specs.Graphs.{graph_order, graph_places};
-ghost use Rattle.certificate_data.specs.TreeValue.{tree_of, list_of_takes};
+ghost use Rattle.partial_trees.specs.PartialValue.{partial_of, list_of_begun};
 ghost use Rattle.county_problem.specs.ProblemValue.{problem_of};
 ghost use Rattle.state_groups.specs.PlacedValues.{codes_of_sets, IsPlaced, IsClosable};
 ghost use Rattle.certificate_data.specs.declared.format.Format.TheVariants.{Plain};
@@ -19,9 +19,10 @@ use crate::input::OpeningInput;
 use crate::piece::Fate;
 use crate::steps::{branched, next_branch, place_piece, put_take, share_of};
 use crate::stop::OpeningStop;
-use certificate_data::{Round, Take, Tree};
+use certificate_data::Round;
 use connected_sets::CountyGraph;
 use county_problem::Ordered;
+use partial_trees::{PartialTake, PartialTree};
 use place_sets::CountySet;
 use state_groups::{State, closed_state, first_state, raise_place};
 use state_judge::Branching;
@@ -31,7 +32,7 @@ use std::alloc::Global;
 /// stand.
 #[derive(Drop)]
 pub(crate) struct Opening<C> {
-    pub(crate) above: Tree,
+    pub(crate) above: PartialTree,
     pub(crate) fates: Vec<Fate>,
     pub(crate) states: Vec<State<C>>,
 }
@@ -44,7 +45,7 @@ fn open_takes<C: CountySet>(
     state: &State<C>,
     groups: &[C],
     states: &mut Vec<State<C>>,
-) -> Result<Vec<Take>, OpeningStop>
+) -> Result<Vec<PartialTake>, OpeningStop>
     requires input { IsOpeningInput C.PLACES C.test input.now }
     requires plain { input.now.round.now.format ≡ Plain }
     requires placed { IsPlaced (graph_places input.now.graph.now) C.test state.now }
@@ -52,7 +53,7 @@ fn open_takes<C: CountySet>(
     requires few { length states.old.items ≤ most_opening }
     ensures opened { IfOk
         result
-        (λ takes. AreOpened C.test (board_problem input.now) (board_round input.now) depth (board_state input.now C.test state.now) (codes_of_sets (graph_order input.now.graph.now) C.test groups.now) (list_of_takes takes.items) (length states.old.items) (length states.new.items) states.new.items) }
+        (λ takes. AreOpened C.test (board_problem input.now) (board_round input.now) depth (board_state input.now C.test state.now) (codes_of_sets (graph_order input.now.graph.now) C.test groups.now) (list_of_begun takes.items) (length states.old.items) (length states.new.items) states.new.items) }
     ensures kept { IfOk result (λ _. StatesAreKept input.now.round.now.order C.test states.old.items states.new.items) }
     ensures few { IfOk result (λ _. length states.new.items ≤ most_opening) }
     ensures stopped { IfErr
@@ -79,7 +80,7 @@ fn open_branch<C: CountySet>(
     state: State<C>,
     branching: &Branching<C>,
     states: &mut Vec<State<C>>,
-) -> Result<Tree, OpeningStop>
+) -> Result<PartialTree, OpeningStop>
     requires input { IsOpeningInput C.PLACES C.test input.now }
     requires plain { input.now.round.now.format ≡ Plain }
     requires some { 1 ≤ depth }
@@ -88,7 +89,7 @@ fn open_branch<C: CountySet>(
     requires few { length states.old.items ≤ most_opening }
     ensures opened { IfOk
         result
-        (λ tree. IsOpened C.test (board_problem input.now) (board_round input.now) depth (board_state input.now C.test state) (tree_of tree) (length states.old.items) (length states.new.items) states.new.items) }
+        (λ tree. IsOpened C.test (board_problem input.now) (board_round input.now) depth (board_state input.now C.test state) (partial_of tree) (length states.old.items) (length states.new.items) states.new.items) }
     ensures kept { IfOk result (λ _. StatesAreKept input.now.round.now.order C.test states.old.items states.new.items) }
     ensures few { IfOk result (λ _. length states.new.items ≤ most_opening) }
     ensures stopped { IfErr
@@ -123,14 +124,14 @@ fn open_tree<C: CountySet>(
     depth: u8,
     state: State<C>,
     states: &mut Vec<State<C>>,
-) -> Result<Tree, OpeningStop>
+) -> Result<PartialTree, OpeningStop>
     requires input { IsOpeningInput C.PLACES C.test input.now }
     requires plain { 1 ≤ depth → input.now.round.now.format ≡ Plain }
     requires placed { IsPlaced (graph_places input.now.graph.now) C.test state }
     requires few { length states.old.items ≤ most_opening }
     ensures opened { IfOk
         result
-        (λ tree. IsOpened C.test (board_problem input.now) (board_round input.now) depth (board_state input.now C.test state) (tree_of tree) (length states.old.items) (length states.new.items) states.new.items) }
+        (λ tree. IsOpened C.test (board_problem input.now) (board_round input.now) depth (board_state input.now C.test state) (partial_of tree) (length states.old.items) (length states.new.items) states.new.items) }
     ensures kept { IfOk result (λ _. StatesAreKept input.now.round.now.order C.test states.old.items states.new.items) }
     ensures few { IfOk result (λ _. length states.new.items ≤ most_opening) }
     ensures stopped { IfErr
@@ -167,7 +168,7 @@ pub(crate) fn opened<C: CountySet>(
     requires plain { 1 ≤ depth → round.now.format ≡ Plain }
     ensures opened { IfOk
         result
-        (λ opening. IsOpened C.test (problem_of ordered.now.problem) (round_of round.now) depth (empty_state (problem_of ordered.now.problem)) (tree_of opening.above) 0 (length opening.states.items) opening.states.items) }
+        (λ opening. IsOpened C.test (problem_of ordered.now.problem) (round_of round.now) depth (empty_state (problem_of ordered.now.problem)) (partial_of opening.above) 0 (length opening.states.items) opening.states.items) }
     ensures few { IfOk result (λ opening. length opening.states.items ≤ most_opening) }
     ensures count { IfOk result (λ opening. length opening.fates.items ≡ length opening.states.items) }
     ensures wait { IfOk result (λ opening. AllWait opening.fates.items 0 (length opening.states.items)) }

@@ -3,23 +3,23 @@
 ghost use Rattle.std.specs.Prelude.{◌≡◌, ℕ, ◌*◌, ◌+◌, ◌++◌, ◌∷◌, [], ◌<◌, ◌≤◌, ◌⊎◌, None, length, IfOk, IfErr, OnOk};
 ghost use Rattle.std.specs.Prelude.{IsErrOf, MatchOption};
 ghost use Rattle.connected_sets.specs.Graphs.{graph_order, graph_places};
-ghost use Rattle.certificate_data.specs.TreeValue.{tree_of, list_of_takes};
-ghost use Rattle.certificate_data.specs.declared.tree.Take.{roll-Take};
+ghost use Rattle.partial_trees.specs.PartialValue.{partial_of, list_of_begun};
+ghost use Rattle.partial_trees.specs.declared.tree.PartialTake.{roll-PartialTake};
 ghost use Rattle.connected_sets.specs.declared.stop.Stop.{Stop};
 ghost use Rattle.state_groups.specs.PlacedValues.{codes_of_set, IsPlaced};
 ghost use Rattle.county_problem.specs.OrderedValue.{code_at};
 ghost use Rattle.certificate_data.specs.declared.format.Format.TheVariants.{Plain};
-ghost use Rattle.certificate_data.specs.Tree.{branch, leaf, seats};
+ghost use Rattle.board_laws.specs.PartialTrees.{begun};
 ghost use Rattle.share_board.specs.Replies.{most_opening};
 ghost use Rattle.share_board.specs.Openings.{IsOpened, StatesAreKept, board_problem, board_round, board_state};
 ghost use Rattle.share_board.specs.Openings.{IsOpeningInput, NoneIsOpen, IsBranching, IsBelowLine, IsHalted};
 
 use crate::input::OpeningInput;
-use crate::joining::ahead;
+use crate::parts::open_place;
 use crate::stop::OpeningStop;
-use certificate_data::{Branch, Leaf, Take, Tree};
 use connected_sets::Stop;
 use county_problem::Steps;
+use partial_trees::{PartialBranch, PartialTake, PartialTree};
 use place_sets::CountySet;
 use state_groups::{State, open_places};
 use state_judge::{Branching, LineStop, judge_branch};
@@ -32,16 +32,6 @@ pub(crate) fn share_of(budget: u64, depth: u8) -> u64
     ensures within { result * (depth * (most_opening + 1)) ≤ budget }
 {
     budget / (u64::from(depth).max(1) * 4_097)
-}
-
-/// Returns a tree without branches, which is the place of one piece.
-fn one_place(alloc: Global) -> Tree
-    ensures { tree_of result ≡ leaf seats }
-{
-    Tree {
-        branches: Vec::new(alloc),
-        leaf: Leaf::Seats,
-    }
 }
 
 /// Appends `state` to `states`.
@@ -58,13 +48,13 @@ pub(crate) fn place_piece<C: CountySet>(
     depth: u8,
     state: State<C>,
     states: &mut Vec<State<C>>,
-) -> Result<Tree, OpeningStop>
+) -> Result<PartialTree, OpeningStop>
     requires input { IsOpeningInput C.PLACES C.test input.now }
     requires placed { IsPlaced (graph_places input.now.graph.now) C.test state }
     requires ends { (depth ≡ 0) ⊎ NoneIsOpen (board_round input.now) (board_state input.now C.test state) }
     ensures opened { IfOk
         result
-        (λ tree. IsOpened C.test (board_problem input.now) (board_round input.now) depth (board_state input.now C.test state) (tree_of tree) (length states.old.items) (length states.new.items) states.new.items) }
+        (λ tree. IsOpened C.test (board_problem input.now) (board_round input.now) depth (board_state input.now C.test state) (partial_of tree) (length states.old.items) (length states.new.items) states.new.items) }
     ensures kept { IfOk result (λ _. StatesAreKept input.now.round.now.order C.test states.old.items states.new.items) }
     ensures few { IfOk result (λ _. length states.new.items ≤ most_opening) }
     ensures stopped { IfErr
@@ -75,7 +65,7 @@ pub(crate) fn place_piece<C: CountySet>(
         return Err(OpeningStop::TooManyPieces);
     }
     keep_state(state, states)?;
-    Ok(one_place(input.graph.alloc))
+    Ok(open_place(input.graph.alloc))
 }
 
 /// Returns the branch of a plain round at `state`, or `None` if no county is open.
@@ -123,16 +113,16 @@ pub(crate) fn next_branch<C: CountySet>(
 pub(crate) fn put_take<C: CountySet>(
     input: &OpeningInput<C>,
     group: &C,
-    tree: Tree,
-    takes: &mut Vec<Take>,
+    tree: PartialTree,
+    takes: &mut Vec<PartialTake>,
 ) -> Result<(), AllocError>
     requires fits { graph_places input.now.graph.now ≤ C.PLACES }
     ensures { OnOk
         result
-        (takes.new.items ≡ takes.old.items ++ roll-Take (record { codes = codes_of_set (graph_order input.now.graph.now) C.test group.now; tree = tree }) ∷ []) }
+        (takes.new.items ≡ takes.old.items ++ roll-PartialTake (record { codes = codes_of_set (graph_order input.now.graph.now) C.test group.now; tree = tree }) ∷ []) }
 {
     let codes = input.graph.ordered.codes_of(input.graph.alloc, group)?;
-    takes.push(Take { codes, tree })?;
+    takes.push(PartialTake { codes, tree })?;
     Ok(())
 }
 
@@ -141,18 +131,23 @@ pub(crate) fn put_take<C: CountySet>(
 pub(crate) fn branched<C: CountySet>(
     input: &OpeningInput<C>,
     place: u16,
-    takes: Vec<Take>,
-    raised: Tree,
-) -> Result<Tree, AllocError>
+    takes: Vec<PartialTake>,
+    raised: PartialTree,
+) -> Result<PartialTree, AllocError>
     requires place { place < graph_places input.now.graph.now }
-    ensures { IfOk result (λ tree. tree_of tree
-        ≡ branch (code_at (graph_order input.now.graph.now) place) None (list_of_takes takes.items) (tree_of raised)) }
+    ensures { IfOk result (λ tree. partial_of tree
+        ≡ begun (code_at (graph_order input.now.graph.now) place) None (list_of_begun takes.items) (partial_of raised)) }
 {
+    let PartialTree {
+        branches: mut more,
+        rest,
+    } = raised;
     let mut branches = Vec::new(input.graph.alloc);
-    branches.push(Branch {
+    branches.push(PartialBranch {
         county: input.graph.ordered.code(place),
         limit: None,
         takes,
     })?;
-    ahead(branches, raised)
+    branches.append(&mut more)?;
+    Ok(PartialTree { branches, rest })
 }

@@ -1,10 +1,10 @@
 use Rattle.std.proofs.Common.{◌-◌, ◌+◌, Err, length, drop, sym, ap, subst, arith}
-use Rattle.certificate_data.specs.TreeValue.{tree_of, list_of_takes}
-use Rattle.certificate_data.specs.declared.tree.Take.{roll-Take}
+use Rattle.partial_trees.specs.PartialValue.{partial_of, list_of_begun}
+use Rattle.partial_trees.specs.declared.tree.PartialTake.{roll-PartialTake}
 use Rattle.county_problem.specs.OrderedValue.{code_at}
 use Rattle.state_groups.specs.PlacedValues.{codes_of_set, codes_of_sets, IsClosable}
 use Rattle.share_board.specs.Openings.{IsOpened, AreOpened, board_problem, board_round, board_state, IsHalted, AreHalted}
-use Rattle.share_board.proofs.Onto.{made_take}
+use Rattle.partial_trees.proofs.PartialLists.{made_take}
 use Rattle.share_board.proofs.Openings.{are_opened_kept, branch_opened}
 use Rattle.share_board.proofs.Branching.{plain_names, OpenOn, MoreOn, take_halted, takes_halted, raised_halted, line_halted, open_more, more_more, open_end, left_sets, no_sets_left}
 use Rattle.share_board.proofs.opening.+opening.Goals as goal
@@ -36,7 +36,7 @@ open_branch-returns-in-Err-open_tree-clause-stopped g t c =
     let branching = c.args.branching.now in
     let is = c.requires.branching in
     let stop = c.in-Err-open_tree.stop in
-    let takes = list_of_takes c.in-Ok.takes.items in
+    let takes = list_of_begun c.in-Ok.takes.items in
     let opened = subst (λ z. AreOpened test p round (c.args.depth - 1) s (codes_of_sets order test z) takes first (length middle) middle) c.deref.ensures.value c.in-Ok.ensures.opened in
     let halted = subst (λ z. IsHalted p round input.share (c.args.depth - 1) z (length middle) stop) c.raise_place.ensures.value c.in-Err-open_tree.ensures.stopped in
     raised_halted p round c.requires.plain input.share c.args.depth s (code_at order branching.place) (codes_of_sets order test branching.groups.items) first c.requires.some is.can is.groups test takes (length middle) middle stop opened halted
@@ -57,8 +57,8 @@ open_branch-returns-clause-opened g t c =
     let county = code_at order branching.place in
     let groups = codes_of_sets order test branching.groups.items in
     let is = c.requires.branching in
-    let takes = list_of_takes c.in-Ok.takes.items in
-    let raised = tree_of c.in-Ok-open_tree.tree in
+    let takes = list_of_begun c.in-Ok.takes.items in
+    let raised = partial_of c.in-Ok-open_tree.tree in
     let opened = subst (λ z. AreOpened test p round (depth - 1) s (codes_of_sets order test z) takes first (length middle) middle) c.deref.ensures.value c.in-Ok.ensures.opened in
     let kept = are_opened_kept test p round (depth - 1) s groups takes first (length middle) middle last opened c.in-Ok-open_tree.ensures.kept in
     let behind = subst (λ z. IsOpened test p round (depth - 1) z raised (length middle) (length last) last) c.raise_place.ensures.value c.in-Ok-open_tree.ensures.opened in
@@ -108,7 +108,7 @@ open_takes-taking-preserved g t c =
     let codes = codes_of_set order test item in
     let all = codes_of_sets order test groups in
     let rest = codes_of_sets order test (drop (i + 1) groups) in
-    let tree = tree_of c.in-Ok.tree in
+    let tree = partial_of c.in-Ok.tree in
     let inv = c.taking.invariant in
     let left = left_sets order test groups i item c.group-item.is c.taking-test.true in
     let opened = subst (λ z. IsOpened test p round depth z tree (length states) (length later) later) c.in_ok-closed.ensures.value c.in-Ok.ensures.opened in
@@ -116,7 +116,7 @@ open_takes-taking-preserved g t c =
       kept = λ k u h. c.in-Ok.ensures.kept k u (inv.kept k u h);
       few = c.in-Ok.ensures.few;
       opened =
-          open_more test p round depth s first all codes rest c.taking.takes.items c.put_take.new.takes.items (roll-Take (record { codes = codes; tree = c.in-Ok.tree })) tree states later (λ others. made_take codes c.in-Ok.tree others) c.in_ok-put_take.ensures opened c.in-Ok.ensures.kept
+          open_more test p round depth s first all codes rest c.taking.takes.items c.put_take.new.takes.items (roll-PartialTake (record { codes = codes; tree = c.in-Ok.tree })) tree states later (λ others. made_take codes c.in-Ok.tree others) c.in_ok-put_take.ensures opened c.in-Ok.ensures.kept
           (subst (λ z. OpenOn test p round depth s first all z c.taking.takes.items states) left inv.opened);
       more = more_more test p round depth s first all c.requires.plain codes rest tree states later opened (subst (λ z. MoreOn p round depth s first all z (length states)) left inv.more);
     }

@@ -1,5 +1,5 @@
 use Rattle.std.proofs.Common.{length, arith}
-use Rattle.certificate_data.specs.TreeValue.{tree_of}
+use Rattle.partial_trees.specs.PartialValue.{partial_of}
 use Rattle.share_board.specs.Openings.{board_problem, board_round, board_state}
 use Rattle.share_board.proofs.Branching.{placed}
 use Rattle.share_board.proofs.Openings.{piece_more}
@@ -13,4 +13,4 @@ returns-then-len-ge4096-clause-stopped g c =
 pub returns-clause-opened : goal.returns-clause-opened
 returns-clause-opened g c =
     let input = c.args.input.now in
-    placed g.C.CountySet.test (board_problem input) (board_round input) input.graph.now.ordered.now.order c.args.depth c.args.states.now.items c.keep_state.new.states.items c.args.state (tree_of c.one_place.result) c.requires.input.order c.requires.placed c.requires.ends c.in_ok-keep_state.ensures c.one_place.ensures
+    placed g.C.CountySet.test (board_problem input) (board_round input) input.graph.now.ordered.now.order c.args.depth c.args.states.now.items c.keep_state.new.states.items c.args.state (partial_of c.open_place.result) c.requires.input.order c.requires.placed c.requires.ends c.in_ok-keep_state.ensures c.open_place.ensures
