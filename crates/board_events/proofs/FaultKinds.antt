@@ -9,7 +9,7 @@ use Rattle.certificate_lines.specs.declared.fault.TextFault.{TextFault}
 use Rattle.certificate_lines.specs.declared.item.Item.{Item}
 use Rattle.certificate_lines.specs.declared.item.Wanted.{Wanted}
 use Rattle.certificate_lines.proofs.LineKinds.{OfLine, Said, cond_said, bind_said, counted_said, number_at_said, code_at_said, words_then_said, AreBehind, both_behind, groups_behind, after_behind, item_said}
-use Rattle.board_events.specs.Lines.{greatest, hand_on, result_on, split_on, better_on, wider_on, event_on}
+use Rattle.board_events.specs.Lines.{greatest, hand_on, result_on, split_on, part_on, better_on, wider_on, event_on}
 use Rattle.board_events.specs.Spelling.{wanted_by}
 use Rattle.board_events.specs.Faults.{fault_from, events_fault}
 use Rattle.board_events.specs.declared.line.EventLine.{EventLine}
@@ -36,6 +36,13 @@ split_said words =
     (λ n. bind_said (number_at 0 greatest n.1) _ (number_at_said 0 greatest n.1)
     (λ m. bind_said (code_word_at m.1) _ (code_at_said m.1) (λ c. bind_said (number_at 1 most c.1) _ (number_at_said 1 most c.1) (λ j. tt)))))
 
+part_said : (words : List (List ℕ)) → Said (part_on words)
+unfolding part_on
+part_said words =
+    bind_said (counted 2 2 words) _ (counted_said 2 2 words)
+    (λ ws. bind_said (number_at 0 greatest ws) _ (number_at_said 0 greatest ws)
+    (λ n. bind_said (number_at 0 greatest n.1) _ (number_at_said 0 greatest n.1) (λ m. tt)))
+
 better_said : (words : List (List ℕ)) → Said (better_on words)
 unfolding better_on
 better_said words =
@@ -54,8 +61,9 @@ event_said words =
     cond_said (begins (codes "hand") words) _ _ (hand_said (drop 1 words))
     (cond_said (begins (codes "result") words) _ _ (result_said (drop 1 words))
     (cond_said (begins (codes "split") words) _ _ (split_said (drop 1 words))
+    (cond_said (begins (codes "part") words) _ _ (part_said (drop 1 words))
     (cond_said (begins (codes "better") words) _ _ (better_said (drop 1 words))
-    (cond_said (begins (codes "wider") words) _ _ (wider_said (drop 1 words)) tt))))
+    (cond_said (begins (codes "wider") words) _ _ (wider_said (drop 1 words)) tt)))))
 
 abbrev SaidFault : Option TextFault → Type 0
 SaidFault None = Unit {0}
@@ -66,6 +74,7 @@ module _ (format : Format) (counties : ℕ) where
   line_behind (says.Hand from) = tt
   line_behind (says.Result round piece) = (tt, tt)
   line_behind (says.Split round piece county limit) = tt
+  line_behind (says.Part round piece) = (tt, tt)
   line_behind (says.Better round groups) = groups_behind groups
   line_behind (says.Wider round) = tt
 

@@ -32,6 +32,8 @@ item_alike want.Target m n piece = refl
 item_alike (want.Groups left) m n piece = refl
 item_alike (want.Tree format levels) m n piece = refl
 item_alike (want.Takes format levels) m n piece = refl
+item_alike (want.Part format levels) m n piece = refl
+item_alike (want.PartTakes format levels) m n piece = refl
 item_alike (want.Allowances left) m n piece = refl
 item_alike want.End m n piece = refl
 

@@ -65,6 +65,7 @@ module _ (format : Format) (counties : ℕ) (text : List ℕ) where
     front_spelled t e behind = record {
       line = subst (λ (l : EventLine). FitsLine l) (sym behind.line_is) (event_read takes.piece line takes.value).fits;
       items = subst (λ (l : EventLine). AllFit (wanted_by format counties l) (items_of e)) (sym behind.line_is) behind.fits;
+      form = behind.form;
     }
 
     -- a fault behind the first line

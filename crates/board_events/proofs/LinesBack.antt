@@ -10,10 +10,10 @@ use Rattle.county_codes.specs.Digits.{five_digits}
 use Rattle.field_lines.proofs.NumbersBack.{decimal_digits}
 use Rattle.certificate_text.proofs.SpellLaws.{Printed, printed_line, line_words_back, number_at_back, code_at_back}
 use Rattle.certificate_text.proofs.TextBack.{IsShort, named_word, digits_shown, code_word, words_of_short}
-use Rattle.board_events.specs.Lines.{greatest, hand_on, result_on, split_on, better_on, wider_on, event_on}
+use Rattle.board_events.specs.Lines.{greatest, hand_on, result_on, split_on, part_on, better_on, wider_on, event_on}
 use Rattle.board_events.specs.Spelling.{event_words, FitsLine}
 use Rattle.board_events.specs.declared.line.EventLine.{EventLine}
-use Rattle.board_events.specs.declared.line.EventLine.TheVariants.{Hand, Result as Proof, Split, Better, Wider}
+use Rattle.board_events.specs.declared.line.EventLine.TheVariants.{Hand, Result as Proof, Split, Part, Better, Wider}
 
 number_word : (n : ℕ) → n ≤ greatest → IsShort (decimal n)
 number_word n few =
@@ -56,6 +56,10 @@ unfolding event_on split_on
 split_back round piece county limit f g small low high =
     rw (number_at_back 0 greatest round (decimal piece ∷ five_digits county ∷ decimal limit ∷ []) (omega arith) f (lit< tt), number_at_back 0 greatest piece (five_digits county ∷ decimal limit ∷ []) (omega arith) g (lit< tt), code_at_back county (decimal limit ∷ []) small, number_at_back 1 most limit [] low high (lit< tt)) refl
 
+part_back : (round piece : ℕ) → round ≤ greatest → piece ≤ greatest → event_on (event_words (Part round piece)) ≡ Ok (Part round piece)
+unfolding event_on part_on
+part_back round piece f g = rw (number_at_back 0 greatest round (decimal piece ∷ []) (omega arith) f (lit< tt), number_at_back 0 greatest piece [] (omega arith) g (lit< tt)) refl
+
 better_back : (round groups : ℕ) → round ≤ greatest → groups ≤ most → event_on (event_words (Better round groups)) ≡ Ok (Better round groups)
 unfolding event_on better_on
 better_back round groups f g = rw (number_at_back 0 greatest round (decimal groups ∷ []) (omega arith) f (lit< tt), number_at_back 0 most groups [] (omega arith) g (lit< tt)) refl
@@ -75,6 +79,9 @@ event_back n (Split round piece county limit) f =
     said n (Split round piece county limit) (codes "split") (decimal round ∷ decimal piece ∷ five_digits county ∷ decimal limit ∷ []) refl (named_word (codes "split") refl (omega arith) (omega arith))
     (number_word round f.0, (number_word piece f.1, (code_word county f.2, (number_word limit (omega (arith, f.4)), tt)))) (omega arith)
     (split_back round piece county limit f.0 f.1 f.2 f.3 f.4)
+event_back n (Part round piece) f =
+    said n (Part round piece) (codes "part") (decimal round ∷ decimal piece ∷ []) refl (named_word (codes "part") refl (omega arith) (omega arith)) (number_word round f.0, (number_word piece f.1, tt)) (omega arith)
+    (part_back round piece f.0 f.1)
 event_back n (Better round groups) f =
     said n (Better round groups) (codes "better") (decimal round ∷ decimal groups ∷ []) refl (named_word (codes "better") refl (omega arith) (omega arith)) (number_word round f.0, (number_word groups (omega (arith, f.1)), tt)) (omega arith)
     (better_back round groups f.0 f.1)

@@ -11,10 +11,10 @@ use Rattle.certificate_lines.specs.declared.fault.TextKind.TheVariants.{BadWord}
 use Rattle.certificate_lines.proofs.WordLaws.{bind_ok}
 use Rattle.certificate_lines.proofs.FormLaws.{named_ok, counted_ok, number_at_ok, code_at_ok}
 use Rattle.certificate_lines.proofs.TextLaws.{line_words_ok}
-use Rattle.board_events.specs.Lines.{greatest, hand_on, result_on, split_on, better_on, wider_on, event_on}
+use Rattle.board_events.specs.Lines.{greatest, hand_on, result_on, split_on, part_on, better_on, wider_on, event_on}
 use Rattle.board_events.specs.Spelling.{event_words, event_line, FitsLine}
 use Rattle.board_events.specs.declared.line.EventLine.{EventLine}
-use Rattle.board_events.specs.declared.line.EventLine.TheVariants.{Hand, Result as Proof, Split, Better, Wider}
+use Rattle.board_events.specs.declared.line.EventLine.TheVariants.{Hand, Result as Proof, Split, Part, Better, Wider}
 
 empty : (words : List (List ℕ)) → length words ≤ 0 → words ≡ []
 empty [] few = refl
@@ -81,6 +81,22 @@ split_ok words line h =
       fits = (n.to, m.to, k.to, j.from, j.to);
     })
 
+part_ok : (words : List (List ℕ)) (line : EventLine) → part_on words ≡ Ok line → AreOf (codes "part" ∷ words) line
+unfolding part_on
+part_ok words line h =
+    let a = bind_ok (counted 2 2 words) _ line h in
+    let b = bind_ok (number_at 0 greatest a.value) _ line a.then in
+    let d = bind_ok (number_at 0 greatest b.value.1) _ line b.then in
+    let few = counted_ok 2 2 words a.value a.first in
+    let n = number_at_ok 0 greatest (lit< tt) a.value b.value b.first in
+    let m = number_at_ok 0 greatest (lit< tt) b.value.1 d.value d.first in
+    let same : Part b.value.0 d.value.0 ≡ line = cc (d.then) in
+    let none : d.value.1 ≡ [] = empty d.value.1 (omega (arith, few.to, ap length n.words_are, ap length m.words_are)) in
+    subst (λ (l : EventLine). AreOf (codes "part" ∷ words) l) same (record {
+      words_are = ap (λ (ws : List (List ℕ)). codes "part" ∷ ws) (few.same ∙ n.words_are ∙ ap (λ (ws : List (List ℕ)). decimal b.value.0 ∷ ws) (m.words_are ∙ ap (λ (ws : List (List ℕ)). decimal d.value.0 ∷ ws) none));
+      fits = (n.to, m.to);
+    })
+
 better_ok : (words : List (List ℕ)) (line : EventLine) → better_on words ≡ Ok line → AreOf (codes "better" ∷ words) line
 unfolding better_on
 better_ok words line h =
@@ -124,19 +140,24 @@ module _ (words : List (List ℕ)) (line : EventLine) where
   better_go false e h = wider_go _ refl h
   better_go true e h = named_as (codes "better") e (better_ok (drop 1 words) line h)
 
+  part_go : (t : Bool) → begins (codes "part") words ≡ t
+      → cond t (part_on (drop 1 words)) (cond (begins (codes "better") words) (better_on (drop 1 words)) (cond (begins (codes "wider") words) (wider_on (drop 1 words)) (Err BadWord))) ≡ Ok line → AreOf words line
+  part_go false e h = better_go _ refl h
+  part_go true e h = named_as (codes "part") e (part_ok (drop 1 words) line h)
+
   split_go : (t : Bool) → begins (codes "split") words ≡ t
-      → cond t (split_on (drop 1 words)) (cond (begins (codes "better") words) (better_on (drop 1 words)) (cond (begins (codes "wider") words) (wider_on (drop 1 words)) (Err BadWord))) ≡ Ok line → AreOf words line
-  split_go false e h = better_go _ refl h
+      → cond t (split_on (drop 1 words)) (cond (begins (codes "part") words) (part_on (drop 1 words)) (cond (begins (codes "better") words) (better_on (drop 1 words)) (cond (begins (codes "wider") words) (wider_on (drop 1 words)) (Err BadWord)))) ≡ Ok line → AreOf words line
+  split_go false e h = part_go _ refl h
   split_go true e h = named_as (codes "split") e (split_ok (drop 1 words) line h)
 
   result_go : (t : Bool) → begins (codes "result") words ≡ t
-      → cond t (result_on (drop 1 words)) (cond (begins (codes "split") words) (split_on (drop 1 words)) (cond (begins (codes "better") words) (better_on (drop 1 words)) (cond (begins (codes "wider") words) (wider_on (drop 1 words)) (Err BadWord)))) ≡ Ok line
+      → cond t (result_on (drop 1 words)) (cond (begins (codes "split") words) (split_on (drop 1 words)) (cond (begins (codes "part") words) (part_on (drop 1 words)) (cond (begins (codes "better") words) (better_on (drop 1 words)) (cond (begins (codes "wider") words) (wider_on (drop 1 words)) (Err BadWord))))) ≡ Ok line
       → AreOf words line
   result_go false e h = split_go _ refl h
   result_go true e h = named_as (codes "result") e (result_ok (drop 1 words) line h)
 
   hand_go : (t : Bool) → begins (codes "hand") words ≡ t
-      → cond t (hand_on (drop 1 words)) (cond (begins (codes "result") words) (result_on (drop 1 words)) (cond (begins (codes "split") words) (split_on (drop 1 words)) (cond (begins (codes "better") words) (better_on (drop 1 words)) (cond (begins (codes "wider") words) (wider_on (drop 1 words)) (Err BadWord))))) ≡ Ok line
+      → cond t (hand_on (drop 1 words)) (cond (begins (codes "result") words) (result_on (drop 1 words)) (cond (begins (codes "split") words) (split_on (drop 1 words)) (cond (begins (codes "part") words) (part_on (drop 1 words)) (cond (begins (codes "better") words) (better_on (drop 1 words)) (cond (begins (codes "wider") words) (wider_on (drop 1 words)) (Err BadWord)))))) ≡ Ok line
       → AreOf words line
   hand_go false e h = result_go _ refl h
   hand_go true e h = named_as (codes "hand") e (hand_ok (drop 1 words) line h)

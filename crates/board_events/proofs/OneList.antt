@@ -18,9 +18,10 @@ use Rattle.certificate_lines.specs.declared.item.Wanted.{Wanted}
 use Rattle.certificate_text.proofs.SpellLaws.{Printed}
 use Rattle.certificate_text.proofs.TextBack.{fits_line}
 use Rattle.certificate_text.proofs.OneSpelling.{tree_told}
-use Rattle.board_laws.specs.Content.{Event, hand, result, split_piece, better, wider}
+use Rattle.partial_text.proofs.PartBack.{part_told}
+use Rattle.board_laws.specs.Content.{Event, hand, result, split_piece, part_piece, better, wider}
 use Rattle.board_events.specs.Lines.{event_on}
-use Rattle.board_events.specs.Spelling.{event_words, event_line, line_of_event, items_of, wanted_by, text_of_event, text_of_events, HasSpelling, EventsAreSpelled}
+use Rattle.board_events.specs.Spelling.{event_words, event_line, line_of_event, items_of, wanted_by, HasForm, text_of_event, text_of_events, HasSpelling, EventsAreSpelled}
 use Rattle.board_events.specs.declared.line.EventLine.{EventLine}
 use Rattle.board_events.proofs.LinesBack.{event_back}
 
@@ -76,39 +77,54 @@ groups_told (a ∷ gs) (b ∷ hs) h =
     cc (first, later)
 
 -- an event is told from its first line and its items
-event_told : (e f : Event) → line_of_event e ≡ line_of_event f → items_of e ≡ items_of f → e ≡ f
-event_told (hand a) (hand b) h g = cc (h)
-event_told (result r p t) (result s q u) h g =
+event_told : (e f : Event) → HasForm e → HasForm f → line_of_event e ≡ line_of_event f → items_of e ≡ items_of f → e ≡ f
+event_told (hand a) (hand b) x y h g = cc (h)
+event_told (result r p t) (result s q u) x y h g =
     let tree : t ≡ u = tree_told t u g in
     let round : r ≡ s = cc (h) in
     let piece : p ≡ q = cc (h) in
     cc (tree, round, piece)
-event_told (split_piece r p c j) (split_piece s q d k) h g = cc (h)
-event_told (better r gs) (better s hs) h g =
+event_told (split_piece r p c j) (split_piece s q d k) x y h g = cc (h)
+event_told (part_piece r p t) (part_piece s q u) x y h g =
+    let tree : t ≡ u = part_told t u x y g in
+    let round : r ≡ s = cc (h) in
+    let piece : p ≡ q = cc (h) in
+    cc (tree, round, piece)
+event_told (better r gs) (better s hs) x y h g =
     let groups : gs ≡ hs = groups_told gs hs g in
     let round : r ≡ s = cc (h) in
     cc (groups, round)
-event_told (wider r) (wider s) h g = cc (h)
-event_told (hand a) (result s q u) h g = cc (h)
-event_told (hand a) (split_piece s q d k) h g = cc (h)
-event_told (hand a) (better s hs) h g = cc (h)
-event_told (hand a) (wider s) h g = cc (h)
-event_told (result r p t) (hand b) h g = cc (h)
-event_told (result r p t) (split_piece s q d k) h g = cc (h)
-event_told (result r p t) (better s hs) h g = cc (h)
-event_told (result r p t) (wider s) h g = cc (h)
-event_told (split_piece r p c j) (hand b) h g = cc (h)
-event_told (split_piece r p c j) (result s q u) h g = cc (h)
-event_told (split_piece r p c j) (better s hs) h g = cc (h)
-event_told (split_piece r p c j) (wider s) h g = cc (h)
-event_told (better r gs) (hand b) h g = cc (h)
-event_told (better r gs) (result s q u) h g = cc (h)
-event_told (better r gs) (split_piece s q d k) h g = cc (h)
-event_told (better r gs) (wider s) h g = cc (h)
-event_told (wider r) (hand b) h g = cc (h)
-event_told (wider r) (result s q u) h g = cc (h)
-event_told (wider r) (split_piece s q d k) h g = cc (h)
-event_told (wider r) (better s hs) h g = cc (h)
+event_told (wider r) (wider s) x y h g = cc (h)
+event_told (hand a) (result s q u) x y h g = cc (h)
+event_told (hand a) (split_piece s q d k) x y h g = cc (h)
+event_told (hand a) (part_piece s q u) x y h g = cc (h)
+event_told (hand a) (better s hs) x y h g = cc (h)
+event_told (hand a) (wider s) x y h g = cc (h)
+event_told (result r p t) (hand b) x y h g = cc (h)
+event_told (result r p t) (split_piece s q d k) x y h g = cc (h)
+event_told (result r p t) (part_piece s q u) x y h g = cc (h)
+event_told (result r p t) (better s hs) x y h g = cc (h)
+event_told (result r p t) (wider s) x y h g = cc (h)
+event_told (split_piece r p c j) (hand b) x y h g = cc (h)
+event_told (split_piece r p c j) (result s q u) x y h g = cc (h)
+event_told (split_piece r p c j) (part_piece s q u) x y h g = cc (h)
+event_told (split_piece r p c j) (better s hs) x y h g = cc (h)
+event_told (split_piece r p c j) (wider s) x y h g = cc (h)
+event_told (part_piece r p t) (hand b) x y h g = cc (h)
+event_told (part_piece r p t) (result s q u) x y h g = cc (h)
+event_told (part_piece r p t) (split_piece s q d k) x y h g = cc (h)
+event_told (part_piece r p t) (better s hs) x y h g = cc (h)
+event_told (part_piece r p t) (wider s) x y h g = cc (h)
+event_told (better r gs) (hand b) x y h g = cc (h)
+event_told (better r gs) (result s q u) x y h g = cc (h)
+event_told (better r gs) (split_piece s q d k) x y h g = cc (h)
+event_told (better r gs) (part_piece s q u) x y h g = cc (h)
+event_told (better r gs) (wider s) x y h g = cc (h)
+event_told (wider r) (hand b) x y h g = cc (h)
+event_told (wider r) (result s q u) x y h g = cc (h)
+event_told (wider r) (split_piece s q d k) x y h g = cc (h)
+event_told (wider r) (part_piece s q u) x y h g = cc (h)
+event_told (wider r) (better s hs) x y h g = cc (h)
 
 module _ (format : Format) (counties : ℕ) where
   -- events with a text behind each
@@ -125,7 +141,7 @@ module _ (format : Format) (counties : ℕ) where
       let line = same_line u v (text_of_items is ++ x) (text_of_items js ++ y) a.printed b.printed (sym left ∙ h ∙ right) in
       let one : line_of_event e ≡ line_of_event f = same_ok (line_of_event e) (line_of_event f) (sym a.read ∙ ap (λ (l : List ℕ). by_words event_on (record { number = 0; bytes = l; ended = true })) line.first ∙ b.read) in
       let later = same_items (wanted_by format counties (line_of_event e)) is js x y p.items (subst (λ (l : EventLine). AllFit (wanted_by format counties l) js) (sym one) q.items) line.behind in
-      record { first = event_told e f one later.first; behind = later.behind }
+      record { first = event_told e f p.form q.form one later.first; behind = later.behind }
 
   some_text : (e : Event) (x : List ℕ) → [] ≡ text_of_event e ++ x → ⊥
   some_text e x h =

@@ -15,9 +15,11 @@ use Rattle.certificate_lines.proofs.FitsLaws.{item_fits}
 use Rattle.certificate_lines.proofs.TextLaws.{item_ok, line_is}
 use Rattle.certificate_text.specs.Trees.{items_of_tree}
 use Rattle.checker_laws.proofs.TreesFound.{groups_found, tree_found}
-use Rattle.board_laws.specs.Content.{Event, hand, result, split_piece, better, wider}
+use Rattle.partial_text.specs.PartItems.{items_of_part}
+use Rattle.partial_text.proofs.PartsFound.{part_found}
+use Rattle.board_laws.specs.Content.{Event, hand, result, split_piece, part_piece, better, wider}
 use Rattle.board_events.specs.Lines.{event_on}
-use Rattle.board_events.specs.Spelling.{line_of_event, items_of, wanted_by, event_line, FitsLine, text_of_event, text_of_events, HasSpelling, EventsAreSpelled}
+use Rattle.board_events.specs.Spelling.{line_of_event, items_of, wanted_by, event_line, FitsLine, HasForm, text_of_event, text_of_events, HasSpelling, EventsAreSpelled}
 use Rattle.board_events.specs.Faults.{fault_from, events_fault}
 use Rattle.board_events.specs.declared.line.EventLine.{EventLine}
 use Rattle.board_events.specs.declared.line.EventLine.TheVariants as says
@@ -31,35 +33,48 @@ no_items (item ∷ items) f = absurd f
 -- the event of a first line and the items behind it
 record Found (line : EventLine) (items : List Item) : Type 0 where
   pub event : Event
+  pub form : HasForm event
   pub line_is : line_of_event event ≡ line
   pub items_are : items_of event ≡ items
 
 module _ (format : Format) (counties : ℕ) where
   event_found : (line : EventLine) (items : List Item) → AllFit (wanted_by format counties line) items → Found line items
-  event_found (says.Hand from) items f = record { event = hand from; line_is = refl; items_are = sym (no_items items f) }
+  event_found (says.Hand from) items f = record { event = hand from; form = tt; line_is = refl; items_are = sym (no_items items f) }
   event_found (says.Result round piece) items f =
       let t = tree_found format counties [] items f in
       record {
         event = result round piece t.tree;
+        form = tt;
         line_is = refl;
         items_are = sym
             (t.are ∙ ap (λ (l : List Item). items_of_tree t.tree ++ l) (no_items t.later t.fits) ∙ append-nil (items_of_tree t.tree));
       }
   event_found (says.Split round piece county limit) items f = record {
     event = split_piece round piece county limit;
+    form = tt;
     line_is = refl;
     items_are = sym
         (no_items items f);
   }
+  event_found (says.Part round piece) items f =
+      let t = part_found format counties [] items f in
+      record {
+        event = part_piece round piece t.tree;
+        form = t.branches;
+        line_is = refl;
+        items_are = sym
+            (t.are ∙ ap (λ (l : List Item). items_of_part t.tree ++ l) (no_items t.later t.fits) ∙ append-nil (items_of_part t.tree));
+      }
   event_found (says.Better round groups) items f =
       let g = groups_found groups [] items (subst (λ (l : List Wanted). AllFit l items) (sym (append-nil (groups_wanted groups))) f) in
       record {
         event = better round g.groups;
+        form = tt;
         line_is = ap (says.Better round) g.many;
         items_are = sym
             (g.are ∙ ap (λ (l : List Item). map Grouped g.groups ++ l) (no_items g.later g.fits) ∙ append-nil (map Grouped g.groups));
       }
-  event_found (says.Wider round) items f = record { event = wider round; line_is = refl; items_are = sym (no_items items f) }
+  event_found (says.Wider round) items f = record { event = wider round; form = tt; line_is = refl; items_are = sym (no_items items f) }
 
   -- the items that were wanted, and the lines behind them
   record Behind (wanted : List Wanted) (n : ℕ) (pieces : List RawLine) : Type 0 where
@@ -123,6 +138,7 @@ module _ (format : Format) (counties : ℕ) where
                 line = subst FitsLine (sym one.line_is) read.fits;
                 items = subst (λ (l : EventLine). AllFit (wanted_by format counties l) (items_of one.event)) (sym one.line_is)
                     (subst (AllFit (wanted_by format counties line)) (sym one.items_are) behind.fit);
+                form = one.form;
               },
               later.fit,
             );

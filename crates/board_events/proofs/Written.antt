@@ -37,6 +37,6 @@ module _ (format : Format) (counties round : ℕ) (groups : List Group) (small :
         let bytes = (codes "better " ++ (decimal round ++ 32 ∷ decimal (length groups))) ++ 10 ∷ [] in
         let whole : mid ≡ old ++ bytes = line ∙ ap (λ (l : List ℕ). l ++ (32 ∷ (decimal (length groups) ++ 10 ∷ []))) begun ∙ two_words old (codes "better ") (decimal round) (decimal (length groups)) in
         h.text ∙ ap (λ (l : List ℕ). l ++ text_of_items (map Grouped groups)) whole ∙ append_assoc old bytes (text_of_items (map Grouped groups));
-    spelled = record { line = (small, few); items = alone (groups_wanted (length groups)) (map Grouped groups) (h.fits [] [] tt) };
+    spelled = record { line = (small, few); items = alone (groups_wanted (length groups)) (map Grouped groups) (h.fits [] [] tt); form = tt };
   }
   better_written new (Err fault) h = λ e s. h e [] [] (with_none (groups_wanted (length groups)) (map Grouped groups) s.items)

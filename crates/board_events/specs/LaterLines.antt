@@ -4,7 +4,7 @@ use Rattle.certificate_data.specs.declared.format.Format.{Format}
 use Rattle.certificate_lines.specs.Fitting.{AllFit}
 use Rattle.certificate_lines.specs.Spelling.{text_of_items}
 use Rattle.board_laws.specs.Content.{Event}
-use Rattle.board_events.specs.Spelling.{line_of_event, items_of, wanted_by}
+use Rattle.board_events.specs.Spelling.{line_of_event, items_of, wanted_by, HasForm}
 use Rattle.board_events.specs.declared.line.EventLine.{EventLine}
 
 -- the text is that of the lines behind the first line of the event, and their items fit there
@@ -12,4 +12,5 @@ pub record StandsBehind (format : Format) (counties : ℕ) (line : EventLine) (t
     (event : Event) : Type 0 where
   pub line_is : line_of_event event ≡ line
   pub fits : AllFit (wanted_by format counties line) (items_of event)
+  pub form : HasForm event
   pub text_is : text ≡ text_of_items (items_of event)

@@ -37,6 +37,14 @@ split_on words = do
   limit ← number_at 1 most county.1
   Ok (says.Split round.0 piece.0 county.0 limit.0)
 
+-- a part of the proof of a piece: the numbers of its round and of the piece
+unfoldable pub part_on : List (List ℕ) → Result EventLine TextKind
+part_on words = do
+  words ← counted 2 2 words
+  round ← number_at 0 greatest words
+  piece ← number_at 0 greatest round.1
+  Ok (says.Part round.0 piece.0)
+
 -- a better target: its round, and how many groups it has
 unfoldable pub better_on : List (List ℕ) → Result EventLine TextKind
 better_on words = do
@@ -57,6 +65,7 @@ event_on line =
     if begins (codes "hand") line then hand_on (drop 1 line)
     else if begins (codes "result") line then result_on (drop 1 line)
     else if begins (codes "split") line then split_on (drop 1 line)
+    else if begins (codes "part") line then part_on (drop 1 line)
     else if begins (codes "better") line then better_on (drop 1 line)
     else if begins (codes "wider") line then wider_on (drop 1 line)
     else Err BadWord

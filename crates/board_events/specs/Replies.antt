@@ -1,7 +1,7 @@
 -- The lines of replies.
 use Rattle.std.specs.Prelude.{ℕ, ◌+◌, ◌-◌, List, ◌++◌, codes, decimal}
 use Rattle.board_laws.specs.Content.{Reply, Piece, NothingLeft, Accepted, Split, NewRound, OldRound, NoSuchPiece}
-use Rattle.board_laws.specs.Content.{AlreadyDone, AlreadySplit, CantSplit, NotAProof, NotBetter, CantWiden}
+use Rattle.board_laws.specs.Content.{AlreadyDone, AlreadySplit, CantSplit, NotAPart, NotAProof, NotBetter, CantWiden}
 use Rattle.board_laws.specs.Content.{TooManyPieces, Budget, Memory}
 
 -- of a piece: its round and its number
@@ -24,6 +24,7 @@ reply_line NoSuchPiece = codes "no such piece\n"
 reply_line AlreadyDone = codes "already done\n"
 reply_line AlreadySplit = codes "already split\n"
 reply_line CantSplit = codes "cant split\n"
+reply_line NotAPart = codes "not a part\n"
 reply_line NotAProof = codes "not a proof\n"
 reply_line NotBetter = codes "not better\n"
 reply_line CantWiden = codes "cant widen\n"

@@ -3,7 +3,7 @@
 ghost use Rattle.std.specs.Prelude.{◌≡◌, drop, if◌then◌else◌};
 ghost use Rattle.certificate_lines.specs.WordsLeft.{Leaves};
 ghost use Rattle.certificate_lines.specs.Lines.{begins, number_at};
-ghost use Rattle.board_events.specs.Lines.{greatest, hand_on, result_on, split_on, better_on, wider_on, event_on};
+ghost use Rattle.board_events.specs.Lines.{greatest, hand_on, result_on, split_on, part_on, better_on, wider_on, event_on};
 
 use crate::line::EventLine;
 use certificate_lines::{MOST, TextKind, Words};
@@ -60,6 +60,17 @@ fn split_on(words: &mut Words) -> Result<EventLine, TextKind>
     Ok(EventLine::Split(round, piece, county, limit))
 }
 
+/// Reads the round and the piece of a partial tree from the `words` after the first.
+#[tactic(auto, unfolding(crate::specs::Lines::part_on))]
+fn part_on(words: &mut Words) -> Result<EventLine, TextKind>
+    ensures { result ≡ part_on words.old }
+{
+    words.counted(2, 2)?;
+    let round = next_number(words)?;
+    let piece = next_number(words)?;
+    Ok(EventLine::Part(round, piece))
+}
+
 /// Reads the round and the number of groups of a better target from the `words` after the first.
 #[tactic(auto, unfolding(crate::specs::Lines::better_on))]
 fn better_on(words: &mut Words) -> Result<EventLine, TextKind>
@@ -96,6 +107,8 @@ pub(crate) fn event_on(words: &mut Words) -> Result<EventLine, TextKind>
         result_on(words)
     } else if skipped(words, b"split") {
         split_on(words)
+    } else if skipped(words, b"part") {
+        part_on(words)
     } else if skipped(words, b"better") {
         better_on(words)
     } else if skipped(words, b"wider") {

@@ -12,6 +12,8 @@ pub enum EventLine {
     /// A piece is to be split at a county, by groups of at most a limit of counties. The fields are the round, the
     /// piece, the county and the limit.
     Split(u32, u32, CountyCode, u16),
+    /// A partial tree follows: the number of its round and that of its piece.
+    Part(u32, u32),
     /// Groups follow: the number of the round, and how many groups.
     Better(u32, u16),
     /// The limit is to be one greater than in the round of this number.

@@ -24,6 +24,7 @@ use certificate_data::Format;
 use certificate_lines::{Cursor, TextFault, push_on};
 use certificate_text::front_tree;
 use county_codes::{Group, Grouping};
+use partial_text::front_part;
 use share_board::Event;
 use std::alloc::Global;
 
@@ -88,6 +89,10 @@ fn event_behind(
         }
         EventLine::Split(round, piece, county, limit) => {
             Ok((Event::Split(round, piece, county, limit), 0))
+        }
+        EventLine::Part(round, piece) => {
+            let (tree, length) = front_part(alloc, text, format, counties)?;
+            Ok((Event::Part(round, piece, tree), length))
         }
         EventLine::Better(round, count) => {
             let (groups, length) = front_groups(alloc, text, count)?;

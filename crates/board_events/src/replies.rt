@@ -47,6 +47,7 @@ pub fn push_reply<C>(out: &mut Vec<u8>, reply: &Reply<C>) -> Result<(), AllocErr
         Reply::AlreadyDone => out.extend_from_slice(b"already done\n"),
         Reply::AlreadySplit => out.extend_from_slice(b"already split\n"),
         Reply::CantSplit => out.extend_from_slice(b"cant split\n"),
+        Reply::NotAPart => out.extend_from_slice(b"not a part\n"),
         Reply::NotAProof => out.extend_from_slice(b"not a proof\n"),
         Reply::NotBetter => out.extend_from_slice(b"not better\n"),
         Reply::CantWiden => out.extend_from_slice(b"cant widen\n"),

@@ -8,7 +8,8 @@ ghost use Rattle.certificate_lines.specs.Writing.{Writes};
 ghost use Rattle.certificate_lines.specs.declared.fault.WriteFault.TheVariants as write_fault;
 ghost use Rattle.certificate_lines.specs.declared.item.Item.TheVariants as item;
 ghost use Rattle.certificate_data.specs.TreeValue.{tree_of};
-ghost use Rattle.board_laws.specs.Content.{hand, result as proof, split_piece, better, wider};
+ghost use Rattle.board_laws.specs.Content.{hand, result as proof, split_piece, part_piece, better, wider};
+ghost use Rattle.partial_trees.specs.PartialValue.{partial_of};
 ghost use Rattle.share_board.specs.Events.{event_of};
 ghost use Rattle.board_events.specs.Spelling.{EventsAreSpelled};
 ghost use Rattle.board_events.specs.Writing.{WritesEvent};
@@ -20,6 +21,8 @@ use certificate_lines::{
 };
 use certificate_text::write_tree;
 use county_codes::{CountyCode, Group};
+use partial_text::write_part;
+use partial_trees::PartialTree;
 use share_board::Event;
 use std::alloc::Global;
 
@@ -68,6 +71,25 @@ fn push_split(
     push_words_number(out, b"split ", u64::from(round))?;
     push_words_number(out, b" ", u64::from(piece))?;
     push_code_and_number_line(out, b" ", county, u32::from(limit))?;
+    Ok(())
+}
+
+/// Appends the lines of a part `tree` for a `piece`.
+fn push_part(
+    out: &mut Vec<u8>,
+    round: u32,
+    piece: u32,
+    tree: &PartialTree,
+    format: Format,
+    counties: u16,
+) -> Result<(), WriteFault>
+    requires { counties ≤ most }
+    ensures { WritesEvent format counties (part_piece round piece (partial_of tree.now)) out.old.items result out.new.items }
+{
+    let lines = write_part(*out.allocator(), tree, format, counties)?;
+    push_words_number(out, b"part ", u64::from(round))?;
+    push_number_line(out, b" ", piece)?;
+    out.extend_from_slice(&lines)?;
     Ok(())
 }
 
@@ -120,6 +142,9 @@ fn push_event(
         }
         Event::Split(round, piece, county, limit) => {
             push_split(out, *round, *piece, *county, *limit)
+        }
+        Event::Part(round, piece, tree) => {
+            push_part(out, *round, *piece, tree, format, counties)
         }
         Event::Better(round, grouping) => push_better(out, *round, &grouping.groups),
         Event::Wider(round) => push_wider(out, *round),

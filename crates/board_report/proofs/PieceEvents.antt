@@ -54,7 +54,7 @@ split_text round r number (whole tree) low few spelled = tt
 split_text round r number (begun county None takes raised) low few spelled = tt
 split_text round r number (begun county (Some limit) takes raised) low few spelled =
     let fits = in_ranges round.format county limit spelled.0 in
-    record { line = (low, few, fits.0, fits.1, fits.2); items = tt }
+    record { line = (low, few, fits.0, fits.1, fits.2); items = tt; form = tt }
 
 -- the split at a branch, if it names its limit
 abbrev pub named_split : ℕ → ℕ → ℕ → Option ℕ → Option Event
@@ -91,8 +91,8 @@ first_branch round number t b e = ap (split_in round number) (tree_made t) ∙ g
 
 pub has_text : (p : Problem) (round : Round) (s : State) (number : ℕ) (piece : Piece) → IsOrder p round.order → HasFiveDigits p → IsState p round s → round.limit ≤ most → number ≤ greatest → IsPiece p round s piece
     → HasText round.format (length round.order) number piece
-has_text p round s number (Proved tree) order five state small few is r low = record { line = (low, few); items = have_texts.tree p round s (tree_of tree) order state is.0 is.1 }
-has_text p round s number (Better g) order five state small few is r low = record { line = (low, is.2.few); items = groups_fit g.groups.items is.2 }
-has_text p round s number (Wider g) order five state small few is r low = record { line = low; items = tt }
+has_text p round s number (Proved tree) order five state small few is r low = record { line = (low, few); items = have_texts.tree p round s (tree_of tree) order state is.0 is.1; form = tt }
+has_text p round s number (Better g) order five state small few is r low = record { line = (low, is.2.few); items = groups_fit g.groups.items is.2; form = tt }
+has_text p round s number (Wider g) order five state small few is r low = record { line = low; items = tt; form = tt }
 has_text p round s number (Open None) order five state small few is r low = tt
 has_text p round s number (Open (Some part)) order five state small few is r low = split_text round r number (partial_of part) low few is.1.0

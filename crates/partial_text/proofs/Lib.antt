@@ -1,3 +1,4 @@
+pub mod PartsFound
 pub mod PartLists
 pub mod ReadSteps
 pub mod PartBack
