@@ -42,7 +42,7 @@ PEOPLE += [148, 88, 29, 27, 113]
 PEOPLE += [139, 101, 117, 128, 62]
 COLUMNS = 5
 KILLS, ORDERS, BOARDS = 12, 12, 8
-STARTS_WITH = re.compile(r"(?m)^(?=(?:hand|result|split|better|wider) )")
+STARTS_WITH = re.compile(r"(?m)^(?=(?:hand|result|part|split|better|wider) )")
 
 # What stands between the loop and the program: some pieces are killed, some write half of their
 # text first, some are refused memory.

@@ -16,7 +16,7 @@ from program_runs import EIO, EINTR, Followed, Refusal, files_below, fresh_folde
 
 # ---- events that `share` was refused memory for ----
 
-EVENT = rb"(?:hand|result|split|better|wider) "
+EVENT = rb"(?:hand|result|part|split|better|wider) "
 
 
 def events_in(text: bytes) -> List[bytes]:
@@ -399,6 +399,8 @@ def tests() -> Iterator[Test]:
     events = events_in(TEXT)
     yield "each event has its lines", [it.count(b"\n") for it in events], [1, 3, 2, 1, 1, 2]
     yield "no line is lost", b"".join(events), TEXT
+    parts = events_in(b"part 1 3\nbranch 37001\ngroup\nopen\npart 1 4\nopen\n")
+    yield "each part has its lines", [it.count(b"\n") for it in parts], [4, 2]
     yield "no event", events_in(b""), []
     yield "an option and its word", named_by(["share", "--events", "e"], "--events"), "e"
     yield "an option and its word in one", named_by(["share", "--events=e f"], "--events"), "e f"
