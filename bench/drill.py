@@ -15,6 +15,10 @@ python3 bench/drill.py PROGRAM [SEED]
 5. False events go to `share`: trees changed by a byte, trees of other pieces, results of other
    rounds, splits and groupings that are none. What is joined has the same grouping, and `check`
    says Best.
+6. The tree of the certificate is cut into parts, and goes to `share` as parts of pieces and results
+   in many orders, with late ones. What is joined is the same, byte for byte.
+7. The same with false parts between: changed by a byte, of other pieces, of other rounds, without
+   an open leaf. What is joined has the same grouping, and `check` says Best.
 
 It ends only processes that it started. The last line is `N passed, M failed`.
 """
@@ -31,6 +35,9 @@ import sys
 import tempfile
 import time
 from typing import Iterator, NamedTuple, Optional, TextIO
+
+import proof_parts
+from proof_parts import Sent
 
 HERE = os.path.dirname(os.path.realpath(__file__))
 LOOP = f"{HERE}/../tools/share.sh"
@@ -378,6 +385,69 @@ class Drill:
         self.expect(what, joined == best, told)
         self.expect("some of these boards join", joined > 0)
 
+    # ---- parts ----
+
+    def with_late_events(self, sent: list[Sent]) -> list[str]:
+        """Returns the texts of events, and some of them once more anywhere behind themselves."""
+        texts = [it.text for it in sent]
+        for it in self.random.sample(sent, len(sent) // 4):
+            first = texts.index(it.text) + 1
+            texts.insert(self.random.randrange(first, len(texts) + 1), it.text)
+        return texts
+
+    def parts(self) -> None:
+        """Shares the tree of the certificate in parts, and compares what is joined."""
+        tree = proof_parts.tree_of(self.quiet.certificate)
+        same = parts = pieces = late = 0
+        for _ in range(ORDERS):
+            sent = proof_parts.sent_in_parts(tree, self.random)
+            status, lines, certificate = self.board.share("".join(self.with_late_events(sent)))
+            parts += sum(it.is_part for it in sent)
+            pieces += len(sent)
+            late += lines.count("already split") + lines.count("already done")
+            same += status == 0 and certificate == self.quiet.certificate
+        what = f"the same tree in parts, cut {ORDERS} times, joins the same bytes"
+        told = f"{pieces} pieces, of which {parts} got parts, {late} events came late"
+        self.expect(what, same == ORDERS and parts > 0 and late > 0, told)
+
+    def false_part(self, sent: list[Sent]) -> str:
+        """Returns a part that no desk should send for the piece of the first event."""
+        it = sent[0]
+        kind = self.random.randrange(4)
+        if kind == 0:
+            place = self.random.randrange(len(it.text))
+            byte = chr(ord(it.text[place]) ^ 1 << self.random.randrange(7))
+            return it.text[:place] + byte + it.text[place + 1 :]
+        if kind == 1:
+            return renumbered(self.random.choice(sent).text, it.number)
+        if kind == 2:
+            return re.sub(r"^(\w+) 1 ", r"\1 2 ", it.text)
+        return re.sub(r"^\w+", "part", re.sub(r"\nopen(?=\n)", "\nseats", it.text))
+
+    def false_parts(self) -> None:
+        """Shares the tree in parts with false ones between, and checks what is joined."""
+        tree = proof_parts.tree_of(self.quiet.certificate)
+        joined = best = 0
+        refused = [0, 0, 0]
+        for _ in range(BOARDS):
+            sent = proof_parts.sent_in_parts(tree, self.random)
+            known = [it.text for it in sent]
+            texts = [t for i, it in enumerate(sent) for t in (self.false_part(sent[i:]), it.text)]
+            shared, left_out = self.board.share_what_is_read(texts, known)
+            counts = [shared.lines.count(it) for it in ("not a proof", "not a part")]
+            refused = [old + new for old, new in zip(refused, [left_out, *counts])]
+            if shared.certificate is not None:
+                joined += 1
+                best += self.board.best_groups(shared.certificate) == self.quiet.best
+        told = f"{refused[0]} texts refused, {refused[1]} times `not a proof`"
+        told += f", {refused[2]} times `not a part`, {joined} of {BOARDS} boards joined"
+        what = "with false parts between, what is joined is proved of the same grouping"
+        self.expect(what, joined == best, told)
+        is_refused = refused[1] > 0 and refused[2] > 0
+        self.expect(
+            "false parts are refused, and some of these boards join", joined > 0 and is_refused
+        )
+
 
 def near_places() -> list[tuple[int, int]]:
     """Returns the places of adjacent counties, each beside those to the right and below."""
@@ -449,7 +519,7 @@ def stop(*_: object) -> None:
 
 
 def main() -> int:
-    """Runs the five parts, and returns 1 if a claim doesn't hold."""
+    """Runs the seven parts, and returns 1 if a claim doesn't hold."""
     if len(sys.argv) not in (2, 3):
         sys.exit(__doc__)
     began = time.time()
@@ -463,6 +533,8 @@ def main() -> int:
             drill.disturbed(name)
         drill.orders()
         drill.falsehoods()
+        drill.parts()
+        drill.false_parts()
         print(f"{time.time() - began:.0f} seconds")
         print(f"{drill.passed} passed, {drill.failed} failed")
     return 1 if drill.failed else 0
