@@ -9,7 +9,7 @@ python3 bench/drill.py PROGRAM [SEED]
    compared with, byte for byte.
 3. The loop runs with pieces that are killed, at once or with half of their text written, or refused
    memory; it is killed itself again and again, and started again; texts of events arrive twice, of
-   other rounds, cut, and as bytes that are none.
+   other rounds, cut, as parts, and as bytes that are none.
 4. The same trees go to `share` in other orders, with results sent twice and results that come too
    early. The splits come in other orders too, with other numbers.
 5. False events go to `share`: trees changed by a byte, trees of other pieces, results of other
@@ -229,7 +229,7 @@ class Drill:
     def disturb(self, folder: str) -> None:
         """Puts texts into the folder as if desks had sent them.
 
-        They are results twice, of other rounds and cut, and bytes that are no events.
+        They are results twice, of other rounds and cut, a part, and bytes that are no events.
         """
         sent = self.random.choice(self.quiet.events)
         line, *rest = sent.split("\n")
@@ -238,7 +238,9 @@ class Drill:
         later = "\n".join([" ".join([words[0], other_round, *words[2:]]), *rest])
         noise = "".join(chr(self.random.randrange(256)) for _ in range(40))
         cut = sent[: self.random.randrange(1, len(sent))]
-        for text in (sent, sent + sent, later, cut, noise):
+        tree = proof_parts.tree_of(self.quiet.certificate)
+        part = proof_parts.sent_in_parts(tree, self.random)[0].text
+        for text in (sent, sent + sent, later, cut, noise, part):
             if self.random.random() < 0.3 and os.path.isdir(f"{folder}/arrived"):
                 name = f"{folder}/arrived/x{self.random.random()}"
                 write(f"{name}.part", text)

@@ -165,12 +165,12 @@ take_arrived() {
     [ ${#arrived[@]} -eq 0 ] || printf '%s\0' "${arrived[@]}" | xargs -0 rm -f
 }
 
-# The pieces that are left, and the events by which they have their numbers: those that began a round, and the splits of the last round. Trees give no numbers,
-# so a desk needs none of the others' trees.
+# The pieces that are left, and the events by which they have their numbers: those that began a round, and the splits and parts of the last round. Whole trees
+# give no numbers, so a desk needs none of them.
 write_board() {
     awk '$1 == "open" { print $2, $3 }' "$folder/replies" >"$folder/open.part"
     awk 'NR == FNR { reply[NR] = $0; if ($1 == "new") last = NR; next }
-        /^(hand|result|split|better|wider) / { event++; kept = reply[event] ~ /^new round / || reply[event] ~ /^split into / && event > last }
+        /^(hand|result|part|split|better|wider) / { event++; kept = reply[event] ~ /^new round / || reply[event] ~ /^split into / && event > last }
         kept' "$folder/replies" "$folder/events" >"$folder/board.part"
     mv "$folder/board.part" "$folder/board"
     mv "$folder/open.part" "$folder/open"
