@@ -49,6 +49,7 @@ PEOPLE += [148, 88, 29, 27, 113]
 PEOPLE += [139, 101, 117, 128, 62]
 COLUMNS = 5
 KILLS, ORDERS, BOARDS = 12, 12, 8
+SPLITS = ("split ", "part ")
 STARTS_WITH = re.compile(r"(?m)^(?=(?:hand|result|part|split|better|wider) )")
 
 # What stands between the loop and the program: some pieces are killed, some write half of their
@@ -221,7 +222,7 @@ class Drill:
         certificate = read(f"{folder}/certificate")
         events = [it for it in STARTS_WITH.split(read(f"{folder}/events")) if it]
         best = self.board.best_groups(certificate)
-        splits = sum(it.startswith("split ") for it in events)
+        splits = sum(it.startswith(SPLITS) for it in events)
         told = f"{steps} steps for a piece, {splits} splits, {len(events)} events"
         self.expect("from the best grouping the loop joins a certificate", bool(best), told)
         self.quiet = Quiet(steps, seconds, certificate, events, best or [])
@@ -313,7 +314,7 @@ class Drill:
         The pieces get the numbers that come of it. A result stands anywhere behind its split.
         """
         ways, kept = self.paths()
-        splits = {ways[piece_of(it)]: (it, to) for it, to in kept if it.startswith("split ")}
+        splits = {ways[piece_of(it)]: (it, to) for it, to in kept if it.startswith(SPLITS)}
         results = {ways[piece_of(it)]: it for it, _ in kept if it.startswith("result ")}
         numbers: dict[Way, int] = {(): 1}
         text: list[str] = []
