@@ -78,7 +78,7 @@ BUDGET, BOARD = (3, r"budget\n"), (4, rf"refused board {BOARD_KIND}\n")
 REPLY = (
     rf"(?:piece {NUMBER} {NUMBER}|nothing left|accepted|split into {NUMBER} to {NUMBER}"
     rf"|new round {NUMBER}|old round|no such piece|already done|already split|cant split"
-    r"|not a proof|not better|cant widen|too many pieces|budget|memory)\n"
+    r"|not a proof|not a part|not better|cant widen|too many pieces|budget|memory)\n"
 )
 WEIGHED = rf"weigh {NUMBER}(?: {CODE}:{NUMBER})*"
 BRANCH = rf"branch {CODE}(?: {NUMBER})?|take {CODES}|mark"
