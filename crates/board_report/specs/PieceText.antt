@@ -2,27 +2,19 @@
 use Rattle.std.specs.Prelude.{ℕ, ◌≤◌, List, codes, Option, Some, None, IfSome}
 use Rattle.certificate_data.specs.declared.format.Format.{Format}
 use Rattle.certificate_data.specs.TreeValue.{tree_of}
-use Rattle.board_laws.specs.Content.{Event, result, split_piece, better, wider}
-use Rattle.board_laws.specs.PartialTrees.{PartialTree, open_leaf, whole, begun}
+use Rattle.board_laws.specs.Content.{Event, result, part_piece, better, wider}
 use Rattle.partial_trees.specs.PartialValue.{partial_of}
 use Rattle.branch_bound.specs.declared.piece.Piece.{Piece}
 use Rattle.branch_bound.specs.declared.piece.Piece.TheVariants.{Proved, Better, Wider, Open}
 use Rattle.board_events.specs.Lines.{greatest}
 use Rattle.board_events.specs.Spelling.{text_of_event, HasSpelling}
 
--- the event that splits a piece at the first branch of a partial tree; none, if the branch names no limit
-abbrev pub split_in : ℕ → ℕ → PartialTree → Option Event
-split_in round number open_leaf = None
-split_in round number (whole tree) = None
-split_in round number (begun county None takes raised) = None
-split_in round number (begun county (Some limit) takes raised) = Some (split_piece round number county limit)
-
--- the event that gives the answer to a board, for a round and a piece of these numbers; none, if no branch is proposed
+-- the event that gives the answer to a board, for a round and a piece of these numbers; none, if no branch was begun
 abbrev pub event_in : ℕ → ℕ → Piece → Option Event
 event_in round number (Proved tree) = Some (result round number (tree_of tree))
 event_in round number (Better g) = Some (better round g.groups.items)
 event_in round number (Wider g) = Some (wider round)
-event_in round number (Open (Some part)) = split_in round number (partial_of part)
+event_in round number (Open (Some part)) = Some (part_piece round number (partial_of part))
 event_in round number (Open None) = None
 
 -- the text of an event, or `open` if there is none

@@ -4,41 +4,25 @@ ghost use Rattle.std.specs.Prelude.{◌≡◌, ◌≤◌, ℕ, [], ◌∷◌, If
 ghost use Rattle.certificate_lines.specs.Lines.{most};
 ghost use Rattle.share_board.specs.Events.{event_of};
 ghost use Rattle.board_events.specs.Spelling.{text_of_event, HasSpelling, EventsAreSpelled};
-ghost use Rattle.partial_trees.specs.PartialValue.{partial_of};
-ghost use Rattle.board_report.specs.PieceText.{event_in, split_in, piece_text_of, HasText};
+ghost use Rattle.board_report.specs.PieceText.{event_in, piece_text_of, HasText};
 
 use board_events::write_event;
 use branch_bound::Piece;
 use certificate_data::Format;
 use certificate_lines::WriteFault;
-use partial_trees::PartialTree;
 use share_board::Event;
 use std::alloc::{AllocError, Global};
 
-/// Returns the event that splits the piece with this `number` in the round with the number `round` at the first branch
-/// of `part`. Returns `None` if that branch names no limit, as in a plain round.
-fn first_split(part: &PartialTree, round: u32, number: u32) -> Option<Event>
-    ensures { option_map event_of result ≡ split_in round number (partial_of part.now) }
-{
-    match part.branches.first() {
-        Some(branch) => match branch.limit {
-            Some(limit) => Some(Event::Split(round, number, branch.county, limit)),
-            None => None,
-        },
-        None => None,
-    }
-}
-
 /// Returns the event that gives the answer to a board, if there is one.
-fn answer_event(piece: &Piece, round: u32, number: u32) -> Result<Option<Event>, AllocError>
-    ensures { IfOk result (λ event. option_map event_of event ≡ event_in round number piece.now) }
+fn answer_event(piece: Piece, round: u32, number: u32) -> Option<Event>
+    ensures { option_map event_of result ≡ event_in round number piece }
 {
     match piece {
-        Piece::Proved(tree) => Ok(Some(Event::Result(round, number, tree.copy()?))),
-        Piece::Better(grouping) => Ok(Some(Event::Better(round, grouping.copy()?))),
-        Piece::Wider(_) => Ok(Some(Event::Wider(round))),
-        Piece::Open(Some(part)) => Ok(first_split(part, round, number)),
-        Piece::Open(None) => Ok(None),
+        Piece::Proved(tree) => Some(Event::Result(round, number, tree)),
+        Piece::Better(grouping) => Some(Event::Better(round, grouping)),
+        Piece::Wider(_) => Some(Event::Wider(round)),
+        Piece::Open(Some(part)) => Some(Event::Part(round, number, part)),
+        Piece::Open(None) => None,
     }
 }
 
@@ -62,25 +46,25 @@ fn event_lines(
 }
 
 /// Returns what is printed of a solver's answer `piece` in the round with the number `round`. It is the text of the
-/// event that gives the answer to a board, or `open` if no branch is proposed.
+/// event that gives the answer to a board, or `open` if no branch was begun.
 ///
 /// # Errors
 ///
 /// Returns `AllocError` if memory was refused.
 pub fn piece_text(
     alloc: Global,
-    piece: &Piece,
+    piece: Piece,
     round: u32,
     number: u32,
     format: Format,
     counties: u16,
 ) -> Result<Vec<u8>, AllocError>
     requires few { counties ≤ most }
-    requires spelled { HasText format counties number piece.now }
-    ensures text { IfOk result (λ text. text.items ≡ piece_text_of round number piece.now) }
-    ensures spelled { IfOk result (λ text. IfSome (event_in round number piece.now) (λ event. EventsAreSpelled format counties text.items (event ∷ []))) }
+    requires spelled { HasText format counties number piece }
+    ensures text { IfOk result (λ text. text.items ≡ piece_text_of round number piece) }
+    ensures spelled { IfOk result (λ text. IfSome (event_in round number piece) (λ event. EventsAreSpelled format counties text.items (event ∷ []))) }
 {
-    match answer_event(piece, round, number)? {
+    match answer_event(piece, round, number) {
         Some(event) => event_lines(alloc, &event, format, counties),
         None => Vec::from_slice(alloc, b"open\n"),
     }

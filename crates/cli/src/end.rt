@@ -166,7 +166,7 @@ pub enum Ending {
     Board(BoardFault),
     /// This number of pieces of the board is still waiting.
     PiecesLeft(usize),
-    /// The steps of a piece ran out. The flag tells whether the answer proposes a split.
+    /// The steps of a piece ran out. The flag tells whether the answer gives a part of its proof.
     PieceOpen(bool),
     /// No piece of the number waits on the board.
     NoSuchPiece,

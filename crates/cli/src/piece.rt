@@ -23,7 +23,7 @@ use std::alloc::Global;
 fn piece_end(end: PieceEnd) -> Ending {
     match end {
         PieceEnd::Answered => Ending::Done,
-        PieceEnd::Open(is_split) => Ending::PieceOpen(is_split),
+        PieceEnd::Open(is_part) => Ending::PieceOpen(is_part),
         PieceEnd::NoSuchPiece => Ending::NoSuchPiece,
     }
 }

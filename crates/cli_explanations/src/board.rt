@@ -7,10 +7,10 @@ use std::alloc::AllocError;
 use std::fmt::Write;
 
 const OPEN_PIECE: &str =
-    "countygroups: the steps of --steps ran out before the piece was proved, and no split of it was found: give a greater number\n";
+    "countygroups: the steps of --steps ran out before the piece was proved, and no branch of it was begun: give a greater number\n";
 
-const SPLIT_PIECE: &str =
-    "countygroups: the steps of --steps ran out before the piece was proved: append the line of the split to the events, or give a greater number\n";
+const PART_OF_PIECE: &str =
+    "countygroups: the steps of --steps ran out before the piece was proved: append the part to the events, or give a greater number\n";
 
 const NO_SUCH_PIECE: &str =
     "countygroups: no piece with the number of --number waits: `countygroups share` tells which do, by the same --events\n";
@@ -72,13 +72,13 @@ pub(crate) fn explain_left(out: &mut String, left: usize) -> Result<(), AllocErr
     )
 }
 
-/// Explains that the steps of a piece ran out. `is_split` tells whether a split of it was found.
+/// Explains that the steps of a piece ran out. `is_part` tells whether a part of its proof is printed.
 ///
 /// # Errors
 ///
 /// Returns `AllocError` if memory was refused.
-pub(crate) fn explain_open_piece(out: &mut String, is_split: bool) -> Result<(), AllocError> {
-    out.push_str(if is_split { SPLIT_PIECE } else { OPEN_PIECE })
+pub(crate) fn explain_open_piece(out: &mut String, is_part: bool) -> Result<(), AllocError> {
+    out.push_str(if is_part { PART_OF_PIECE } else { OPEN_PIECE })
 }
 
 /// Explains that no piece with the number that was asked for waits.

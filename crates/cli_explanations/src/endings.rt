@@ -163,7 +163,7 @@ fn explain_ending(
         Ending::Unlisted(count) => explain_unlisted(out, options, *count),
         Ending::Board(fault) => explain_board(out, options, fault),
         Ending::PiecesLeft(left) => explain_left(out, *left),
-        Ending::PieceOpen(is_split) => explain_open_piece(out, *is_split),
+        Ending::PieceOpen(is_part) => explain_open_piece(out, *is_part),
         Ending::NoSuchPiece => explain_no_piece(out),
         Ending::Done => Ok(()),
     }

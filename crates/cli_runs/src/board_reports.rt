@@ -20,7 +20,6 @@ use cli_answers::RunAnswer;
 use cli_words::{PieceWords, RoundWords};
 use county_codes::{Group, Grouping};
 use county_problem::Problem;
-use partial_trees::PartialTree;
 use share_board::{BoardFault, Event};
 use std::alloc::{AllocError, Global};
 
@@ -29,7 +28,7 @@ use std::alloc::{AllocError, Global};
 pub enum PieceEnd {
     /// The answer is an event that `share` takes.
     Answered,
-    /// The steps ran out. The value tells whether the answer proposes a split.
+    /// The steps ran out. The value tells whether the answer gives a part of the proof.
     Open(bool),
     /// No piece with the given number waits.
     NoSuchPiece,
@@ -111,22 +110,11 @@ pub fn share_events(
     share(alloc, problem, grouping, shape, events, budget)
 }
 
-/// Returns whether the first branch of `part`, if there is a part, names a limit, so that a piece may be split there.
-fn names_split(part: &Option<PartialTree>) -> bool {
-    let Some(part) = part else {
-        return false;
-    };
-    match part.branches.first() {
-        Some(branch) => branch.limit.is_some(),
-        None => false,
-    }
-}
-
 /// Returns how `piece` ended.
 fn end_of(piece: &Piece) -> PieceEnd {
     match piece {
         Piece::Proved(_) | Piece::Better(_) | Piece::Wider(_) => PieceEnd::Answered,
-        Piece::Open(part) => PieceEnd::Open(names_split(part)),
+        Piece::Open(part) => PieceEnd::Open(part.is_some()),
     }
 }
 
@@ -145,20 +133,19 @@ fn report_piece(
     alloc: Global,
     words: PieceWords<'_>,
     counties: u16,
-    piece: &Piece,
+    piece: Piece,
 ) -> Result<PieceSaid, AllocError>
     requires few { counties ≤ most }
-    requires text { HasText (format_of words.board.round) counties words.number piece.now }
-    ensures { IfOk result (λ s. answer_of s.answer ≡ piece_said words.entry.round words.entry.number (Some piece.now)) }
+    requires text { HasText (format_of words.board.round) counties words.number piece }
+    ensures { IfOk result (λ s. answer_of s.answer ≡ piece_said words.entry.round words.entry.number (Some piece)) }
 {
     let format = format_for(words.board.round);
+    let end = end_of(&piece);
+    let status = status_of(&piece);
     let text = piece_text(alloc, piece, words.round, words.number, format, counties)?;
     Ok(PieceSaid {
-        answer: RunAnswer {
-            text,
-            status: status_of(piece),
-        },
-        end: end_of(piece),
+        answer: RunAnswer { text, status },
+        end,
     })
 }
 
@@ -177,11 +164,11 @@ fn report_answer(
     alloc: Global,
     words: PieceWords<'_>,
     counties: u16,
-    answer: &Option<Piece>,
+    answer: Option<Piece>,
 ) -> Result<PieceSaid, AllocError>
     requires few { counties ≤ most }
-    requires text { IfSome answer.now (HasText (format_of words.board.round) counties words.number) }
-    ensures { IfOk result (λ s. answer_of s.answer ≡ piece_said words.entry.round words.entry.number answer.now) }
+    requires text { IfSome answer (HasText (format_of words.board.round) counties words.number) }
+    ensures { IfOk result (λ s. answer_of s.answer ≡ piece_said words.entry.round words.entry.number answer) }
 {
     match answer {
         Some(piece) => report_piece(alloc, words, counties, piece),
@@ -223,7 +210,7 @@ pub fn piece_and_report(
         words.number,
         words.steps,
     ) {
-        Ok(answer) => match report_answer(alloc, words, counties, &answer) {
+        Ok(answer) => match report_answer(alloc, words, counties, answer) {
             Ok(said) => Ok(said),
             Err(AllocError) => Err(BoardFault::Memory),
         },
