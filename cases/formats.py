@@ -83,6 +83,7 @@ REPLY = (
 WEIGHED = rf"weigh {NUMBER}(?: {CODE}:{NUMBER})*"
 BRANCH = rf"branch {CODE}(?: {NUMBER})?|take {CODES}|mark"
 TREE = rf"(?:(?:{BRANCH}|stuck {CODE}|seats|bound {NUMBER}|room|{WEIGHED})\n)+"
+PART = rf"(?:(?:{BRANCH}|stuck {CODE}|seats|bound {NUMBER}|room|open|{WEIGHED})\n)+"
 CERTIFICATE = (
     rf"county-groups (?:wide )?certificate (?:1\n|2\nwindow {NUMBER} {NUMBER}\n)"
     rf"order(?: {CODE})*\nlimit {NUMBER}\ntarget (?:none|{NUMBER})\n"
@@ -129,7 +130,7 @@ TEXTS = {
             rf"result {NUMBER} {NUMBER}\n{TREE}"
             rf"|better {NUMBER} {NUMBER}\n(?:group {NUMBER} {CODES}\n)*|wider {NUMBER}\n",
         ),
-        (3, rf"split {NUMBER} {NUMBER} {CODE} {NUMBER}\n|open\n"),
+        (3, rf"part {NUMBER} {NUMBER}\n{PART}|open\n"),
         (4, r"no such piece\n"),
         BUDGET,
         BOARD,

@@ -160,8 +160,8 @@ const AFTER_PIECE: &str = "\
 The board is that of `share`. If --events is given, the board takes these events first.
 
 It prints an event for `share`: `result` with a proof of the piece, `better` with a better grouping,
-or `wider` if the limit must grow. If the steps run out, it prints `split` where a piece of a wide
-board has a split to propose, and else `open`.
+or `wider` if the limit must grow. If the steps run out, it prints `part` with what it proved of the
+piece, or `open` if it began no branch.
 
 Example:
   countygroups piece --geo nc2020geo.pl --segment nc000012020.pl --chamber 50 \\
