@@ -13,7 +13,7 @@ ghost use Rattle.grouping_laws.specs.GroupsFrom.{IsOrder};
 ghost use Rattle.county_problem.specs.ProblemValue.{problem_of};
 ghost use Rattle.state_groups.specs.PlacedValues.{state_at, IsPlaced};
 ghost use Rattle.branch_bound.specs.PlainRounds.{IsPlainGround, IsStateOf};
-ghost use Rattle.branch_bound.specs.Searching.{search_problem, search_round, search_state, IsSearchInput, IsPositionAt};
+ghost use Rattle.branch_bound.specs.Searching.{search_problem, search_round, search_state, IsSearchInput};
 ghost use Rattle.branch_bound.specs.Searching.{IsBetter, IsOutcome, IsStopped};
 ghost use Rattle.partial_trees.specs.PartialValue.{partial_of};
 ghost use Rattle.branch_bound.specs.Parts.{IsOpenPart};
@@ -30,7 +30,7 @@ use county_codes::Grouping;
 use county_problem::{OrderFault, Ordered, Problem, Steps};
 use partial_trees::PartialTree;
 use place_sets::CountySet;
-use search_groups::{PartLists, Position, SearchInput};
+use search_groups::{PartLists, SearchInput, position_at};
 use state_groups::{State, copied_state};
 use std::alloc::{AllocError, Global};
 
@@ -84,22 +84,6 @@ fn piece_of(round: &Round, outcome: SearchOutcome) -> Piece
     }
 }
 
-/// Returns the position at which the search of a piece begins. Nothing is known of any group there.
-fn begun<C: CountySet>(input: &SearchInput<C>, state: &State<C>) -> Result<Position<C>, AllocError>
-    requires input { IsSearchInput C.PLACES C.test input.now }
-    requires placed { IsPlaced (graph_places input.now.graph.now) C.test state.now }
-    requires state { IsState (search_problem input.now) (search_round input.now) (search_state input.now C.test state.now) }
-    ensures at { IfOk result (IsPositionAt C.test input.now (search_state input.now C.test state.now)) }
-{
-    Ok(Position {
-        state: copied_state(input.graph.alloc, input.graph.ordered, state)?,
-        size: 0,
-        groups: Vec::new(input.graph.alloc),
-        tested: true,
-        larger: None,
-    })
-}
-
 /// Returns the answer for a piece of a wide round, whose state is `state`.
 fn wide_piece<C: CountySet>(
     input: &SearchInput<C>,
@@ -115,7 +99,7 @@ fn wide_piece<C: CountySet>(
     ensures more { steps.old.used ≤ steps.new.used }
     ensures open { IfOk result (λ piece. IsOpen piece → steps.new.used ≡ steps.new.limit) }
 {
-    let position = begun(input, state)?;
+    let position = position_at(input, state)?;
     let mut lists = PartLists::new(input.graph.alloc);
     let outcome = prove(input, position, &mut lists, &mut NoWatcher, steps)?;
     Ok(piece_of(input.round, outcome))

@@ -1,6 +1,6 @@
 //! The judging of a whole certificate: its order, its limit, its target, and its tree.
 
-ghost use Rattle.std.specs.Prelude.{◌≡◌, ◌≤◌, ◌<◌, ◌+◌, ◌∷◌, [], ◌++◌, List, length, nat_lt, IfOk, IsTrue};
+ghost use Rattle.std.specs.Prelude.{◌≡◌, ◌≤◌, ◌<◌, ◌+◌, ◌∷◌, [], ◌++◌, List, length, nat_lt, IfOk};
 ghost use Rattle.std.specs.Prelude.{MatchResult};
 ghost use Rattle.std.specs.List.{list_any};
 ghost use Rattle.county_codes.specs.Limits.{most_counties};
@@ -19,7 +19,6 @@ ghost use Rattle.checker_laws.specs.Lines.{window_line, target_lines};
 ghost use Rattle.checker_laws.specs.Verdict.{IsWindowFault, IsOrderFault, IsLargeEnough, IsLimitFault, IsLawfulTarget};
 ghost use Rattle.checker_laws.specs.Verdict.{IsTargetFault};
 ghost use Rattle.checker_laws.specs.Work.{a_tree};
-ghost use Rattle.state_groups.specs.PlacedValues.{state_at, IsPlaced};
 ghost use Rattle.certificate_checker.specs.ReadableTrees.{IsReadable};
 ghost use Rattle.certificate_checker.specs.Feeding.{stream_of, CountsSteps, IsFed, FeedsThrough, ForEach};
 ghost use Rattle.certificate_checker.specs.Judging.{IsJudged, AreWanted};
@@ -29,7 +28,7 @@ ghost use Rattle.certificate_checker.specs.Certificates.{IsCertificateJudged};
 use crate::feed::{Feed, Halt};
 use crate::forms::next_end;
 use crate::input::CheckInput;
-use crate::known::first_known;
+use crate::known::known_at;
 use crate::rounds::read_round;
 use crate::tree::judge_tree;
 use certificate_data::Round;
@@ -39,9 +38,9 @@ use county_codes::{Group, Grouping, Window};
 use county_problem::{Counts, GroupingFault, OrderFault, Ordered, Problem, judge};
 use place_sets::CountySet;
 use search_groups::PartLists;
-use state_groups::{State, first_state};
+use state_groups::first_state;
 use state_judge::CheckFault;
-use std::alloc::Global;
+use std::alloc::{AllocError, Global};
 
 /// Returns the line of the tolerance: the second, or the head's if no tolerance is named.
 fn window_line(round: &Round) -> u64
@@ -118,7 +117,7 @@ fn target_stop(fault: GroupingFault, line: u64) -> Halt
 }
 
 /// Returns the counts of a round's target, which has to be lawful. The target stands behind the limit.
-pub(crate) fn judge_target(
+fn judge_target(
     alloc: Global,
     problem: &Problem,
     round: &Round,
@@ -138,49 +137,23 @@ pub(crate) fn judge_target(
     }
 }
 
-/// Judges the tree that begins on the next line, at `state`. Order, limit and target are fine. If `is_first`, nothing is
-/// closed there, and what is known of the groups is kept from line to line.
-pub(crate) fn judge_placed<C: CountySet, F, S: ItemSource<F>>(
+/// Returns how many groups of each size the lawful target of `round` has, or `None` if it has no target.
+///
+/// # Errors
+///
+/// Returns `AllocError` if memory was refused.
+pub fn wanted_counts(
     alloc: Global,
-    ordered: &Ordered,
+    problem: &Problem,
     round: &Round,
-    wanted: Option<&Counts>,
-    state: &mut State<C>,
-    is_first: bool,
-    feed: &mut Feed<S>,
-    from: &mut F,
-) -> Result<(), Halt>
-    requires fits { length ordered.now.order ≤ C.PLACES }
-    requires order { ordered.now.order ≡ round.now.order }
-    requires small { round.now.limit ≤ most_counties }
-    requires wanted { AreWanted (target_of round.now.target) wanted }
-    requires placed { IsPlaced (length ordered.now.order) C.test state.old }
-    requires first { IsTrue is_first → state_at ordered.now.order C.test state.old ≡ empty_state (problem_of ordered.now.problem) }
-    requires counted { feed.old.line ≤ feed.old.steps.used }
-    ensures counts { CountsSteps feed.old feed.new }
-    ensures fed { FeedsThrough (stream_of S.left S.given feed.old from.old) (stream_of S.left S.given feed.new from.new) (λ a b. IsFed a result b) }
-    ensures judged { ForEach (stream_of S.left S.given feed.old from.old) (stream_of S.left S.given feed.new from.new) (λ a b. (tree : Tree) (rest : List ItemValue)
-        → IsReadable round.now.format tree
-        → a.course.items ≡ items_of_tree tree ++ rest
-        → IsJudged
-        (problem_of ordered.now.problem)
-        (round_of round.now)
-        (a_tree tree (state_at ordered.now.order C.test state.old) ∷ [])
-        []
-        rest
-        a
-        result
-        b) }
+) -> Result<Option<Counts>, AllocError>
+    requires { IsLawfulTarget (problem_of problem.now) (target_of round.now.target) }
+    ensures { IfOk result (AreCounts (target_of round.now.target)) }
 {
-    let graph = CountyGraph::<C>::build(alloc, ordered)?;
-    let input = CheckInput {
-        graph: &graph,
-        round,
-        wanted,
-    };
-    let mut lists = PartLists::new(alloc);
-    let known = if is_first { first_known(&input)? } else { None };
-    judge_tree(&input, state, known, &mut lists, feed, from)
+    match judge_target(alloc, problem, round) {
+        Ok(wanted) => Ok(wanted),
+        Err(_) => Err(AllocError),
+    }
 }
 
 /// Judges the tree of a certificate, which begins on the next line. Everything in front of it is fine.
@@ -212,12 +185,16 @@ fn judge_first<C: CountySet, F, S: ItemSource<F>>(
         result
         b) }
 {
-    match first_state::<C>(alloc, ordered) {
-        Ok(mut state) => judge_placed::<C, F, S>(
-            alloc, ordered, round, wanted, &mut state, true, feed, from,
-        ),
-        Err(_) => Err(Halt::Refused),
-    }
+    let graph = CountyGraph::<C>::build(alloc, ordered)?;
+    let input = CheckInput {
+        graph: &graph,
+        round,
+        wanted,
+    };
+    let mut state = first_state::<C>(alloc, ordered)?;
+    let known = known_at(&input, &state)?;
+    let mut lists = PartLists::new(alloc);
+    judge_tree(&input, &mut state, known, &mut lists, feed, from)
 }
 
 /// Judges a round whose tolerance is fine, and the tree that begins on the next line.

@@ -6,11 +6,11 @@ use county_problem::Counts;
 
 /// What the lines of a tree are judged by: the county graph, the round, and the counts of its target.
 #[derive(Drop)]
-pub(crate) struct CheckInput<'g, 'a, 'b, C> {
+pub struct CheckInput<'g, 'a, 'b, C> {
     /// The county graph, in the round's order.
-    pub(crate) graph: &'g CountyGraph<'a, 'b, C>,
+    pub graph: &'g CountyGraph<'a, 'b, C>,
     /// The round.
-    pub(crate) round: &'g Round,
+    pub round: &'g Round,
     /// How many groups of each size the round's target has, if there is a target.
-    pub(crate) wanted: Option<&'g Counts>,
+    pub wanted: Option<&'g Counts>,
 }

@@ -10,7 +10,7 @@ ghost use Rattle.connected_laws.specs.Listing.{AreBelow};
 ghost use Rattle.county_problem.specs.OrderedValue.{code_at};
 ghost use Rattle.certificate_data.specs.RoundValue.{round_of};
 ghost use Rattle.certificate_data.specs.declared.format.Format.TheVariants.{Wide};
-ghost use Rattle.certificate_laws.specs.State.{empty_state, close, raise, State as StateValue};
+ghost use Rattle.certificate_laws.specs.State.{close, raise, IsState, State as StateValue};
 ghost use Rattle.certificate_laws.specs.Fitting.{Fits};
 ghost use Rattle.certificate_laws.specs.Groups.{IsGroupAt, AreGroupsAt, IsSetAt};
 ghost use Rattle.certificate_laws.specs.Proving.{CanBranch, NamesLimit, limit_of};
@@ -36,8 +36,8 @@ use county_codes::CountyCode;
 use county_problem::Steps;
 use place_sets::CountySet;
 use search_groups::{
-    PartLists, Position, SearchInput, closed_position, first_position, groups_to_take,
-    larger_groups, next_groups, raised_position, stuck_county, without_dead,
+    PartLists, Position, SearchInput, closed_position, groups_to_take, larger_groups, next_groups,
+    position_at, raised_position, stuck_county, without_dead,
 };
 use state_groups::{State, open_places};
 use state_judge::{Allowed, Branching, LineStop, closed_of_size, judge_allowance, judge_branch};
@@ -50,24 +50,40 @@ const MOST_STEPS: u64 = 100_000;
 /// is made. It serves each branch below, and there are few where few are wanted.
 const LEAST_WANTED: u32 = 4;
 
-/// Returns what is known where a certificate begins: in a wide round, that no group has less than one county.
-pub(crate) fn first_known<C: CountySet>(
+/// Returns what is known at `state`, which is a state of the round, before any line is judged there: in a wide round,
+/// that no group has less than one county. Returns `None` in a plain round.
+///
+/// # Errors
+///
+/// Returns `AllocError` if memory was refused.
+pub fn known_at<C: CountySet>(
     input: &CheckInput<C>,
+    state: &State<C>,
 ) -> Result<Option<Position<C>>, AllocError>
-    requires { IsCheckInput C.PLACES C.test input.now }
-    ensures { IfOk result (IsKnownAt C.test input.now (empty_state (graph_problem input.now.graph.now))) }
+    requires input { IsCheckInput C.PLACES C.test input.now }
+    requires placed { IsPlaced (graph_places input.now.graph.now) C.test state.now }
+    requires state { IsState (graph_problem input.now.graph.now) (round_of input.now.round.now) (state_at (graph_order input.now.graph.now) C.test state.now) }
+    ensures { IfOk result (IsKnownAt C.test input.now (state_at (graph_order input.now.graph.now) C.test state.now)) }
 {
     match input.round.format {
-        Format::Wide => Ok(Some(first_position(&SearchInput {
-            graph: input.graph,
-            round: input.round,
-        })?)),
+        Format::Wide => Ok(Some(position_at(
+            &SearchInput {
+                graph: input.graph,
+                round: input.round,
+            },
+            state,
+        )?)),
         Format::Plain => Ok(None),
     }
 }
 
-/// Returns what is known where the first of the groups in `left` is closed.
-pub(crate) fn closed_known<C: CountySet>(
+/// Returns what is known where the first of the groups in `left` is closed. The groups fit the `state`, and have the
+/// known size. Returns `None` if nothing is known at the state, or if there is no group.
+///
+/// # Errors
+///
+/// Returns `AllocError` if memory was refused.
+pub fn closed_known<C: CountySet>(
     input: &CheckInput<C>,
     state: &State<C>,
     known: &Option<Position<C>>,
@@ -109,8 +125,13 @@ pub(crate) fn closed_known<C: CountySet>(
     Ok(Some(closed))
 }
 
-/// Returns what is known where the county at `place` is raised past the `limit`.
-pub(crate) fn raised_known<C: CountySet>(
+/// Returns what is known where the county at `place` is raised past the `limit`. Returns `None` if the groups of so many
+/// counties aren't known at the `state`.
+///
+/// # Errors
+///
+/// Returns `AllocError` if memory was refused.
+pub fn raised_known<C: CountySet>(
     input: &CheckInput<C>,
     state: &State<C>,
     known: Option<Position<C>>,
@@ -419,7 +440,13 @@ fn told_branch<C: CountySet>(
 
 /// Judges the line of a branch as `judge_branch` does. Its groups are told by what is known, if that tells them, and
 /// then no step is taken. Behind the call the groups of the branch's limit are known, or nothing is.
-pub(crate) fn knowing_branch<C: CountySet>(
+///
+/// What is known is extended with the help of `lists`, and takes the `spare` steps, which count for nothing.
+///
+/// # Errors
+///
+/// Returns the errors of `judge_branch`.
+pub fn knowing_branch<C: CountySet>(
     input: &CheckInput<C>,
     state: &State<C>,
     known: &mut Option<Position<C>>,

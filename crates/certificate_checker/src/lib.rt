@@ -14,6 +14,9 @@
 //! state: branches with their takes (`branches`), and leaves (`leaves`). `feed` counts lines and steps, `forms` takes
 //! lines of one form, and `input` is what they are judged by.
 //!
+//! In a wide round the checker keeps what it knows of the groups at a state from line to line (`known`). `known_at`,
+//! `closed_known`, `raised_known` and `knowing_branch` let another crate keep it, and `check_tree_knowing` goes on from it.
+//!
 //! The checker makes no value of a tree. Any form of sets of places serves, and any source of items: `check_from` pulls
 //! the text line by line.
 //!
@@ -36,9 +39,12 @@ mod tree;
 mod tree_checking;
 mod verdict;
 
+pub use certificate::wanted_counts;
 pub use checking::{check, check_from, check_from_keeping, check_from_over, check_over};
 pub use fault::CheckStop;
+pub use input::CheckInput;
+pub use known::{closed_known, known_at, knowing_branch, raised_known};
 pub use laws::checker_agrees;
 pub use state_judge::CheckFault;
-pub use tree_checking::check_tree;
+pub use tree_checking::{check_tree, check_tree_knowing};
 pub use verdict::{TreeVerdict, Verdict};

@@ -1,29 +1,38 @@
 //! The verdict on a tree.
 
-ghost use Rattle.std.specs.Prelude.{◌≡◌, ◌≤◌, length, IfOk};
+ghost use Rattle.std.specs.Prelude.{◌≡◌, ◌≤◌, length, IfOk, IsTrue};
 ghost use Rattle.county_codes.specs.Limits.{most_counties};
 ghost use Rattle.grouping_laws.specs.GroupsFrom.{IsOrder};
 ghost use Rattle.county_problem.specs.ProblemValue.{problem_of};
+ghost use Rattle.connected_sets.specs.Graphs.{graph_problem, graph_order, graph_places, place_problem, IsGraph};
 ghost use Rattle.certificate_data.specs.RoundValue.{round_of, target_of};
 ghost use Rattle.certificate_data.specs.Tree.{Tree as TreeValue};
 ghost use Rattle.certificate_lines.specs.Courses.{tree_course};
 ghost use Rattle.certificate_lines.specs.Lines.{most};
 ghost use Rattle.certificate_data.specs.TreeValue.{tree_of};
+ghost use Rattle.certificate_laws.specs.State.{IsState};
 ghost use Rattle.certificate_text.specs.Ranges.{AreTreeNumbers};
 ghost use Rattle.certificate_text.specs.TreeFault.{lines_of_tree};
 ghost use Rattle.checker_laws.specs.Verdict.{IsLawfulTarget};
+ghost use Rattle.search_groups.specs.PartLists.{AreListsOf};
 ghost use Rattle.state_groups.specs.PlacedValues.{state_at, IsPlaced};
-ghost use Rattle.certificate_checker.specs.Judging.{AreWanted};
+ghost use Rattle.certificate_checker.specs.Judging.{IsCheckInput, AreWanted};
+ghost use Rattle.certificate_checker.specs.Knowing.{IsKnownAt};
 ghost use Rattle.certificate_checker.specs.TreeAnswers.{IsTreeAnswer, IsTreeWithinBudget, IsRightOfTrees, IsSaid};
 
-use crate::certificate::{judge_order, judge_placed, judge_target};
+use crate::certificate::{judge_order, wanted_counts};
 use crate::feed::{Feed, Halt, first_fault};
+use crate::input::CheckInput;
+use crate::known::known_at;
+use crate::tree::judge_tree;
 use crate::verdict::TreeVerdict;
 use certificate_data::{Format, Round, Tree};
 use certificate_lines::{Items, TextFault};
 use certificate_text::tree_lines;
-use county_problem::{Counts, Ordered, Problem, Steps};
+use connected_sets::CountyGraph;
+use county_problem::{Counts, Problem, Steps};
 use place_sets::CountySet;
+use search_groups::{PartLists, Position};
 use state_groups::{State, copied_state};
 use state_judge::CheckFault;
 use std::alloc::{AllocError, Global};
@@ -57,50 +66,103 @@ fn fault_in(
 
 /// Returns the verdict on `lines` at `state`: their first fault, or else what their judging comes to.
 fn check_lines<C: CountySet>(
-    alloc: Global,
-    ordered: &Ordered,
-    round: &Round,
-    wanted: Option<&Counts>,
+    input: &CheckInput<C>,
     state: &mut State<C>,
+    known: Option<Position<C>>,
+    lists: &mut PartLists<C>,
     lines: &[u8],
     budget: u64,
 ) -> Result<TreeVerdict, AllocError>
-    requires fits { length ordered.now.order ≤ C.PLACES }
-    requires order { ordered.now.order ≡ round.now.order }
-    requires small { round.now.limit ≤ most_counties }
-    requires wanted { AreWanted (target_of round.now.target) wanted }
-    requires placed { IsPlaced (length ordered.now.order) C.test state.old }
+    requires input { IsCheckInput C.PLACES C.test input.now }
+    requires placed { IsPlaced (graph_places input.now.graph.now) C.test state.old }
+    requires known { IsKnownAt C.test input.now (state_at (graph_order input.now.graph.now) C.test state.old) known }
+    requires lists { AreListsOf C.test (place_problem input.now.graph.now) (graph_places input.now.graph.now) lists.old }
+    ensures lists { AreListsOf C.test (place_problem input.now.graph.now) (graph_places input.now.graph.now) lists.new }
     ensures verdict { (tree : TreeValue)
         → lines.now ≡ lines_of_tree tree
         → AreTreeNumbers tree
-        → IfOk result (IsTreeAnswer (problem_of ordered.now.problem) (round_of round.now) (state_at ordered.now.order C.test state.old) tree budget) }
+        → IfOk result (IsTreeAnswer (graph_problem input.now.graph.now) (round_of input.now.round.now) (state_at (graph_order input.now.graph.now) C.test state.old) tree budget) }
     ensures within { (tree : TreeValue)
         → lines.now ≡ lines_of_tree tree
         → AreTreeNumbers tree
         → IfOk result (IsTreeWithinBudget tree budget) }
 {
-    let places = ordered.places();
-    if let Some(fault) = fault_in(alloc, lines, round.format, places)? {
+    let alloc = input.graph.alloc;
+    let format = input.round.format;
+    let places = input.graph.ordered.places();
+    if let Some(fault) = fault_in(alloc, lines, format, places)? {
         return Ok(TreeVerdict::Fault(CheckFault::Text(fault)));
     }
     let mut feed = Feed {
-        source: Items::of_tree(alloc, lines, round.format, places),
+        source: Items::of_tree(alloc, lines, format, places),
         line: 0,
         steps: Steps::new(budget),
         spare: Steps::new(budget),
     };
-    let judged = judge_placed::<C, (), Items>(
-        alloc,
-        ordered,
-        round,
-        wanted,
-        state,
-        false,
-        &mut feed,
-        &mut (),
-    );
+    let judged = judge_tree::<C, (), Items>(input, state, known, lists, &mut feed, &mut ());
     let _used = feed.steps.used();
     said_of(judged)
+}
+
+/// Returns the verdict on a tree that should prove a round from a state on, as `check_tree` does.
+///
+/// What is `known` at the state is kept from line to line, and is extended with the help of `lists`. A caller that judges
+/// several trees keeps the lists from one to the next.
+///
+/// # Errors
+///
+/// Returns `AllocError` if memory was refused.
+pub fn check_tree_knowing<C: CountySet>(
+    input: &CheckInput<C>,
+    state: &State<C>,
+    known: Option<Position<C>>,
+    lists: &mut PartLists<C>,
+    tree: &Tree,
+    budget: u64,
+) -> Result<TreeVerdict, AllocError>
+    requires input { IsCheckInput C.PLACES C.test input.now }
+    requires placed { IsPlaced (graph_places input.now.graph.now) C.test state.now }
+    requires known { IsKnownAt C.test input.now (state_at (graph_order input.now.graph.now) C.test state.now) known }
+    requires lists { AreListsOf C.test (place_problem input.now.graph.now) (graph_places input.now.graph.now) lists.old }
+    ensures lists { AreListsOf C.test (place_problem input.now.graph.now) (graph_places input.now.graph.now) lists.new }
+    ensures verdict { IfOk result (IsTreeAnswer (graph_problem input.now.graph.now) (round_of input.now.round.now) (state_at (graph_order input.now.graph.now) C.test state.now) (tree_of tree.now) budget) }
+    ensures within { IfOk result (IsTreeWithinBudget (tree_of tree.now) budget) }
+    ensures right { IfOk result (IsRightOfTrees (graph_problem input.now.graph.now) (round_of input.now.round.now) (state_at (graph_order input.now.graph.now) C.test state.now) (tree_of tree.now)) }
+{
+    let lines = tree_lines(input.graph.alloc, tree)?;
+    let mut state = copied_state(input.graph.alloc, input.graph.ordered, state)?;
+    check_lines(input, &mut state, known, lists, &lines, budget)
+}
+
+/// Returns the verdict on `tree` at `state`, given the `wanted` counts of the round's target. If `is_of_round`, what is
+/// known of the groups is kept from line to line.
+fn check_tree_at<C: CountySet>(
+    graph: &CountyGraph<C>,
+    round: &Round,
+    wanted: Option<&Counts>,
+    state: &State<C>,
+    is_of_round: bool,
+    tree: &Tree,
+    budget: u64,
+) -> Result<TreeVerdict, AllocError>
+    requires graph { IsGraph C.test C.PLACES graph.now }
+    requires order { graph_order graph.now ≡ round.now.order }
+    requires small { round.now.limit ≤ most_counties }
+    requires wanted { AreWanted (target_of round.now.target) wanted }
+    requires placed { IsPlaced (graph_places graph.now) C.test state.now }
+    requires state { IsTrue is_of_round → IsState (graph_problem graph.now) (round_of round.now) (state_at (graph_order graph.now) C.test state.now) }
+    ensures verdict { IfOk result (IsTreeAnswer (graph_problem graph.now) (round_of round.now) (state_at (graph_order graph.now) C.test state.now) (tree_of tree.now) budget) }
+    ensures within { IfOk result (IsTreeWithinBudget (tree_of tree.now) budget) }
+    ensures right { IfOk result (IsRightOfTrees (graph_problem graph.now) (round_of round.now) (state_at (graph_order graph.now) C.test state.now) (tree_of tree.now)) }
+{
+    let input = CheckInput {
+        graph,
+        round,
+        wanted,
+    };
+    let known = if is_of_round { known_at(&input, state)? } else { None };
+    let mut lists = PartLists::new(graph.alloc);
+    check_tree_knowing(&input, state, known, &mut lists, tree, budget)
 }
 
 /// Returns the verdict on a tree that should prove a round from a state on.
@@ -114,7 +176,8 @@ fn check_lines<C: CountySet>(
 /// ask to look through. A proof tree with more lines than `budget` is never answered with `Proof`.
 ///
 /// The order has each county of the problem once. The target, if there is one, is lawful, and the limit is at most 256
-/// counties. The state is by places of the order.
+/// counties. The state is by places of the order. If `is_of_round`, it is a state of the round, and what is known of its
+/// groups is kept from line to line, as `check` keeps it. The verdict is right either way.
 ///
 /// # Errors
 ///
@@ -124,6 +187,7 @@ pub fn check_tree<C: CountySet>(
     problem: &Problem,
     round: &Round,
     state: &State<C>,
+    is_of_round: bool,
     tree: &Tree,
     budget: u64,
 ) -> Result<TreeVerdict, AllocError>
@@ -132,25 +196,16 @@ pub fn check_tree<C: CountySet>(
     requires small { round.now.limit ≤ most_counties }
     requires target { IsLawfulTarget (problem_of problem.now) (target_of round.now.target) }
     requires placed { IsPlaced (length round.now.order) C.test state.now }
+    requires state { IsTrue is_of_round → IsState (problem_of problem.now) (round_of round.now) (state_at round.now.order C.test state.now) }
     ensures verdict { IfOk result (IsTreeAnswer (problem_of problem.now) (round_of round.now) (state_at round.now.order C.test state.now) (tree_of tree.now) budget) }
     ensures within { IfOk result (IsTreeWithinBudget (tree_of tree.now) budget) }
     ensures right { IfOk result (IsRightOfTrees (problem_of problem.now) (round_of round.now) (state_at round.now.order C.test state.now) (tree_of tree.now)) }
 {
-    let lines = tree_lines(alloc, tree)?;
     let Ok(ordered) = judge_order(alloc, problem, round) else {
         return Err(AllocError);
     };
-    let Ok(wanted) = judge_target(alloc, problem, round) else {
-        return Err(AllocError);
-    };
-    let mut state = copied_state(alloc, &ordered, state)?;
-    check_lines::<C>(
-        alloc,
-        &ordered,
-        round,
-        wanted.as_ref(),
-        &mut state,
-        &lines,
-        budget,
-    )
+    let wanted = wanted_counts(alloc, problem, round)?;
+    let graph = CountyGraph::<C>::build(alloc, &ordered)?;
+    let _problem = ordered.problem();
+    check_tree_at(&graph, round, wanted.as_ref(), state, is_of_round, tree, budget)
 }

@@ -1,26 +1,21 @@
 -- What the verdict on a partial tree says of its states.
 use Rattle.std.specs.Prelude.{ℕ, ◌≡◌, ◌≤◌, Bool, List, ◌++◌, length, map, All}
-use Rattle.county_codes.specs.Limits.{most_counties}
 use Rattle.grouping_laws.specs.Problem.{Problem}
-use Rattle.connected_sets.specs.Graphs.{graph_problem, graph_order, IsGraph}
+use Rattle.connected_sets.specs.Graphs.{graph_order}
 use Rattle.certificate_data.specs.Round.{Round}
-use Rattle.certificate_data.specs.RoundValue.{target_of}
 use Rattle.certificate_laws.specs.State.{State}
-use Rattle.checker_laws.specs.Verdict.{IsLawfulTarget}
 use Rattle.state_groups.specs.declared.state.State.{State as StateHeld}
 use Rattle.state_groups.specs.PlacedValues.{state_at, IsPlaced}
+use Rattle.certificate_checker.specs.Judging.{IsCheckInput}
 use Rattle.board_laws.specs.PartialTrees.{PartialTree, PartialTakes}
 use Rattle.partial_trees.specs.declared.input.PartInput.{PartInput}
 use Rattle.partial_trees.specs.OpenStates.{open_states, states_in}
 use Rattle.partial_trees.specs.Refusals.{IsPartProof, AreTakeProofs}
 
--- the county graph is by the round's order, whose codes have five digits, and the target is lawful
+-- the county graph is by the round's order, whose codes have five digits
 pub record IsPartInput {C : Type 0} (places : ℕ) (test : C → ℕ → Bool) (g : PartInput C) : Type 0 where
-  pub graph : IsGraph test places g.graph.now
-  pub order : graph_order g.graph.now ≡ g.round.now.order
-  pub small : g.round.now.limit ≤ most_counties
-  pub target : IsLawfulTarget (graph_problem g.graph.now) (target_of g.round.now.target)
-  pub five : All (λ c. c ≤ 99999) (graph_order g.graph.now)
+  pub check : IsCheckInput places test g.check
+  pub five : All (λ c. c ≤ 99999) (graph_order g.check.graph.now)
 
 -- these states, by places of the order, are put behind the others
 pub record Adds {C : Type 0} (order : List ℕ) (test : C → ℕ → Bool) (old new : List (StateHeld C))

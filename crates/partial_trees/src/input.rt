@@ -1,15 +1,12 @@
 //! What partial trees are judged by.
 
-use certificate_data::Round;
-use connected_sets::CountyGraph;
+use certificate_checker::CheckInput;
 
-/// What partial trees are judged by: the county graph, the round, and the budget.
+/// What partial trees are judged by: the county graph, the round with the counts of its target, and the budget.
 #[derive(Drop)]
 pub(crate) struct PartInput<'g, 'a, 'b, C> {
-    /// The county graph, in the round's order.
-    pub(crate) graph: &'g CountyGraph<'a, 'b, C>,
-    /// The round.
-    pub(crate) round: &'g Round,
+    /// The county graph, in the round's order, the round, and the counts of its target.
+    pub(crate) check: CheckInput<'g, 'a, 'b, C>,
     /// The steps that each branch and each whole tree may cost.
     pub(crate) budget: u64,
 }

@@ -1,10 +1,15 @@
 //! The verdict on a partial tree at a state.
 
-ghost use Rattle.std.specs.Prelude.{◌≡◌, ◌≤◌, true, false, Some, [], ◌∷◌, ◌++◌, All, map, IfOk, IfErr, OnOk};
+ghost use Rattle.std.specs.Prelude.{◌≡◌, ℕ, ◌≤◌, true, false, Some, [], ◌∷◌, ◌++◌, All, map, IfOk, IfErr, OnOk, IsTrue};
 ghost use Rattle.county_codes.specs.Limits.{most_counties};
-ghost use Rattle.connected_sets.specs.Graphs.{graph_problem, graph_order, graph_places, IsGraph};
+ghost use Rattle.connected_sets.specs.Graphs.{graph_problem, graph_order, graph_places, place_problem, IsGraph};
 ghost use Rattle.certificate_data.specs.RoundValue.{round_of, target_of};
+ghost use Rattle.certificate_laws.specs.State.{IsState};
+ghost use Rattle.certificate_laws.specs.Groups.{IsGroupAt};
 ghost use Rattle.checker_laws.specs.Verdict.{IsLawfulTarget};
+ghost use Rattle.search_groups.specs.PartLists.{AreListsOf};
+ghost use Rattle.certificate_checker.specs.Judging.{AreWanted};
+ghost use Rattle.certificate_checker.specs.Knowing.{IsKnownAt};
 ghost use Rattle.partial_trees.specs.OpenStates.{open_states};
 ghost use Rattle.state_groups.specs.PlacedValues.{state_at, codes_of_sets, IsPlaced, IsClosable};
 ghost use Rattle.partial_trees.specs.PartialValue.{partial_of, list_of_begun};
@@ -16,14 +21,18 @@ ghost use Rattle.certificate_data.specs.TreeValue.{tree_of};
 use crate::input::PartInput;
 use crate::stop::PartStop;
 use crate::tree::{PartialTake, PartialTree};
-use certificate_checker::{TreeVerdict, check_tree};
+use certificate_checker::{
+    CheckInput, TreeVerdict, check_tree_knowing, closed_known, known_at, knowing_branch,
+    raised_known, wanted_counts,
+};
 use certificate_data::{Round, Tree};
 use connected_sets::CountyGraph;
 use county_codes::CountyCode;
-use county_problem::Steps;
+use county_problem::{Counts, Ordered, Steps};
 use place_sets::CountySet;
+use search_groups::{PartLists, Position};
 use state_groups::{State, closed_state, copied_state, raise_place};
-use state_judge::{judge_branch, judge_take};
+use state_judge::judge_take;
 use std::alloc::AllocError;
 
 /// Looks at each of the `codes`. A code has at most five digits, which its own contract says.
@@ -54,29 +63,27 @@ fn has_line(limit: Option<u16>) -> bool
     }
 }
 
-/// Judges a whole `tree` at `state`.
+/// Judges a whole `tree` at `state`, of which this is `known`.
 fn judge_whole<C: CountySet>(
     input: &PartInput<C>,
     state: &State<C>,
+    known: Option<Position<C>>,
+    lists: &mut PartLists<C>,
     tree: &Tree,
 ) -> Result<(), PartStop>
     requires input { IsPartInput C.PLACES C.test input.now }
-    requires placed { IsPlaced (graph_places input.now.graph.now) C.test state.now }
+    requires placed { IsPlaced (graph_places input.now.check.graph.now) C.test state.now }
+    requires known { IsKnownAt C.test input.now.check (state_at (graph_order input.now.check.graph.now) C.test state.now) known }
+    requires lists { AreListsOf C.test (place_problem input.now.check.graph.now) (graph_places input.now.check.graph.now) lists.old }
+    ensures lists { AreListsOf C.test (place_problem input.now.check.graph.now) (graph_places input.now.check.graph.now) lists.new }
     ensures taken { IfOk
         result
-        (λ _. IsPartProof (graph_problem input.now.graph.now) (round_of input.now.round.now) (state_at (graph_order input.now.graph.now) C.test state.now) (whole (tree_of tree.now))) }
+        (λ _. IsPartProof (graph_problem input.now.check.graph.now) (round_of input.now.check.round.now) (state_at (graph_order input.now.check.graph.now) C.test state.now) (whole (tree_of tree.now))) }
     ensures refused { IfErr
         result
-        (IsPartRefusal (graph_problem input.now.graph.now) input.now.budget (round_of input.now.round.now) (state_at (graph_order input.now.graph.now) C.test state.now) (whole (tree_of tree.now))) }
+        (IsPartRefusal (graph_problem input.now.check.graph.now) input.now.budget (round_of input.now.check.round.now) (state_at (graph_order input.now.check.graph.now) C.test state.now) (whole (tree_of tree.now))) }
 {
-    match check_tree(
-        input.graph.alloc,
-        input.graph.ordered.problem(),
-        input.round,
-        state,
-        tree,
-        input.budget,
-    ) {
+    match check_tree_knowing(&input.check, state, known, lists, tree, input.budget) {
         Ok(TreeVerdict::Proof) => Ok(()),
         Ok(TreeVerdict::Fault(_)) => Err(PartStop::NotAProof),
         Ok(TreeVerdict::Budget) => Err(PartStop::Budget),
@@ -85,36 +92,53 @@ fn judge_whole<C: CountySet>(
 }
 
 /// Judges the `takes` of a branch at `state`, which have to be those of the `groups`, in order. Appends the states at
-/// their open leaves to `states`.
+/// their open leaves to `states`. What is `known` at the state is kept for each take.
 #[cycle(judging)]
 fn judge_takes<C: CountySet>(
     input: &PartInput<C>,
     state: &State<C>,
+    known: &Option<Position<C>>,
     takes: &[PartialTake],
     groups: &[C],
+    lists: &mut PartLists<C>,
     states: &mut Vec<State<C>>,
 ) -> Result<(), PartStop>
     requires input { IsPartInput C.PLACES C.test input.now }
-    requires placed { IsPlaced (graph_places input.now.graph.now) C.test state.now }
+    requires placed { IsPlaced (graph_places input.now.check.graph.now) C.test state.now }
+    requires known { IsKnownAt C.test input.now.check (state_at (graph_order input.now.check.graph.now) C.test state.now) known.now }
     requires groups { All (IsClosable C.test state.now) groups.now }
+    requires fits { (at : Position C)
+        → known.now ≡ Some at
+        → All (λ g. (c : ℕ)
+        × IsGroupAt
+        (graph_problem input.now.check.graph.now)
+        (round_of input.now.check.round.now)
+        (state_at (graph_order input.now.check.graph.now) C.test state.now)
+        c
+        at.size
+        g) (codes_of_sets (graph_order input.now.check.graph.now) C.test groups.now) }
+    requires lists { AreListsOf C.test (place_problem input.now.check.graph.now) (graph_places input.now.check.graph.now) lists.old }
+    ensures lists { AreListsOf C.test (place_problem input.now.check.graph.now) (graph_places input.now.check.graph.now) lists.new }
     ensures taken { IfOk
         result
-        (λ _. AreTakenParts C.test (graph_problem input.now.graph.now) (round_of input.now.round.now) (state_at (graph_order input.now.graph.now) C.test state.now) (codes_of_sets (graph_order input.now.graph.now) C.test groups.now) (list_of_begun takes.now) states.old.items states.new.items) }
+        (λ _. AreTakenParts C.test (graph_problem input.now.check.graph.now) (round_of input.now.check.round.now) (state_at (graph_order input.now.check.graph.now) C.test state.now) (codes_of_sets (graph_order input.now.check.graph.now) C.test groups.now) (list_of_begun takes.now) states.old.items states.new.items) }
     ensures refused { IfErr
         result
-        (IsTakesRefusal (graph_problem input.now.graph.now) input.now.budget (round_of input.now.round.now) (state_at (graph_order input.now.graph.now) C.test state.now) (codes_of_sets (graph_order input.now.graph.now) C.test groups.now) (list_of_begun takes.now)) }
+        (IsTakesRefusal (graph_problem input.now.check.graph.now) input.now.budget (round_of input.now.check.round.now) (state_at (graph_order input.now.check.graph.now) C.test state.now) (codes_of_sets (graph_order input.now.check.graph.now) C.test groups.now) (list_of_begun takes.now)) }
 {
+    let check = &input.check;
     let mut left = groups;
     'taking: for take in takes {
-        match judge_take(input.graph.ordered, left, take.codes.as_slice()) {
+        match judge_take(check.graph.ordered, left, take.codes.as_slice()) {
             Ok(()) => {}
             Err(_) => return Err(PartStop::NotAProof),
         }
         let Some((group, others)) = left.split_first() else {
             return Err(PartStop::NotAProof);
         };
-        let closed = closed_state(input.graph.alloc, input.graph.ordered, state, group)?;
-        match judge_part(input, closed, &take.tree, states) {
+        let closed = closed_state(check.graph.alloc, check.graph.ordered, state, group)?;
+        let below = closed_known(check, state, known, left)?;
+        match judge_part(input, closed, below, &take.tree, lists, states) {
             Ok(()) => {}
             Err(stop) => return Err(stop),
         }
@@ -126,48 +150,67 @@ fn judge_takes<C: CountySet>(
     Ok(())
 }
 
-/// Judges `part` at `state`. Appends the states at its open leaves to `states`.
+/// Judges `part` at `state`, of which this is `known`. Appends the states at its open leaves to `states`.
 ///
 /// The recursion goes as deep as takes nest.
 #[cycle(judging)]
 fn judge_part<C: CountySet>(
     input: &PartInput<C>,
     state: State<C>,
+    known: Option<Position<C>>,
     part: &PartialTree,
+    lists: &mut PartLists<C>,
     states: &mut Vec<State<C>>,
 ) -> Result<(), PartStop>
     requires input { IsPartInput C.PLACES C.test input.now }
-    requires placed { IsPlaced (graph_places input.now.graph.now) C.test state }
+    requires placed { IsPlaced (graph_places input.now.check.graph.now) C.test state }
+    requires known { IsKnownAt C.test input.now.check (state_at (graph_order input.now.check.graph.now) C.test state) known }
+    requires lists { AreListsOf C.test (place_problem input.now.check.graph.now) (graph_places input.now.check.graph.now) lists.old }
+    ensures lists { AreListsOf C.test (place_problem input.now.check.graph.now) (graph_places input.now.check.graph.now) lists.new }
     ensures taken { IfOk
         result
-        (λ _. IsTakenPart C.test (graph_problem input.now.graph.now) (round_of input.now.round.now) (state_at (graph_order input.now.graph.now) C.test state) (partial_of part.now) states.old.items states.new.items) }
+        (λ _. IsTakenPart C.test (graph_problem input.now.check.graph.now) (round_of input.now.check.round.now) (state_at (graph_order input.now.check.graph.now) C.test state) (partial_of part.now) states.old.items states.new.items) }
     ensures refused { IfErr
         result
-        (IsPartRefusal (graph_problem input.now.graph.now) input.now.budget (round_of input.now.round.now) (state_at (graph_order input.now.graph.now) C.test state) (partial_of part.now)) }
+        (IsPartRefusal (graph_problem input.now.check.graph.now) input.now.budget (round_of input.now.check.round.now) (state_at (graph_order input.now.check.graph.now) C.test state) (partial_of part.now)) }
 {
+    let check = &input.check;
     let mut state = state;
+    let mut known = known;
     'branching: for branch in &part.branches {
         if !has_line(branch.limit) {
             return Err(PartStop::NotAProof);
         }
         let mut steps = Steps::new(input.budget);
-        let branching = match judge_branch(
-            input.graph,
-            input.round,
+        let mut spare = Steps::new(input.budget);
+        let branching = match knowing_branch(
+            check,
             &state,
+            &mut known,
             branch.county,
             branch.limit,
+            lists,
+            &mut spare,
             &mut steps,
         ) {
             Ok(branching) => branching,
             Err(stop) => return Err(PartStop::from(stop)),
         };
-        match judge_takes(input, &state, &branch.takes, &branching.groups, states) {
+        match judge_takes(
+            input,
+            &state,
+            &known,
+            &branch.takes,
+            &branching.groups,
+            lists,
+            states,
+        ) {
             Ok(()) => {}
             Err(stop) => return Err(stop),
         }
+        known = raised_known(check, &state, known, branching.place, branching.limit)?;
         raise_place(
-            input.graph.ordered,
+            check.graph.ordered,
             &mut state,
             branching.place,
             branching.limit,
@@ -175,14 +218,61 @@ fn judge_part<C: CountySet>(
     }
     match &part.rest {
         None => Ok(keep_state(state, states)?),
-        Some(tree) => judge_whole(input, &state, tree),
+        Some(tree) => judge_whole(input, &state, known, lists, tree),
+    }
+}
+
+/// Judges `part` at `state`, given the `wanted` counts of the round's target, and returns the states at its open leaves.
+fn judge_wanted<C: CountySet>(
+    graph: &CountyGraph<C>,
+    round: &Round,
+    wanted: Option<&Counts>,
+    state: &State<C>,
+    is_of_round: bool,
+    part: &PartialTree,
+    budget: u64,
+) -> Result<Vec<State<C>>, PartStop>
+    requires graph { IsGraph C.test C.PLACES graph.now }
+    requires order { graph_order graph.now ≡ round.now.order }
+    requires small { round.now.limit ≤ most_counties }
+    requires wanted { AreWanted (target_of round.now.target) wanted }
+    requires five { All (λ c. c ≤ 99999) (graph_order graph.now) }
+    requires placed { IsPlaced (graph_places graph.now) C.test state.now }
+    requires state { IsTrue is_of_round → IsState (graph_problem graph.now) (round_of round.now) (state_at (graph_order graph.now) C.test state.now) }
+    ensures taken { IfOk
+        result
+        (λ states. IsTakenPart C.test (graph_problem graph.now) (round_of round.now) (state_at (graph_order graph.now) C.test state.now) (partial_of part.now) [] states.items) }
+    ensures refused { IfErr
+        result
+        (IsPartRefusal (graph_problem graph.now) budget (round_of round.now) (state_at (graph_order graph.now) C.test state.now) (partial_of part.now)) }
+{
+    let input = PartInput {
+        check: CheckInput {
+            graph,
+            round,
+            wanted,
+        },
+        budget,
+    };
+    let known = if is_of_round {
+        known_at(&input.check, state)?
+    } else {
+        None
+    };
+    let mut lists = PartLists::new(graph.alloc);
+    let mut states = Vec::new(graph.alloc);
+    let state = copied_state(graph.alloc, graph.ordered, state)?;
+    match judge_part(&input, state, known, part, &mut lists, &mut states) {
+        Ok(()) => Ok(states),
+        Err(stop) => Err(stop),
     }
 }
 
 /// Judges `part` at `state`, and returns the states at its open leaves, in the order of its lines.
 ///
-/// A whole tree in it is judged by `check_tree`. The order has each county of the problem once. The target, if there is
-/// one, is lawful, and the limit is at most 256 counties. The state is by places of the order.
+/// A whole tree in it is judged as by `check_tree`. The order has each county of the problem once. The target, if there
+/// is one, is lawful, and the limit is at most 256 counties. The state is by places of the order. If `is_of_round`, it is
+/// a state of the round, and what is known of its groups is kept through the whole part, as `check` keeps it.
 ///
 /// # Errors
 ///
@@ -193,6 +283,7 @@ pub fn check_part<C: CountySet>(
     graph: &CountyGraph<C>,
     round: &Round,
     state: &State<C>,
+    is_of_round: bool,
     part: &PartialTree,
     budget: u64,
 ) -> Result<Vec<State<C>>, PartStop>
@@ -201,6 +292,7 @@ pub fn check_part<C: CountySet>(
     requires small { round.now.limit ≤ most_counties }
     requires target { IsLawfulTarget (graph_problem graph.now) (target_of round.now.target) }
     requires placed { IsPlaced (graph_places graph.now) C.test state.now }
+    requires state { IsTrue is_of_round → IsState (graph_problem graph.now) (round_of round.now) (state_at (graph_order graph.now) C.test state.now) }
     ensures proves { IfOk
         result
         (λ _. IsPartProof (graph_problem graph.now) (round_of round.now) (state_at (graph_order graph.now) C.test state.now) (partial_of part.now)) }
@@ -214,15 +306,6 @@ pub fn check_part<C: CountySet>(
         (IsPartRefusal (graph_problem graph.now) budget (round_of round.now) (state_at (graph_order graph.now) C.test state.now) (partial_of part.now)) }
 {
     look_at_codes(round.order.as_slice());
-    let input = PartInput {
-        graph,
-        round,
-        budget,
-    };
-    let mut states = Vec::new(graph.alloc);
-    let state = copied_state(graph.alloc, graph.ordered, state)?;
-    match judge_part(&input, state, part, &mut states) {
-        Ok(()) => Ok(states),
-        Err(stop) => Err(stop),
-    }
+    let wanted = wanted_counts(graph.alloc, graph.ordered.problem(), round)?;
+    judge_wanted(graph, round, wanted.as_ref(), state, is_of_round, part, budget)
 }

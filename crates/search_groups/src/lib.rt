@@ -9,8 +9,8 @@
 //! each part by itself. That is why lists of parts are kept for all states. `specs/PartGroups` and `specs/PartLists` have
 //! the definitions.
 //!
-//! A `Position` is a state with what is known there (`specs/Positions`). `moves` gives the positions where a group is
-//! closed or a county is raised, and `groups_ahead` the groups of one county more. The solver goes from position to
+//! A `Position` is a state with what is known there (`specs/Positions`). `moves` gives the position at a state, and those
+//! where a group is closed or a county is raised, and `groups_ahead` the groups of one county more. The solver goes from position to
 //! position, and so does the checker of certificates.
 //!
 //! `weights` and `choice` are heuristics. The one gives weights of the counties of some groups, which show that few of
@@ -39,7 +39,9 @@ pub use groups_ahead::{larger_groups, next_groups};
 pub use input::SearchInput;
 pub use kept_groups::{groups_apart, groups_having, groups_lacking, live_groups};
 pub use laws::{known_serves, parts_serve};
-pub use moves::{closed_position, first_position, groups_to_take, raised_position, without_dead};
+pub use moves::{
+    closed_position, first_position, groups_to_take, position_at, raised_position, without_dead,
+};
 pub use part_lists::PartLists;
 pub use position::{Larger, Position};
 pub use rounds::weigh;

@@ -1,14 +1,14 @@
-//! The positions of a search: the first one, and those where a group is closed or a county is raised.
+//! The positions of a search: the first one, that at a state, and those where a group is closed or a county is raised.
 
 ghost use Rattle.std.specs.Prelude.{◌≡◌, ℕ, ◌≤◌, ◌<◌, true, IfOk, IsErrOf, MatchOption, ⊤};
 ghost use Rattle.county_problem.specs.OrderedValue.{code_at};
 ghost use Rattle.connected_sets.specs.Graphs.{graph_order, graph_places};
 ghost use Rattle.connected_laws.specs.Listing.{AreBelow};
-ghost use Rattle.certificate_laws.specs.State.{empty_state, close, raise};
+ghost use Rattle.certificate_laws.specs.State.{empty_state, close, raise, IsState};
 ghost use Rattle.certificate_laws.specs.Groups.{IsGroupAt, AreGroupsAt};
 ghost use Rattle.certificate_laws.specs.Proving.{CanBranch};
 ghost use Rattle.connected_sets.specs.declared.stop.Stop.{Stop};
-ghost use Rattle.state_groups.specs.PlacedValues.{codes_of_set, codes_of_sets};
+ghost use Rattle.state_groups.specs.PlacedValues.{codes_of_set, codes_of_sets, IsPlaced};
 ghost use Rattle.search_groups.specs.Positions.{search_problem, search_round, search_state};
 ghost use Rattle.search_groups.specs.Positions.{IsSearchInput, IsLargerAt, IsPositionAt};
 
@@ -18,7 +18,7 @@ use crate::position::{Larger, Position};
 use connected_sets::Stop;
 use county_problem::Steps;
 use place_sets::CountySet;
-use state_groups::{closed_state, first_state, raise_place};
+use state_groups::{State, closed_state, copied_state, first_state, raise_place};
 use std::alloc::AllocError;
 
 /// Returns the position at which a round begins. No group is closed, and nothing is known of any group.
@@ -28,6 +28,29 @@ pub fn first_position<C: CountySet>(input: &SearchInput<C>) -> Result<Position<C
 {
     Ok(Position {
         state: first_state(input.graph.alloc, input.graph.ordered)?,
+        size: 0,
+        groups: Vec::new(input.graph.alloc),
+        tested: true,
+        larger: None,
+    })
+}
+
+/// Returns the position at `state`, which is a state of the round. Nothing is known of any group there.
+///
+/// # Errors
+///
+/// Returns `AllocError` if memory was refused.
+pub fn position_at<C: CountySet>(
+    input: &SearchInput<C>,
+    state: &State<C>,
+) -> Result<Position<C>, AllocError>
+    requires input { IsSearchInput C.PLACES C.test input.now }
+    requires placed { IsPlaced (graph_places input.now.graph.now) C.test state.now }
+    requires state { IsState (search_problem input.now) (search_round input.now) (search_state input.now C.test state.now) }
+    ensures at { IfOk result (IsPositionAt C.test input.now (search_state input.now C.test state.now)) }
+{
+    Ok(Position {
+        state: copied_state(input.graph.alloc, input.graph.ordered, state)?,
         size: 0,
         groups: Vec::new(input.graph.alloc),
         tested: true,

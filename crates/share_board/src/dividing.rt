@@ -238,7 +238,14 @@ impl<C: CountySet> Board<C> {
         let Ok(graph) = CountyGraph::<C>::build(alloc, &ordered) else {
             return Err(Reply::Memory);
         };
-        match check_part(&graph, &self.round, &self.states[at], tree, self.budget) {
+        match check_part(
+            &graph,
+            &self.round,
+            &self.states[at],
+            true,
+            tree,
+            self.budget,
+        ) {
             Ok(states) => Ok(states),
             Err(stop) => Err(part_refusal(stop)),
         }

@@ -111,7 +111,7 @@ fn checked<C: CountySet>(
     let tree = Tree { branches, leaf };
     let lines = tree_lines(alloc, &tree)?;
     let kind = first_word(&lines)?;
-    let said = match check_tree(alloc, problem, round, state, &tree, ENOUGH)? {
+    let said = match check_tree(alloc, problem, round, state, false, &tree, ENOUGH)? {
         TreeVerdict::Proof => "a proof",
         TreeVerdict::Fault(_) => "NO PROOF",
         TreeVerdict::Budget => "BUDGET",

@@ -81,7 +81,7 @@ fn judged(
 {
     let graph: CountyGraph<MaskSet> = CountyGraph::build(alloc, ordered)?;
     let state: State<MaskSet> = first_state(alloc, ordered)?;
-    let open = match check_part(&graph, round, &state, part, budget) {
+    let open = match check_part(&graph, round, &state, false, part, budget) {
         Ok(open) => open,
         Err(PartStop::NotAProof) => return Ok(String::from_str(alloc, "no part")?),
         Err(PartStop::Budget) => return Ok(String::from_str(alloc, "over the budget")?),

@@ -3,22 +3,15 @@ use Rattle.county_problem.specs.ProblemValue.{problem_of}
 use Rattle.certificate_data.specs.RoundValue.{round_of}
 use Rattle.certificate_data.specs.TreeValue.{tree_of}
 use Rattle.state_groups.specs.PlacedValues.{state_at}
-use Rattle.certificate_checker.specs.TreeAnswers.{IsTreeAnswer}
-use Rattle.certificate_checker.proofs.TreeAnswering.{right_of_trees}
+use Rattle.certificate_checker.specs.TreeAnswers.{IsTreeAnswer, IsRightOfTrees}
 use Rattle.certificate_checker.proofs.tree_checking.check_tree.Goals as goal
 
 pub returns-clause-verdict : goal.returns-clause-verdict
 returns-clause-verdict g c =
-    subst (λ o. IfOk c.check_lines.result (IsTreeAnswer (problem_of o.problem) (round_of c.args.round.now) (state_at o.order g.C.CountySet.test c.args.state.now) (tree_of c.args.tree.now) c.args.budget)) c.in-Ok.ensures.value
-    (subst (λ z. IfOk c.check_lines.result (IsTreeAnswer (problem_of c.in-Ok.ordered.problem) (round_of c.args.round.now) z (tree_of c.args.tree.now) c.args.budget)) c.in_ok-state.ensures.value
-    (c.check_lines.ensures.verdict (tree_of c.args.tree.now) (c.deref.ensures.value ∙ c.in_ok-lines.ensures.text) c.in_ok-lines.ensures.numbers))
+    subst (λ o. IfOk c.check_tree_at.result (IsTreeAnswer (problem_of o.problem) (round_of c.args.round.now) (state_at o.order g.C.CountySet.test c.args.state.now) (tree_of c.args.tree.now) c.args.budget)) (c.in_ok-graph.ensures.ordered ∙ c.in-Ok.ensures.value)
+    c.check_tree_at.ensures.verdict
 
 pub returns-clause-right : goal.returns-clause-right
 returns-clause-right g c =
-    right_of_trees (problem_of c.args.problem.now) (round_of c.args.round.now) (state_at c.args.round.now.order g.C.CountySet.test c.args.state.now) (tree_of c.args.tree.now) c.args.budget c.check_lines.result
-    (subst (λ o. IfOk c.check_lines.result (IsTreeAnswer (problem_of o.problem) (round_of c.args.round.now) (state_at o.order g.C.CountySet.test c.args.state.now) (tree_of c.args.tree.now) c.args.budget)) c.in-Ok.ensures.value
-    (subst (λ z. IfOk c.check_lines.result (IsTreeAnswer (problem_of c.in-Ok.ordered.problem) (round_of c.args.round.now) z (tree_of c.args.tree.now) c.args.budget)) c.in_ok-state.ensures.value
-    (c.check_lines.ensures.verdict (tree_of c.args.tree.now) (c.deref.ensures.value ∙ c.in_ok-lines.ensures.text) c.in_ok-lines.ensures.numbers)))
-
-pub returns-clause-within : goal.returns-clause-within
-returns-clause-within g c = c.check_lines.ensures.within (tree_of c.args.tree.now) (c.deref.ensures.value ∙ c.in_ok-lines.ensures.text) c.in_ok-lines.ensures.numbers
+    subst (λ o. IfOk c.check_tree_at.result (IsRightOfTrees (problem_of o.problem) (round_of c.args.round.now) (state_at o.order g.C.CountySet.test c.args.state.now) (tree_of c.args.tree.now))) (c.in_ok-graph.ensures.ordered ∙ c.in-Ok.ensures.value)
+    c.check_tree_at.ensures.right

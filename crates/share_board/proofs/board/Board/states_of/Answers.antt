@@ -2,11 +2,12 @@ use Rattle.std.proofs.Common.{◌≡◌, length, sym, ap, ◌∙◌, subst}
 use Rattle.county_problem.specs.ProblemValue.{problem_of}
 use Rattle.county_problem.specs.OrderedValue.{OrderedValue}
 use Rattle.certificate_data.specs.RoundValue.{round_of}
+use Rattle.certificate_laws.specs.State.{IsState}
 use Rattle.state_groups.specs.PlacedValues.{state_at, IsPlaced}
 use Rattle.partial_trees.specs.PartialValue.{partial_of}
 use Rattle.share_board.specs.BoardValue.{reply_of}
 use Rattle.share_board.specs.Dividing.{IsRefusedPart}
-use Rattle.share_board.proofs.Filling.{stands}
+use Rattle.share_board.proofs.Filling.{stands, of_round}
 use Rattle.share_board.proofs.Telling.{state_there}
 use Rattle.share_board.proofs.PartSplits.{leaves_long, part_may, part_may_not, refused_part}
 use Rattle.share_board.proofs.board.Board.states_of.Goals as goal
@@ -17,6 +18,17 @@ check_part-requires-clause-placed g c =
     let r = stands test c.args.self.now c.requires.board.0 c.requires.board.1 c.args.at c.requires.waits in
     let order = ap (λ (z : OrderedValue). z.order) (c.in-Ok-build.ensures.ordered ∙ c.in-Ok.ensures.value) ∙ c.as_slice.ensures in
     subst (λ z. IsPlaced (length z) test c.index.result.now) (sym order) (subst (IsPlaced (length c.args.self.now.round.order) test) (sym c.index.ensures) (r.2.1 c.index.result.now).0)
+
+pub check_part-requires-clause-state : goal.check_part-requires-clause-state
+check_part-requires-clause-state g c = λ _.
+    let test = g.C.CountySet.test in
+    let board = c.args.self.now in
+    let held = c.index.result.now in
+    let same = c.in-Ok-build.ensures.ordered ∙ c.in-Ok.ensures.value in
+    let same_order = ap (λ (z : OrderedValue). z.order) same ∙ c.as_slice.ensures in
+    subst (λ z. IsState (problem_of c.in-Ok-build.graph.ordered.now.problem) (round_of board.round) (state_at z test held)) (sym same_order)
+    (subst (λ z. IsState z (round_of board.round) (state_at board.round.order test held)) (sym (ap (λ (z : OrderedValue). problem_of z.problem) same))
+    (of_round test board c.requires.board.0 c.requires.board.1 c.args.at held c.requires.waits c.index.ensures))
 
 pub returns-in-Ok-check_part-clause-leaves : goal.returns-in-Ok-check_part-clause-leaves
 returns-in-Ok-check_part-clause-leaves g c =

@@ -1,7 +1,7 @@
-use Rattle.branch_bound.proofs.pieces.begun.Goals as goal
+use Rattle.search_groups.proofs.moves.position_at.Goals as goal
 use Rattle.search_groups.proofs.KnownGroups.{known_serves}
 use Rattle.std.proofs.Common.{length, subst, sym, arith}
-use Rattle.branch_bound.specs.Searching.{search_problem, search_round, search_state}
+use Rattle.search_groups.specs.Positions.{search_problem, search_round, search_state}
 use Rattle.state_groups.specs.PlacedValues.{codes_of_sets}
 use Rattle.search_groups.specs.KnownGroups.{IsKnown}
 use Rattle.connected_laws.specs.Listing.{AreBelow}
