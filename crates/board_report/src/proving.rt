@@ -19,6 +19,7 @@ use branch_bound::{Piece, prove_piece};
 use county_codes::Grouping;
 use county_problem::{Problem, Steps};
 use place_sets::{CountySet, MaskSet, Places, fits_mask};
+use search_groups::PartLists;
 use share_board::{Board, BoardFault, Event, Reply};
 use state_groups::State;
 use std::alloc::{AllocError, Global};
@@ -91,7 +92,8 @@ fn prove_over<C: CountySet>(
     ensures text { IfOk result (λ r. IfSome r (HasText shape.format (length problem.now.counties) number)) }
 {
     let mut board: Board<C> = opened_board(alloc, problem, grouping, shape, PIECE_BUDGET)?;
-    take_all(alloc, &mut board, events)?;
+    let mut lists = PartLists::new(alloc);
+    take_all(alloc, &mut board, &mut lists, events)?;
     Ok(answer_at(alloc, problem, &board, number, steps)?)
 }
 

@@ -16,6 +16,7 @@ use crate::taking::take_and_tell;
 use county_codes::Grouping;
 use county_problem::Problem;
 use place_sets::{CountySet, MaskSet, Places, fits_mask};
+use search_groups::PartLists;
 use share_board::{Board, BoardFault, Event};
 use std::alloc::Global;
 
@@ -38,7 +39,8 @@ fn share_over<C: CountySet>(
 {
     let mut board: Board<C> = opened_board(alloc, problem, grouping, shape, budget)?;
     let mut text = Vec::new(alloc);
-    take_and_tell(alloc, &mut board, events, &mut text)?;
+    let mut lists = PartLists::new(alloc);
+    take_and_tell(alloc, &mut board, &mut lists, events, &mut text)?;
     Ok(ended(alloc, &board, text)?)
 }
 

@@ -3,7 +3,7 @@
 ghost use Rattle.std.specs.Prelude.{◌≡◌, ◌≢◌, ℕ, ◌++◌, ◌≤◌, Bool, false, List, length, map, OnOk};
 ghost use Rattle.county_problem.specs.ProblemValue.{problem_of};
 ghost use Rattle.board_laws.specs.Content.{Content, Reply as ReplyValue, Memory};
-ghost use Rattle.share_board.specs.BoardValue.{IsOf, Follows, Keeps, reply_of};
+ghost use Rattle.share_board.specs.BoardValue.{IsOf, Follows, Keeps, AreBoardLists, reply_of};
 ghost use Rattle.share_board.specs.Events.{event_of};
 ghost use Rattle.share_board.specs.Replies.{IsReply};
 ghost use Rattle.board_events.specs.Replies.{reply_line};
@@ -11,6 +11,7 @@ ghost use Rattle.board_report.specs.Taking.{HasTold, HasHeard};
 
 use board_events::push_reply;
 use place_sets::CountySet;
+use search_groups::PartLists;
 use share_board::{Board, Event, Reply};
 use std::alloc::{AllocError, Global};
 
@@ -18,11 +19,14 @@ use std::alloc::{AllocError, Global};
 fn tell_one<C: CountySet>(
     alloc: Global,
     board: &mut Board<C>,
+    lists: &mut PartLists<C>,
     event: Event,
     text: &mut Vec<u8>,
 ) -> Result<(), AllocError>
     requires board { (b : Content) × IsOf C.test board.old b }
     requires fits { length board.old.round.order ≤ C.PLACES }
+    requires lists { AreBoardLists C.test board.old lists.old }
+    ensures lists { AreBoardLists C.test board.new lists.new }
     ensures told { OnOk
         result
         ((b : Content)
@@ -33,7 +37,7 @@ fn tell_one<C: CountySet>(
         × (text.new.items ≡ text.old.items ++ reply_line reply)) }
     ensures keeps { Keeps board.old board.new }
 {
-    let reply = board.step(alloc, event);
+    let reply = board.step(alloc, lists, event);
     push_reply(text, &reply)
 }
 
@@ -41,17 +45,20 @@ fn tell_one<C: CountySet>(
 pub(crate) fn take_and_tell<C: CountySet>(
     alloc: Global,
     board: &mut Board<C>,
+    lists: &mut PartLists<C>,
     events: Vec<Event>,
     text: &mut Vec<u8>,
 ) -> Result<(), AllocError>
     requires board { (b : Content) × IsOf C.test board.old b }
     requires fits { length board.old.round.order ≤ C.PLACES }
+    requires lists { AreBoardLists C.test board.old lists.old }
+    ensures lists { AreBoardLists C.test board.new lists.new }
     ensures told { OnOk result ((b : Content) → IsOf C.test board.old b
         → HasTold C.test board.old b (map event_of events.items) board.new text.old.items text.new.items) }
     ensures keeps { Keeps board.old board.new }
 {
     for event in events {
-        tell_one(alloc, board, event, text)?;
+        tell_one(alloc, board, lists, event, text)?;
     }
     Ok(())
 }
@@ -74,10 +81,13 @@ fn was_refused<C>(reply: &Reply<C>) -> bool
 fn take_one<C: CountySet>(
     alloc: Global,
     board: &mut Board<C>,
+    lists: &mut PartLists<C>,
     event: Event,
 ) -> Result<(), AllocError>
     requires board { (b : Content) × IsOf C.test board.old b }
     requires fits { length board.old.round.order ≤ C.PLACES }
+    requires lists { AreBoardLists C.test board.old lists.old }
+    ensures lists { AreBoardLists C.test board.new lists.new }
     ensures taken { OnOk
         result
         ((b : Content)
@@ -88,7 +98,7 @@ fn take_one<C: CountySet>(
         × Follows C.test board.old.depth board.old.problem b (event_of event) reply board.new) }
     ensures keeps { Keeps board.old board.new }
 {
-    let answer = board.step(alloc, event);
+    let answer = board.step(alloc, lists, event);
     if was_refused(&answer) {
         return Err(AllocError);
     }
@@ -103,16 +113,19 @@ fn take_one<C: CountySet>(
 pub(crate) fn take_all<C: CountySet>(
     alloc: Global,
     board: &mut Board<C>,
+    lists: &mut PartLists<C>,
     events: Vec<Event>,
 ) -> Result<(), AllocError>
     requires board { (b : Content) × IsOf C.test board.old b }
     requires fits { length board.old.round.order ≤ C.PLACES }
+    requires lists { AreBoardLists C.test board.old lists.old }
+    ensures lists { AreBoardLists C.test board.new lists.new }
     ensures heard { OnOk result ((b : Content) → IsOf C.test board.old b
         → HasHeard C.test board.old b (map event_of events.items) board.new) }
     ensures keeps { Keeps board.old board.new }
 {
     for event in events {
-        take_one(alloc, board, event)?;
+        take_one(alloc, board, lists, event)?;
     }
     Ok(())
 }

@@ -117,11 +117,7 @@ fn target_stop(fault: GroupingFault, line: u64) -> Halt
 }
 
 /// Returns the counts of a round's target, which has to be lawful. The target stands behind the limit.
-fn judge_target(
-    alloc: Global,
-    problem: &Problem,
-    round: &Round,
-) -> Result<Option<Counts>, Halt>
+fn judge_target(alloc: Global, problem: &Problem, round: &Round) -> Result<Option<Counts>, Halt>
     ensures { MatchResult
         result
         (λ wanted. IsLawfulTarget (problem_of problem.now) (target_of round.now.target)

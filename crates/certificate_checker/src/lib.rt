@@ -43,7 +43,7 @@ pub use certificate::wanted_counts;
 pub use checking::{check, check_from, check_from_keeping, check_from_over, check_over};
 pub use fault::CheckStop;
 pub use input::CheckInput;
-pub use known::{closed_known, known_at, knowing_branch, raised_known};
+pub use known::{closed_known, knowing_branch, known_at, raised_known};
 pub use laws::checker_agrees;
 pub use state_judge::CheckFault;
 pub use tree_checking::{check_tree, check_tree_knowing};

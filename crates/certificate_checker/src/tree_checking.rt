@@ -3,6 +3,7 @@
 ghost use Rattle.std.specs.Prelude.{◌≡◌, ◌≤◌, length, IfOk, IsTrue};
 ghost use Rattle.county_codes.specs.Limits.{most_counties};
 ghost use Rattle.grouping_laws.specs.GroupsFrom.{IsOrder};
+ghost use Rattle.county_problem.specs.OrderedValue.{problem_at};
 ghost use Rattle.county_problem.specs.ProblemValue.{problem_of};
 ghost use Rattle.connected_sets.specs.Graphs.{graph_problem, graph_order, graph_places, place_problem, IsGraph};
 ghost use Rattle.certificate_data.specs.RoundValue.{round_of, target_of};
@@ -142,6 +143,7 @@ fn check_tree_at<C: CountySet>(
     wanted: Option<&Counts>,
     state: &State<C>,
     is_of_round: bool,
+    lists: &mut PartLists<C>,
     tree: &Tree,
     budget: u64,
 ) -> Result<TreeVerdict, AllocError>
@@ -151,6 +153,8 @@ fn check_tree_at<C: CountySet>(
     requires wanted { AreWanted (target_of round.now.target) wanted }
     requires placed { IsPlaced (graph_places graph.now) C.test state.now }
     requires state { IsTrue is_of_round → IsState (graph_problem graph.now) (round_of round.now) (state_at (graph_order graph.now) C.test state.now) }
+    requires lists { AreListsOf C.test (place_problem graph.now) (graph_places graph.now) lists.old }
+    ensures lists { AreListsOf C.test (place_problem graph.now) (graph_places graph.now) lists.new }
     ensures verdict { IfOk result (IsTreeAnswer (graph_problem graph.now) (round_of round.now) (state_at (graph_order graph.now) C.test state.now) (tree_of tree.now) budget) }
     ensures within { IfOk result (IsTreeWithinBudget (tree_of tree.now) budget) }
     ensures right { IfOk result (IsRightOfTrees (graph_problem graph.now) (round_of round.now) (state_at (graph_order graph.now) C.test state.now) (tree_of tree.now)) }
@@ -160,9 +164,12 @@ fn check_tree_at<C: CountySet>(
         round,
         wanted,
     };
-    let known = if is_of_round { known_at(&input, state)? } else { None };
-    let mut lists = PartLists::new(graph.alloc);
-    check_tree_knowing(&input, state, known, &mut lists, tree, budget)
+    let known = if is_of_round {
+        known_at(&input, state)?
+    } else {
+        None
+    };
+    check_tree_knowing(&input, state, known, lists, tree, budget)
 }
 
 /// Returns the verdict on a tree that should prove a round from a state on.
@@ -177,7 +184,8 @@ fn check_tree_at<C: CountySet>(
 ///
 /// The order has each county of the problem once. The target, if there is one, is lawful, and the limit is at most 256
 /// counties. The state is by places of the order. If `is_of_round`, it is a state of the round, and what is known of its
-/// groups is kept from line to line, as `check` keeps it. The verdict is right either way.
+/// groups is kept from line to line, as `check` keeps it, with the help of `lists`. These are lists of the problem by the
+/// round's order, and a caller that judges several trees keeps them. The verdict is right either way.
 ///
 /// # Errors
 ///
@@ -188,6 +196,7 @@ pub fn check_tree<C: CountySet>(
     round: &Round,
     state: &State<C>,
     is_of_round: bool,
+    lists: &mut PartLists<C>,
     tree: &Tree,
     budget: u64,
 ) -> Result<TreeVerdict, AllocError>
@@ -197,6 +206,8 @@ pub fn check_tree<C: CountySet>(
     requires target { IsLawfulTarget (problem_of problem.now) (target_of round.now.target) }
     requires placed { IsPlaced (length round.now.order) C.test state.now }
     requires state { IsTrue is_of_round → IsState (problem_of problem.now) (round_of round.now) (state_at round.now.order C.test state.now) }
+    requires lists { AreListsOf C.test (problem_at (record { problem = problem.now; order = round.now.order })) (length round.now.order) lists.old }
+    ensures lists { AreListsOf C.test (problem_at (record { problem = problem.now; order = round.now.order })) (length round.now.order) lists.new }
     ensures verdict { IfOk result (IsTreeAnswer (problem_of problem.now) (round_of round.now) (state_at round.now.order C.test state.now) (tree_of tree.now) budget) }
     ensures within { IfOk result (IsTreeWithinBudget (tree_of tree.now) budget) }
     ensures right { IfOk result (IsRightOfTrees (problem_of problem.now) (round_of round.now) (state_at round.now.order C.test state.now) (tree_of tree.now)) }
@@ -207,5 +218,14 @@ pub fn check_tree<C: CountySet>(
     let wanted = wanted_counts(alloc, problem, round)?;
     let graph = CountyGraph::<C>::build(alloc, &ordered)?;
     let _problem = ordered.problem();
-    check_tree_at(&graph, round, wanted.as_ref(), state, is_of_round, tree, budget)
+    check_tree_at(
+        &graph,
+        round,
+        wanted.as_ref(),
+        state,
+        is_of_round,
+        lists,
+        tree,
+        budget,
+    )
 }

@@ -22,7 +22,7 @@ use crate::input::PartInput;
 use crate::stop::PartStop;
 use crate::tree::{PartialTake, PartialTree};
 use certificate_checker::{
-    CheckInput, TreeVerdict, check_tree_knowing, closed_known, known_at, knowing_branch,
+    CheckInput, TreeVerdict, check_tree_knowing, closed_known, knowing_branch, known_at,
     raised_known, wanted_counts,
 };
 use certificate_data::{Round, Tree};
@@ -229,6 +229,7 @@ fn judge_wanted<C: CountySet>(
     wanted: Option<&Counts>,
     state: &State<C>,
     is_of_round: bool,
+    lists: &mut PartLists<C>,
     part: &PartialTree,
     budget: u64,
 ) -> Result<Vec<State<C>>, PartStop>
@@ -239,6 +240,8 @@ fn judge_wanted<C: CountySet>(
     requires five { All (λ c. c ≤ 99999) (graph_order graph.now) }
     requires placed { IsPlaced (graph_places graph.now) C.test state.now }
     requires state { IsTrue is_of_round → IsState (graph_problem graph.now) (round_of round.now) (state_at (graph_order graph.now) C.test state.now) }
+    requires lists { AreListsOf C.test (place_problem graph.now) (graph_places graph.now) lists.old }
+    ensures lists { AreListsOf C.test (place_problem graph.now) (graph_places graph.now) lists.new }
     ensures taken { IfOk
         result
         (λ states. IsTakenPart C.test (graph_problem graph.now) (round_of round.now) (state_at (graph_order graph.now) C.test state.now) (partial_of part.now) [] states.items) }
@@ -259,10 +262,9 @@ fn judge_wanted<C: CountySet>(
     } else {
         None
     };
-    let mut lists = PartLists::new(graph.alloc);
     let mut states = Vec::new(graph.alloc);
     let state = copied_state(graph.alloc, graph.ordered, state)?;
-    match judge_part(&input, state, known, part, &mut lists, &mut states) {
+    match judge_part(&input, state, known, part, lists, &mut states) {
         Ok(()) => Ok(states),
         Err(stop) => Err(stop),
     }
@@ -272,7 +274,8 @@ fn judge_wanted<C: CountySet>(
 ///
 /// A whole tree in it is judged as by `check_tree`. The order has each county of the problem once. The target, if there
 /// is one, is lawful, and the limit is at most 256 counties. The state is by places of the order. If `is_of_round`, it is
-/// a state of the round, and what is known of its groups is kept through the whole part, as `check` keeps it.
+/// a state of the round, and what is known of its groups is kept through the whole part, as `check` keeps it, with the
+/// help of `lists`. A caller that judges several parts keeps these lists.
 ///
 /// # Errors
 ///
@@ -284,6 +287,7 @@ pub fn check_part<C: CountySet>(
     round: &Round,
     state: &State<C>,
     is_of_round: bool,
+    lists: &mut PartLists<C>,
     part: &PartialTree,
     budget: u64,
 ) -> Result<Vec<State<C>>, PartStop>
@@ -293,6 +297,8 @@ pub fn check_part<C: CountySet>(
     requires target { IsLawfulTarget (graph_problem graph.now) (target_of round.now.target) }
     requires placed { IsPlaced (graph_places graph.now) C.test state.now }
     requires state { IsTrue is_of_round → IsState (graph_problem graph.now) (round_of round.now) (state_at (graph_order graph.now) C.test state.now) }
+    requires lists { AreListsOf C.test (place_problem graph.now) (graph_places graph.now) lists.old }
+    ensures lists { AreListsOf C.test (place_problem graph.now) (graph_places graph.now) lists.new }
     ensures proves { IfOk
         result
         (λ _. IsPartProof (graph_problem graph.now) (round_of round.now) (state_at (graph_order graph.now) C.test state.now) (partial_of part.now)) }
@@ -307,5 +313,14 @@ pub fn check_part<C: CountySet>(
 {
     look_at_codes(round.order.as_slice());
     let wanted = wanted_counts(graph.alloc, graph.ordered.problem(), round)?;
-    judge_wanted(graph, round, wanted.as_ref(), state, is_of_round, part, budget)
+    judge_wanted(
+        graph,
+        round,
+        wanted.as_ref(),
+        state,
+        is_of_round,
+        lists,
+        part,
+        budget,
+    )
 }

@@ -10,7 +10,7 @@ ghost use Rattle.partial_trees.specs.PartialValue.{partial_of};
 ghost use Rattle.share_board.specs.declared.piece.Fate.TheVariants.{Waits};
 ghost use Rattle.share_board.specs.HeldSkeleton.{IsFateAt};
 ghost use Rattle.share_board.specs.Replies.{IsReply, most_pieces};
-ghost use Rattle.share_board.specs.BoardValue.{IsOf, Follows, Keeps, reply_of};
+ghost use Rattle.share_board.specs.BoardValue.{IsOf, Follows, Keeps, reply_of, AreBoardLists};
 ghost use Rattle.share_board.specs.Dividing.{refusal_of, part_refusal_of, IsSplitRefusal, IsRefusedPart};
 ghost use Rattle.share_board.specs.Dividing.{MaySplit, HasSplit, MayPart, HasParted};
 
@@ -25,6 +25,7 @@ use county_codes::CountyCode;
 use county_problem::{Ordered, Steps};
 use partial_trees::{PartStop, PartialTree, check_part};
 use place_sets::CountySet;
+use search_groups::PartLists;
 use state_groups::State;
 use state_judge::{LineStop, judge_branch};
 use std::alloc::{AllocError, Global};
@@ -211,12 +212,15 @@ impl<C: CountySet> Board<C> {
     fn states_of(
         &self,
         alloc: Global,
+        lists: &mut PartLists<C>,
         at: usize,
         tree: &PartialTree,
     ) -> Result<Vec<State<C>>, Reply<C>>
         requires board { (b : Content) × IsOf C.test self.now b }
         requires waits { IsFateAt self.now.fates.items at Waits }
         requires fits { length self.now.round.order ≤ C.PLACES }
+        requires lists { AreBoardLists C.test self.now lists.old }
+        ensures lists { AreBoardLists C.test self.now lists.new }
         ensures leaves { IfOk result (λ states. length states.items ≡ open_leaves (partial_of tree.now)) }
         ensures states { IfOk
             result
@@ -243,6 +247,7 @@ impl<C: CountySet> Board<C> {
             &self.round,
             &self.states[at],
             true,
+            lists,
             tree,
             self.budget,
         ) {
@@ -253,9 +258,19 @@ impl<C: CountySet> Board<C> {
 
     /// Takes a part of the proof of a piece, which is then split: there is a new piece for each open leaf of `tree`, in
     /// their order. The part is taken if the piece waits and the part proves the piece's state but for its open leaves.
-    pub fn part(&mut self, alloc: Global, number: u32, piece: u32, tree: PartialTree) -> Reply<C>
+    /// The `lists` are kept from event to event.
+    pub fn part(
+        &mut self,
+        alloc: Global,
+        lists: &mut PartLists<C>,
+        number: u32,
+        piece: u32,
+        tree: PartialTree,
+    ) -> Reply<C>
         requires board { (b : Content) × IsOf C.test self.old b }
         requires fits { length self.old.round.order ≤ C.PLACES }
+        requires lists { AreBoardLists C.test self.old lists.old }
+        ensures lists { AreBoardLists C.test self.new lists.new }
         ensures leads { (depth : ℕ) (b : Content) → IsOf C.test self.old b
             → Follows C.test depth self.old.problem b (part_of number piece (partial_of tree)) (reply_of self.old.round.order C.test result) self.new }
         ensures says { (depth : ℕ) (b : Content)
@@ -270,7 +285,7 @@ impl<C: CountySet> Board<C> {
         if !tree.is_part() {
             return Reply::NotAPart;
         }
-        let states = match self.states_of(alloc, at, &tree) {
+        let states = match self.states_of(alloc, lists, at, &tree) {
             Ok(states) => states,
             Err(reply) => return reply,
         };

@@ -21,6 +21,7 @@ use county_codes::{Codes, Grouping, MAX_COUNTIES, listed_codes};
 use county_problem::{Ordered, Problem, Steps, judge};
 use grouping_reader::read_grouping;
 use place_sets::{CountySet, MaskSet, fits_mask};
+use search_groups::PartLists;
 use state_groups::{State, all_groups_of_size, first_state};
 use std::alloc::Global;
 
@@ -111,7 +112,10 @@ fn checked<C: CountySet>(
     let tree = Tree { branches, leaf };
     let lines = tree_lines(alloc, &tree)?;
     let kind = first_word(&lines)?;
-    let said = match check_tree(alloc, problem, round, state, false, &tree, ENOUGH)? {
+    let mut lists = PartLists::new(alloc);
+    let said = match check_tree(
+        alloc, problem, round, state, false, &mut lists, &tree, ENOUGH,
+    )? {
         TreeVerdict::Proof => "a proof",
         TreeVerdict::Fault(_) => "NO PROOF",
         TreeVerdict::Budget => "BUDGET",

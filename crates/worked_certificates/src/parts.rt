@@ -14,6 +14,7 @@ use county_codes::{Codes, CountyCode, listed_codes};
 use county_problem::{Ordered, Problem};
 use partial_trees::{PartStop, PartialBranch, PartialTake, PartialTree, check_part};
 use place_sets::{MaskSet, fits_mask};
+use search_groups::PartLists;
 use state_groups::{State, first_state};
 use std::alloc::Global;
 use std::str;
@@ -81,7 +82,8 @@ fn judged(
 {
     let graph: CountyGraph<MaskSet> = CountyGraph::build(alloc, ordered)?;
     let state: State<MaskSet> = first_state(alloc, ordered)?;
-    let open = match check_part(&graph, round, &state, false, part, budget) {
+    let mut lists = PartLists::new(alloc);
+    let open = match check_part(&graph, round, &state, false, &mut lists, part, budget) {
         Ok(open) => open,
         Err(PartStop::NotAProof) => return Ok(String::from_str(alloc, "no part")?),
         Err(PartStop::Budget) => return Ok(String::from_str(alloc, "over the budget")?),

@@ -1,4 +1,5 @@
 use Rattle.std.proofs.Common.{map, length, refl, ap, ◌∙◌}
+use Rattle.county_problem.specs.OrderedValue.{problem_at}
 use Rattle.county_problem.specs.ProblemValue.{problem_of}
 use Rattle.share_board.specs.Events.{event_of}
 use Rattle.board_report.specs.PieceAnswers.{piece_budget}
@@ -6,6 +7,11 @@ use Rattle.board_report.specs.Rounds.{round_by_code}
 use Rattle.board_report.proofs.FirstRounds.{as_many}
 use Rattle.board_report.proofs.Courses.{answered_so, format_so, text_so}
 use Rattle.board_report.proofs.proving.prove_over.Goals as goal
+
+pub take_all-requires-clause-lists : goal.take_all-requires-clause-lists
+take_all-requires-clause-lists g c =
+    let board = c.in_ok-board.board in
+    c.new-lists.ensures.lists (problem_at (record { problem = board.problem; order = board.round.order })) (length board.round.order)
 
 pub answer_at-requires-clause-board : goal.answer_at-requires-clause-board
 answer_at-requires-clause-board g c =

@@ -1,9 +1,15 @@
-use Rattle.std.proofs.Common.{map}
+use Rattle.std.proofs.Common.{map, length}
+use Rattle.county_problem.specs.OrderedValue.{problem_at}
 use Rattle.county_problem.specs.ProblemValue.{problem_of}
 use Rattle.share_board.specs.Events.{event_of}
 use Rattle.board_report.specs.Rounds.{round_by_code}
 use Rattle.board_report.proofs.Courses.{shared_so}
 use Rattle.board_report.proofs.sharing.share_over.Goals as goal
+
+pub take_and_tell-requires-clause-lists : goal.take_and_tell-requires-clause-lists
+take_and_tell-requires-clause-lists g c =
+    let board = c.in_ok-board.board in
+    c.new-lists.ensures.lists (problem_at (record { problem = board.problem; order = board.round.order })) (length board.round.order)
 
 pub ended-requires : goal.ended-requires
 ended-requires g c =

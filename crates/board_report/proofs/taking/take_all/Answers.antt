@@ -13,6 +13,7 @@ loop-event-init g c = record {
   finite = tt;
   heard = λ b is. (record { replies = []; last = b; takes = refl; is = is }, tt);
   keeps = record { problem = refl; depth = refl; budget = refl; order = refl };
+  lists = c.requires.lists;
 }
 
 pub take_one-requires-clause-board : goal.take_one-requires-clause-board
@@ -39,6 +40,7 @@ loop-event-preserved g c =
         budget = c.take_one.ensures.keeps.budget ∙ inv.keeps.budget;
         order = c.take_one.ensures.keeps.order ∙ inv.keeps.order;
       };
+      lists = c.take_one.ensures.lists;
     }
 
 pub returns-clause-heard : goal.returns-clause-heard

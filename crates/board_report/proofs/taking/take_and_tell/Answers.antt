@@ -13,6 +13,7 @@ loop-event-init g c = record {
   finite = tt;
   told = λ b is. (record { replies = []; last = b; takes = refl; is = is }, sym (append-nil c.args.text.now.items));
   keeps = record { problem = refl; depth = refl; budget = refl; order = refl };
+  lists = c.requires.lists;
 }
 
 pub tell_one-requires-clause-board : goal.tell_one-requires-clause-board
@@ -40,6 +41,7 @@ loop-event-preserved g c =
         budget = c.tell_one.ensures.keeps.budget ∙ inv.keeps.budget;
         order = c.tell_one.ensures.keeps.order ∙ inv.keeps.order;
       };
+      lists = c.tell_one.ensures.lists;
     }
 
 pub returns-clause-told : goal.returns-clause-told

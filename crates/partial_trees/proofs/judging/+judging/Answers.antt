@@ -105,14 +105,14 @@ judge_part-judge_takes-requires g t c κs within =
     let fits : (at : Position g.row.C.Denot) → c.knowing_branch.new.known ≡ Some at → All (R at) (codes_of_sets order test c.deref-in-branching.result.now) = λ at e.
     subst (λ z. All (R at) (codes_of_sets order test z)) (sym c.deref-in-branching.ensures.value)
     (all_from_has (R at) groups (λ k has. (county, subst (λ z. IsGroupAt p round s county z k) (sym (c.in-Ok.ensures.sized at e ∙ c.in-Ok.ensures.size)) ((c.in-Ok.ensures.branch.2.each k).0 (contains_from_has groups k has))))) in (
-  omega (
-    arith,
-    c.decreases,
-    branch_falls c.args.part.now c.deref-branch-items.result.now c.branching.branch-index c.branch-item.result c.deref-branch-items.ensures.value c.branch-item.is c.branching-test.true,
-    ap (λ z. deep_in (list_of_begun z)) c.deref.ensures.value,
-  ),
-  (within, (c.requires.input, (c.branching.invariant.placed, (c.in-Ok.ensures.known, (subst (All (IsClosable g.C.CountySet.test c.branching.state)) (sym c.deref-in-branching.ensures.value) c.in-Ok.ensures.groups, (fits, c.in-Ok.ensures.lists)))))),
-)
+      omega (
+        arith,
+        c.decreases,
+        branch_falls c.args.part.now c.deref-branch-items.result.now c.branching.branch-index c.branch-item.result c.deref-branch-items.ensures.value c.branch-item.is c.branching-test.true,
+        ap (λ z. deep_in (list_of_begun z)) c.deref.ensures.value,
+      ),
+      (within, (c.requires.input, (c.branching.invariant.placed, (c.in-Ok.ensures.known, (subst (All (IsClosable g.C.CountySet.test c.branching.state)) (sym c.deref-in-branching.ensures.value) c.in-Ok.ensures.groups, (fits, c.in-Ok.ensures.lists)))))),
+    )
 
 pub judge_part-returns-in-Err-judge_takes-clause-refused : goal.judge_part-returns-in-Err-judge_takes-clause-refused
 judge_part-returns-in-Err-judge_takes-clause-refused g t c =
@@ -285,9 +285,9 @@ judge_takes-closed_state-requires-clause-group g t c = first_set _ (IsClosable g
 pub judge_takes-judge_part-requires : goal.judge_takes-judge_part-requires
 judge_takes-judge_part-requires g t c κs within =
     let known = subst (λ z. IsKnownAt g.C.CountySet.test c.args.input.now.check z c.in_ok-below.below) (sym c.in_ok-closed.ensures.value) (c.in_ok-below.ensures c.in-Some.group.now c.in-Some.others.now c.in-Some.ensures.cases.0) in (
-  omega (arith, c.decreases, take_falls c.args.takes.now c.taking.take-index c.take-item.result c.take-item.is c.taking-test.true),
-  (within, (c.requires.input, (c.in_ok-closed.ensures.placed, (known, c.taking.invariant.lists)))),
-)
+      omega (arith, c.decreases, take_falls c.args.takes.now c.taking.take-index c.take-item.result c.take-item.is c.taking-test.true),
+      (within, (c.requires.input, (c.in_ok-closed.ensures.placed, (known, c.taking.invariant.lists)))),
+    )
 
 pub judge_takes-closed_known-requires-clause-below : goal.judge_takes-closed_known-requires-clause-below
 judge_takes-closed_known-requires-clause-below g t c = λ k d h x e. c.requires.placed.rest x ((c.taking.invariant.closable k d h).inside x e)

@@ -7,6 +7,7 @@ use Rattle.partial_trees.specs.PartialValue.{partial_of}
 use Rattle.share_board.specs.Replies.{PartReply, most_pieces}
 use Rattle.share_board.specs.BoardValue.{reply_of}
 use Rattle.share_board.proofs.Filling.{stands}
+use Rattle.share_board.proofs.Lists.{lists_kept}
 use Rattle.share_board.proofs.Telling.{refusal_told, not_part_told, part_refusal_told, many_parts_told, part_told, part_refusal_leads, some_open}
 use Rattle.share_board.proofs.board.Board.part.Goals.{then-held-ge65536-via-then-held-ge65536, then-held-ge65536-via-else-held-ge65536+then-len-held}
 use Rattle.share_board.proofs.board.Board.part.Goals as goal
@@ -94,3 +95,9 @@ returns-in-Ok-put_part-clause-says g c = λ depth b is.
     part_told test board b is c.args.number c.args.piece c.in-Ok.at depth (c.len-2.result + 1) c.len-count.result tree states here.0 w.0 w.1 w.2 may
     (omega (arith, c.len-held.ensures, c.len.ensures, c.if-held-ge65536.false, c.if-len-held.false, leaves))
     (omega (arith, c.len-2.ensures)) (omega (arith, c.len-count.ensures, leaves))
+
+pub returns-in-Ok-put_part-clause-lists : goal.returns-in-Ok-put_part-clause-lists
+returns-in-Ok-put_part-clause-lists g c = lists_kept g.C.CountySet.test c.args.self.now c.put_part.new.self c.states_of.new.lists c.put_part.ensures.keeps c.states_of.ensures.lists
+
+pub returns-in-Err-put_part-clause-lists : goal.returns-in-Err-put_part-clause-lists
+returns-in-Err-put_part-clause-lists g c = lists_kept g.C.CountySet.test c.args.self.now c.put_part.new.self c.states_of.new.lists c.put_part.ensures.keeps c.states_of.ensures.lists

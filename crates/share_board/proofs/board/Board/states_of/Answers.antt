@@ -1,9 +1,10 @@
 use Rattle.std.proofs.Common.{◌≡◌, length, sym, ap, ◌∙◌, subst}
 use Rattle.county_problem.specs.ProblemValue.{problem_of}
-use Rattle.county_problem.specs.OrderedValue.{OrderedValue}
+use Rattle.county_problem.specs.OrderedValue.{OrderedValue, problem_at}
 use Rattle.certificate_data.specs.RoundValue.{round_of}
 use Rattle.certificate_laws.specs.State.{IsState}
 use Rattle.state_groups.specs.PlacedValues.{state_at, IsPlaced}
+use Rattle.search_groups.specs.PartLists.{AreListsOf}
 use Rattle.partial_trees.specs.PartialValue.{partial_of}
 use Rattle.share_board.specs.BoardValue.{reply_of}
 use Rattle.share_board.specs.Dividing.{IsRefusedPart}
@@ -29,6 +30,20 @@ check_part-requires-clause-state g c = λ _.
     subst (λ z. IsState (problem_of c.in-Ok-build.graph.ordered.now.problem) (round_of board.round) (state_at z test held)) (sym same_order)
     (subst (λ z. IsState z (round_of board.round) (state_at board.round.order test held)) (sym (ap (λ (z : OrderedValue). problem_of z.problem) same))
     (of_round test board c.requires.board.0 c.requires.board.1 c.args.at held c.requires.waits c.index.ensures))
+
+pub check_part-requires-clause-lists : goal.check_part-requires-clause-lists
+check_part-requires-clause-lists g c =
+    let same = c.in-Ok-build.ensures.ordered ∙ c.in-Ok.ensures.value in
+    let order = c.as_slice.ensures in
+    subst (λ (o : OrderedValue). AreListsOf g.C.CountySet.test (problem_at o) (length o.order) c.args.lists.now) (sym same)
+    (subst (λ z. AreListsOf g.C.CountySet.test (problem_at (record { problem = c.args.self.now.problem; order = z })) (length z) c.args.lists.now) (sym order) c.requires.lists)
+
+pub returns-clause-lists : goal.returns-clause-lists
+returns-clause-lists g c =
+    let same = c.in-Ok-build.ensures.ordered ∙ c.in-Ok.ensures.value in
+    let order = c.as_slice.ensures in
+    subst (λ z. AreListsOf g.C.CountySet.test (problem_at (record { problem = c.args.self.now.problem; order = z })) (length z) c.check_part.new.lists) order
+    (subst (λ (o : OrderedValue). AreListsOf g.C.CountySet.test (problem_at o) (length o.order) c.check_part.new.lists) same c.check_part.ensures.lists)
 
 pub returns-in-Ok-check_part-clause-leaves : goal.returns-in-Ok-check_part-clause-leaves
 returns-in-Ok-check_part-clause-leaves g c =

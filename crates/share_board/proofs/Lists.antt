@@ -1,0 +1,13 @@
+-- Lists of groups of a board's problem stay so whatever comes to the board.
+use Rattle.std.proofs.Common.{ℕ, Bool, length, sym, subst}
+use Rattle.county_problem.specs.OrderedValue.{problem_at}
+use Rattle.county_problem.specs.declared.problem.Problem.{Problem as ProblemHeld}
+use Rattle.search_groups.specs.PartLists.{AreListsOf}
+use Rattle.search_groups.specs.declared.part_lists.PartLists.{PartLists}
+use Rattle.share_board.specs.declared.board.Board.{Board}
+use Rattle.share_board.specs.BoardValue.{Keeps, AreBoardLists}
+
+pub lists_kept : {C : Type 0} (test : C → ℕ → Bool) (before later : Board C) (lists : PartLists C) → Keeps before later → AreBoardLists test before lists → AreBoardLists test later lists
+lists_kept test before later lists keeps are =
+    subst (λ (v : ProblemHeld). AreListsOf test (problem_at (record { problem = v; order = later.round.order })) (length later.round.order) lists) (sym keeps.problem)
+    (subst (λ z. AreListsOf test (problem_at (record { problem = before.problem; order = z })) (length z) lists) (sym keeps.order) are)
