@@ -173,7 +173,7 @@ judge_part-branching-preserved g t c =
     let raised_to = c.raise_place.ensures.value ∙ ap (λ z. raise z c.in-Ok.branching.limit s) c.in-Ok.ensures.place.1 ∙ ap (λ z. raise b.county z s) c.in-Ok.ensures.size in
     record {
       placed = c.raise_place.ensures.placed;
-      known = subst (λ z. IsKnownAt test input.check z c.in_ok-raised_known.known) (sym c.raise_place.ensures.value) c.in_ok-raised_known.ensures;
+      known = subst (λ z. IsKnownAt test input.check z c.in_ok-known.known) (sym c.raise_place.ensures.value) c.in_ok-known.ensures;
       lists = c.in-Ok-judge_takes.ensures.lists;
       left =
           subst (λ z. PartLeft test p round first tree old z raised later) (sym raised_to)

@@ -1,10 +1,9 @@
-use Rattle.std.proofs.Common.{◌+◌, refl, ap, arith}
+use Rattle.std.proofs.Common.{refl, ap, arith}
 use Rattle.std.proofs.lemmas.Bool.{false≢true}
 use Rattle.std.proofs.lemmas.List.{drop_all}
 use Rattle.board_laws.specs.PartialTrees.{open_leaves, open_in}
 use Rattle.partial_trees.specs.PartialValue.{rest_of, partial_of, list_of_begun, list_onto}
 use Rattle.partial_trees.specs.declared.tree.PartialTree.{out-PartialTree}
-use Rattle.partial_trees.specs.declared.tree.PartialBranch.{out-PartialBranch}
 use Rattle.partial_trees.specs.declared.tree.PartialTake.{out-PartialTake}
 use Rattle.partial_trees.proofs.PartialLists.{tree_made, leaves_left, takes_left}
 use Rattle.partial_trees.proofs.OpenLeaves.{open_end, rest_open, rest_whole, none_there, some_there}

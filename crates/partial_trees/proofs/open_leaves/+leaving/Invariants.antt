@@ -1,4 +1,4 @@
-use Rattle.std.proofs.Common.{◌≡◌, ◌≤◌, drop}
+use Rattle.std.proofs.Common.{◌≡◌, drop}
 use Rattle.board_laws.specs.PartialTrees.{PartialTree, open_leaves, open_in}
 use Rattle.partial_trees.specs.PartialValue.{list_of_begun, list_onto}
 use Rattle.partial_trees.proofs.open_leaves.+leaving.Given as goal
