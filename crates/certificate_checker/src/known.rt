@@ -125,7 +125,7 @@ pub fn closed_known<C: CountySet>(
     Ok(Some(closed))
 }
 
-/// Returns what is known where the county at `place` is raised past the `limit`. Returns `None` if the groups of so many
+/// Returns what is known where the county at `place` is raised past the `limit`. Returns `None` if the groups of `limit`
 /// counties aren't known at the `state`.
 ///
 /// # Errors

@@ -40,7 +40,7 @@ pub record AreWeights (quota : ℕ) (weights : List Weight) : Type 0 where
   pub ascending : ascend weights ≡ true
   pub short : length (join_with_byte 32 (item_words (Allows (Weigh quota weights)))) ≤ most_bytes
 
--- the line may open a tree of so many levels, and its numbers are in their ranges
+-- the line may open a tree of this number of levels, and its numbers are in their ranges
 abbrev pub IsOpening : Format → ℕ → Opening → Type 0
 IsOpening Plain levels (Branch county None) = (county ≤ 99999) × (0 < levels)
 IsOpening Wide levels (Branch county (Some limit)) = (county ≤ 99999) × (1 ≤ limit) × (limit ≤ most) × (0 < levels)

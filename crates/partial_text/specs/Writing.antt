@@ -1,4 +1,4 @@
--- What a call writes at the end of a text, and what a test tells.
+-- What a call writes at the end of a text.
 use Rattle.std.specs.Prelude.{◌≡◌, ℕ, List, ◌++◌}
 use Rattle.certificate_lines.specs.Spelling.{text_of_items}
 use Rattle.certificate_lines.specs.declared.item.Item.{Item}

@@ -1,6 +1,6 @@
 -- Lists of groups of a board's problem stay so whatever comes to the board.
-use Rattle.std.proofs.Common.{ℕ, Bool, length, sym, subst}
-use Rattle.county_problem.specs.OrderedValue.{problem_at}
+use Rattle.std.proofs.Common.{◌≡◌, ℕ, Bool, List, length, sym, subst}
+use Rattle.county_problem.specs.OrderedValue.{OrderedValue, problem_at}
 use Rattle.county_problem.specs.declared.problem.Problem.{Problem as ProblemHeld}
 use Rattle.search_groups.specs.PartLists.{AreListsOf}
 use Rattle.search_groups.specs.declared.part_lists.PartLists.{PartLists}
@@ -11,3 +11,15 @@ pub lists_kept : {C : Type 0} (test : C → ℕ → Bool) (before later : Board 
 lists_kept test before later lists keeps are =
     subst (λ (v : ProblemHeld). AreListsOf test (problem_at (record { problem = v; order = later.round.order })) (length later.round.order) lists) (sym keeps.problem)
     (subst (λ z. AreListsOf test (problem_at (record { problem = before.problem; order = z })) (length z) lists) (sym keeps.order) are)
+
+-- They are those of the order that was built of the problem and the codes of the round.
+module _ {C : Type 0} (test : C → ℕ → Bool) (board : Board C) (o : OrderedValue) (codes : List ℕ) (built : o ≡ record { problem = board.problem; order = codes }) (same : codes ≡ board.round.order) (lists : PartLists C) where
+  pub lists_of_order : AreBoardLists test board lists → AreListsOf test (problem_at o) (length o.order) lists
+  lists_of_order are =
+      subst (λ (z : OrderedValue). AreListsOf test (problem_at z) (length z.order) lists) (sym built)
+      (subst (λ z. AreListsOf test (problem_at (record { problem = board.problem; order = z })) (length z) lists) (sym same) are)
+
+  pub lists_of_board : AreListsOf test (problem_at o) (length o.order) lists → AreBoardLists test board lists
+  lists_of_board are =
+      subst (λ z. AreListsOf test (problem_at (record { problem = board.problem; order = z })) (length z) lists) same
+      (subst (λ (z : OrderedValue). AreListsOf test (problem_at z) (length z.order) lists) built are)

@@ -1,15 +1,15 @@
 use Rattle.std.proofs.Common.{◌≡◌, length, sym, ap, ◌∙◌, subst}
 use Rattle.county_problem.specs.ProblemValue.{problem_of}
-use Rattle.county_problem.specs.OrderedValue.{OrderedValue, problem_at}
+use Rattle.county_problem.specs.OrderedValue.{OrderedValue}
 use Rattle.certificate_data.specs.RoundValue.{round_of}
 use Rattle.certificate_laws.specs.State.{IsState}
 use Rattle.state_groups.specs.PlacedValues.{state_at, IsPlaced}
-use Rattle.search_groups.specs.PartLists.{AreListsOf}
 use Rattle.partial_trees.specs.PartialValue.{partial_of}
 use Rattle.share_board.specs.BoardValue.{reply_of}
 use Rattle.share_board.specs.Dividing.{IsRefusedPart}
 use Rattle.share_board.proofs.Filling.{stands, of_round}
 use Rattle.share_board.proofs.Telling.{state_there}
+use Rattle.share_board.proofs.Lists.{lists_of_order, lists_of_board}
 use Rattle.share_board.proofs.PartSplits.{leaves_long, part_may, part_may_not, refused_part}
 use Rattle.share_board.proofs.board.Board.states_of.Goals as goal
 
@@ -33,17 +33,15 @@ check_part-requires-clause-state g c = λ _.
 
 pub check_part-requires-clause-lists : goal.check_part-requires-clause-lists
 check_part-requires-clause-lists g c =
-    let same = c.in-Ok-build.ensures.ordered ∙ c.in-Ok.ensures.value in
-    let order = c.as_slice.ensures in
-    subst (λ (o : OrderedValue). AreListsOf g.C.CountySet.test (problem_at o) (length o.order) c.args.lists.now) (sym same)
-    (subst (λ z. AreListsOf g.C.CountySet.test (problem_at (record { problem = c.args.self.now.problem; order = z })) (length z) c.args.lists.now) (sym order) c.requires.lists)
+    lists_of_order g.C.CountySet.test c.args.self.now c.in-Ok-build.graph.ordered.now c.as_slice.result.now (c.in-Ok-build.ensures.ordered ∙ c.in-Ok.ensures.value) c.as_slice.ensures c.args.lists.now c.requires.lists
+
+pub returns-in-Ok-check_part-clause-lists : goal.returns-in-Ok-check_part-clause-lists
+returns-in-Ok-check_part-clause-lists g c =
+    lists_of_board g.C.CountySet.test c.args.self.now c.in-Ok-build.graph.ordered.now c.as_slice.result.now (c.in-Ok-build.ensures.ordered ∙ c.in-Ok.ensures.value) c.as_slice.ensures c.check_part.new.lists c.check_part.ensures.lists
 
 pub returns-clause-lists : goal.returns-clause-lists
 returns-clause-lists g c =
-    let same = c.in-Ok-build.ensures.ordered ∙ c.in-Ok.ensures.value in
-    let order = c.as_slice.ensures in
-    subst (λ z. AreListsOf g.C.CountySet.test (problem_at (record { problem = c.args.self.now.problem; order = z })) (length z) c.check_part.new.lists) order
-    (subst (λ (o : OrderedValue). AreListsOf g.C.CountySet.test (problem_at o) (length o.order) c.check_part.new.lists) same c.check_part.ensures.lists)
+    lists_of_board g.C.CountySet.test c.args.self.now c.in-Ok-build.graph.ordered.now c.as_slice.result.now (c.in-Ok-build.ensures.ordered ∙ c.in-Ok.ensures.value) c.as_slice.ensures c.check_part.new.lists c.check_part.ensures.lists
 
 pub returns-in-Ok-check_part-clause-leaves : goal.returns-in-Ok-check_part-clause-leaves
 returns-in-Ok-check_part-clause-leaves g c =
