@@ -238,21 +238,23 @@ prove_open() {
     process=''
 }
 
-# The texts of jobs that ended by themselves arrive; what a job was writing when it was stopped is lost, and its piece is asked for again.
+# The texts of jobs that ended by themselves arrive, and FOLDER/times gets the round, the piece and the seconds of each. What a job was writing when it was
+# stopped is lost, and its piece is asked for again.
 collect() {
-    local batch job
+    local batch job seconds
     came=0 unsettled=0
     for batch in "$folder"/batch.*; do
         [ -d "$batch" ] || continue
         touch "$batch/log"
-        while read -r job; do
+        while read -r job seconds; do
             if [ "$(head -c 5 "$batch/$job")" = "open" ]; then
                 unsettled=$((unsettled + 1))
             elif [ -s "$batch/$job" ]; then
                 mv "$batch/$job" "$folder/arrived/$(basename "$batch").$(printf '%06d' "$job").events"
+                echo "$(sed -n "${job}p" "$batch/open") $seconds" >>"$folder/times"
                 came=$((came + 1))
             fi
-        done < <(awk -F '\t' 'NR > 1 && ($7 == "0" || $7 == "3") && $8 == "0" { print $1 }' "$batch/log")
+        done < <(awk -F '\t' 'NR > 1 && ($7 == "0" || $7 == "3") && $8 == "0" { print $1, $4 + 0 }' "$batch/log")
         [ "$came" -gt 0 ] || [ "$unsettled" -gt 0 ] || sort -u "$batch/told" 2>/dev/null | tail -n 3 >&2 || true
         rm -rf "$batch"
     done
