@@ -1,0 +1,2 @@
+pub mod ToldStates
+pub mod Lines

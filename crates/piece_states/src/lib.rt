@@ -1,0 +1,14 @@
+//! What a board says of an open piece, so that a solver needs no other file, and the way back to the piece's state.
+//!
+//! ```
+//! push_open_piece(&ordered, round, piece, &state, &mut out)?;     // open 1 2, closed .., least .., end
+//! ```
+//!
+//! The definitions stand in `specs/`: `Told`, `Text` and `Laws`.
+#![tactic(auto)]
+
+mod laws;
+mod writing;
+
+pub use laws::states_are_told;
+pub use writing::push_open_piece;
