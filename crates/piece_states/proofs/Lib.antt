@@ -1,2 +1,5 @@
 pub mod ToldStates
 pub mod Lines
+pub mod Groups
+pub mod AskedLemmas
+pub mod Standing

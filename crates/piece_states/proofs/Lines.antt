@@ -1,5 +1,5 @@
 -- The lines of an open piece: those of more groups, and those of more counties.
-use Rattle.std.proofs.Common.{◌≡◌, ℕ, ◌+◌, ◌≤◌, ◌<◌, Bool, true, false, ◌&&◌, if◌then◌else◌, List, [], ◌∷◌, ◌++◌, map, take, length, get_or, refl, sym, ap, ◌∙◌, arith, append_assoc, append-nil, codes, decimal}
+use Rattle.std.proofs.Common.{◌≡◌, ℕ, ◌+◌, ◌<◌, Bool, true, false, ◌&&◌, if◌then◌else◌, List, [], ◌∷◌, ◌++◌, map, take, length, get_or, refl, sym, ap, ◌∙◌, arith, append_assoc, append-nil, codes, decimal}
 use Rattle.std.specs.Prelude.{nat_lt}
 use Rattle.std.specs.List.{flat_map}
 use Rattle.std.proofs.lemmas.Bool.{lt-ltb}
@@ -14,7 +14,7 @@ use Rattle.certificate_laws.specs.Places.{IsStateAt, in_codes}
 use Rattle.certificate_laws.proofs.PlaceStates.{states_have_codes}
 use Rattle.state_groups.specs.declared.state.State.{State as StateHeld}
 use Rattle.state_groups.specs.StateValue.{state_of}
-use Rattle.state_groups.specs.PlacedValues.{state_at, codes_of_set, codes_of_sets, IsPlaced}
+use Rattle.state_groups.specs.PlacedValues.{state_at, codes_of_sets, IsPlaced}
 use Rattle.place_sets.specs.PlaceSets.{places_of, lists_of}
 use Rattle.grouping_laws.specs.Places.{codes_at}
 use Rattle.connected_laws.proofs.Keys.{map_twice}

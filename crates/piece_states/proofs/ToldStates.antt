@@ -1,15 +1,15 @@
 -- What is told of a state leads back to it.
-use Rattle.std.proofs.Common.{◌≡◌, ℕ, ◌+◌, ◌-◌, ◌≤◌, ◌<◌, Bool, true, false, cond, not, ◌&&◌, ◌||◌, ◌==◌, List, [], ◌∷◌, ◌++◌, length, refl, sym, ap, ◌∙◌, subst, arith, if◌then◌else◌, append_assoc, append-nil, ◌⊎◌, inl, inr, ⊎_elim}
+use Rattle.std.proofs.Common.{◌≡◌, ℕ, ◌+◌, ◌-◌, ◌≤◌, Bool, true, false, cond, not, ◌&&◌, ◌||◌, ◌==◌, List, [], ◌∷◌, ◌++◌, refl, sym, ap, ◌∙◌, subst, arith, if◌then◌else◌, append_assoc, append-nil, ◌⊎◌, inl, inr}
 use Rattle.std.specs.Prelude.{nat_lt}
 use Rattle.std.proofs.lemmas.Bool.{lt-ltb, eqb-true, eq-eqb, false≢true}
-use Rattle.grouping_laws.specs.Sets.{indicator, count, count_in, contains}
+use Rattle.grouping_laws.specs.Sets.{indicator, count_in, contains}
 use Rattle.grouping_laws.specs.Problem.{Problem}
 use Rattle.grouping_laws.specs.GroupsFrom.{IsOrder}
 use Rattle.place_sets.proofs.Sums.{often_none, often_some, member_from_often}
 use Rattle.certificate_data.specs.Round.{Round}
 use Rattle.certificate_laws.specs.State.{State, IsState, empty_state, close, raise}
 use Rattle.certificate_laws.proofs.States.{same_state}
-use Rattle.piece_states.specs.Told.{Asked, Told, asked_by, told_of, close_all, raise_all, state_told}
+use Rattle.piece_states.specs.Told.{Asked, asked_by, told_of, close_all, raise_all, state_told}
 use Rattle.piece_states.specs.Laws.{StatesAreTold}
 
 -- the closed groups stand behind those that were closed before

@@ -1,3 +1,5 @@
 pub mod Told
+pub mod Standing
+pub mod PieceValue
 pub mod Laws
 pub mod Text

@@ -7,8 +7,14 @@
 //! The definitions stand in `specs/`: `Told`, `Text` and `Laws`.
 #![tactic(auto)]
 
+mod closing;
 mod laws;
+mod piece;
+mod raising;
+mod told;
 mod writing;
 
 pub use laws::states_are_told;
+pub use piece::{Asked, OpenPiece};
+pub use told::told_state;
 pub use writing::push_open_piece;

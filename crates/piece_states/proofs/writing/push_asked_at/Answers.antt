@@ -1,4 +1,4 @@
-use Rattle.std.proofs.Common.{◌≡◌, ◌≢◌, [], ◌∷◌, ◌++◌, List, ℕ, ◌<◌, ap, sym, subst, ◌∙◌, arith, append-nil, get_or}
+use Rattle.std.proofs.Common.{◌≡◌, [], ◌++◌, List, ℕ, ◌<◌, ap, sym, ◌∙◌, arith, append-nil, get_or}
 use Rattle.std.specs.List.{flat_map}
 use Rattle.std.proofs.lemmas.Result.{on_ok_weaker}
 use Rattle.county_problem.specs.ProblemValue.{problem_of}

@@ -1,0 +1,13 @@
+-- What a value of the Rust type `OpenPiece` tells.
+use Rattle.std.specs.Prelude.{map}
+use Rattle.piece_states.specs.declared.piece.Asked.{Asked as AskedHeld}
+use Rattle.piece_states.specs.declared.piece.OpenPiece.{OpenPiece}
+use Rattle.piece_states.specs.Told.{Asked, Told}
+
+-- what a county asks for
+abbrev pub asked_of : AskedHeld → Asked
+asked_of a = record { county = a.county; size = a.size }
+
+-- what the piece tells of its state
+abbrev pub told_by : OpenPiece → Told
+told_by piece = record { closed = piece.closed.items; asked = map asked_of piece.asked.items }
