@@ -3,3 +3,6 @@ pub mod Lines
 pub mod Groups
 pub mod AskedLemmas
 pub mod Standing
+pub mod LinesRead
+pub mod ReadSteps
+pub mod ToldBack

@@ -3,3 +3,5 @@ pub mod Standing
 pub mod PieceValue
 pub mod Laws
 pub mod Text
+pub mod TextLines
+pub mod Reading

@@ -9,12 +9,17 @@
 
 mod closing;
 mod laws;
+mod line;
+mod line_words;
 mod piece;
 mod raising;
+mod reading;
 mod told;
 mod writing;
 
 pub use laws::states_are_told;
+pub use line::ToldLine;
 pub use piece::{Asked, OpenPiece};
+pub use reading::front_open_piece;
 pub use told::told_state;
 pub use writing::push_open_piece;
