@@ -2,7 +2,7 @@ pub mod ToldStates
 pub mod Lines
 pub mod Groups
 pub mod AskedLemmas
-pub mod Standing
+pub mod RoundStates
 pub mod LinesRead
 pub mod ReadSteps
 pub mod ToldBack

@@ -1,5 +1,5 @@
 pub mod Told
-pub mod Standing
+pub mod RoundStates
 pub mod PieceValue
 pub mod Laws
 pub mod Text

@@ -11,7 +11,7 @@ ghost use Rattle.certificate_laws.specs.Fitting.{Fits};
 ghost use Rattle.state_groups.specs.StateValue.{state_of};
 ghost use Rattle.state_groups.specs.PlacedValues.{state_at, codes_of_set, IsPlaced};
 ghost use Rattle.piece_states.specs.Told.{close_all};
-ghost use Rattle.piece_states.specs.Standing.{CanClose, EachCanClose};
+ghost use Rattle.piece_states.specs.RoundStates.{CanClose, EachCanClose};
 
 use certificate_data::{Format, Round};
 use connected_sets::{CountyGraph, part_around};

@@ -12,6 +12,7 @@ mod laws;
 mod line;
 mod line_words;
 mod piece;
+mod places;
 mod raising;
 mod reading;
 mod told;

@@ -6,7 +6,7 @@ ghost use Rattle.certificate_laws.specs.State.{IsLeastSize, raise};
 ghost use Rattle.state_groups.specs.PlacedValues.{state_at, IsPlaced};
 ghost use Rattle.piece_states.specs.Told.{raise_all};
 ghost use Rattle.piece_states.specs.PieceValue.{asked_of};
-ghost use Rattle.piece_states.specs.Standing.{CanAsk, EachCanAsk};
+ghost use Rattle.piece_states.specs.RoundStates.{CanAsk, EachCanAsk};
 
 use crate::piece::Asked;
 use certificate_data::{Format, Round};

@@ -7,7 +7,7 @@ ghost use Rattle.certificate_laws.specs.State.{IsState};
 ghost use Rattle.state_groups.specs.PlacedValues.{state_at, IsPlaced};
 ghost use Rattle.piece_states.specs.Told.{state_told};
 ghost use Rattle.piece_states.specs.PieceValue.{told_by};
-ghost use Rattle.piece_states.specs.Standing.{IsTold};
+ghost use Rattle.piece_states.specs.RoundStates.{IsTold};
 
 use crate::closing::close_told;
 use crate::piece::OpenPiece;

@@ -1,12 +1,13 @@
 //! Writing of open pieces as their lines.
 
-ghost use Rattle.std.specs.Prelude.{◌≡◌, ◌≤◌, ◌<◌, [], ◌∷◌, ◌++◌, length, codes, OnOk};
+ghost use Rattle.std.specs.Prelude.{◌≡◌, ◌<◌, [], ◌∷◌, ◌++◌, length, codes, OnOk};
 ghost use Rattle.std.specs.List.{flat_map};
 ghost use Rattle.county_problem.specs.OrderedValue.{code_at};
 ghost use Rattle.state_groups.specs.PlacedValues.{state_at, codes_of_sets, IsPlaced};
 ghost use Rattle.piece_states.specs.Told.{told_of, asked_by};
 ghost use Rattle.piece_states.specs.Text.{open_words, closed_words, asked_words, line_of, text_of_piece};
 
+use crate::places::{codes_in_order, has_place};
 use certificate_lines::{push_code_and_number_line, push_codes_line, push_number_line};
 use county_problem::Ordered;
 use field_lines::push_number;
@@ -29,14 +30,13 @@ fn push_closed<C: CountySet>(
     closed: &[C],
     out: &mut Vec<u8>,
 ) -> Result<(), AllocError>
-    requires fits { length ordered.now.order ≤ C.PLACES }
     ensures { OnOk result (out.new.items
         ≡ out.old.items
         ++ flat_map (λ g. line_of (closed_words g)) (codes_of_sets ordered.now.order C.test closed.now)) }
 {
     for set in closed {
-        let codes = ordered.codes_of(*out.allocator(), set)?;
-        push_codes_line(out, b"closed", codes.as_slice())?;
+        let codes = codes_in_order(*out.allocator(), ordered, set)?;
+        push_codes_line(out, b"closed", &codes)?;
     }
     Ok(())
 }
@@ -48,7 +48,6 @@ fn push_asked_at<C: CountySet>(
     place: u16,
     out: &mut Vec<u8>,
 ) -> Result<(), AllocError>
-    requires fits { length ordered.now.order ≤ C.PLACES }
     requires placed { IsPlaced (length ordered.now.order) C.test state.now }
     requires place { place < length ordered.now.order }
     ensures { OnOk result (out.new.items
@@ -58,7 +57,7 @@ fn push_asked_at<C: CountySet>(
 {
     let _places = ordered.places();
     let least = state.least[usize::from(place)];
-    if least == 0 || !state.rest.has(place) {
+    if least == 0 || !has_place(&state.rest, place) {
         return Ok(());
     }
     push_code_and_number_line(out, b"least ", ordered.code(place), u32::from(least))
@@ -70,7 +69,6 @@ fn push_asked<C: CountySet>(
     state: &State<C>,
     out: &mut Vec<u8>,
 ) -> Result<(), AllocError>
-    requires fits { length ordered.now.order ≤ C.PLACES }
     requires placed { IsPlaced (length ordered.now.order) C.test state.now }
     ensures { OnOk result (out.new.items
         ≡ out.old.items
@@ -102,7 +100,6 @@ pub fn push_open_piece<C: CountySet>(
     state: &State<C>,
     out: &mut Vec<u8>,
 ) -> Result<(), AllocError>
-    requires fits { length ordered.now.order ≤ C.PLACES }
     requires placed { IsPlaced (length ordered.now.order) C.test state.now }
     ensures { OnOk result (out.new.items
         ≡ out.old.items

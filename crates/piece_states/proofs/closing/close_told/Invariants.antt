@@ -3,7 +3,7 @@ use Rattle.connected_sets.specs.Graphs.{graph_problem, graph_order, graph_places
 use Rattle.certificate_data.specs.RoundValue.{round_of}
 use Rattle.state_groups.specs.PlacedValues.{state_at, IsPlaced}
 use Rattle.piece_states.specs.Told.{close_all}
-use Rattle.piece_states.specs.Standing.{EachCanClose}
+use Rattle.piece_states.specs.RoundStates.{EachCanClose}
 use Rattle.piece_states.proofs.closing.close_told.Given as goal
 
 abbrev pub invariant-closing : goal.invariant-closing

@@ -3,7 +3,7 @@ use Rattle.certificate_data.specs.RoundValue.{round_of}
 use Rattle.state_groups.specs.PlacedValues.{state_at, IsPlaced}
 use Rattle.piece_states.specs.Told.{raise_all}
 use Rattle.piece_states.specs.PieceValue.{asked_of}
-use Rattle.piece_states.specs.Standing.{EachCanAsk}
+use Rattle.piece_states.specs.RoundStates.{EachCanAsk}
 use Rattle.piece_states.proofs.raising.raise_all_told.Given as goal
 
 abbrev pub invariant-raising : goal.invariant-raising

@@ -3,7 +3,7 @@ use Rattle.connected_sets.specs.Graphs.{graph_problem, graph_order}
 use Rattle.certificate_data.specs.RoundValue.{round_of}
 use Rattle.state_groups.specs.PlacedValues.{state_at}
 use Rattle.piece_states.specs.PieceValue.{asked_of}
-use Rattle.piece_states.proofs.Standing.{steps_lead, some_both}
+use Rattle.piece_states.proofs.RoundStates.{steps_lead, some_both}
 use Rattle.piece_states.proofs.told.told_state.Goals as goal
 
 pub returns-clause-state : goal.returns-clause-state

@@ -14,4 +14,4 @@ loop-set-preserved g c =
     let group = codes_of_set order test set in
     lines_behind (λ h. line_of (closed_words h)) (codes_of_sets order test (take i sets)) (group ∷ []) (codes_of_sets order test (take (i + 1) sets))
     (sets_more (codes_of_set order test) sets set i c.loop-set-test.true (sym c.set-item.is)) c.args.out.now.items c.loop-set.out.items c.push_codes_line.new.out.items c.loop-set.invariant
-    (c.in_ok-push_codes_line.ensures.text ∙ ap (λ (o : List ℕ). c.loop-set.out.items ++ o) (closed_written group c.as_slice.result.now (c.as_slice.ensures ∙ c.in_ok-codes.ensures.value)))
+    (c.in_ok-push_codes_line.ensures.text ∙ ap (λ (o : List ℕ). c.loop-set.out.items ++ o) (closed_written group c.deref.result.now (c.deref.ensures.value ∙ c.in_ok-codes.ensures)))

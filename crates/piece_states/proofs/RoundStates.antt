@@ -6,7 +6,7 @@ use Rattle.certificate_data.specs.Round.{Round}
 use Rattle.certificate_laws.specs.State.{State, IsState, IsLeastSize, empty_state, close, raise}
 use Rattle.certificate_laws.proofs.Branches.{branch_keeps_state}
 use Rattle.piece_states.specs.Told.{Asked, close_all, raise_all}
-use Rattle.piece_states.specs.Standing.{CanAsk, EachCanClose, EachCanAsk}
+use Rattle.piece_states.specs.RoundStates.{CanAsk, EachCanClose, EachCanAsk}
 
 closed_is_state : (p : Problem) (order : List ℕ) (round : Round) (gs : List (List ℕ)) (s : State) → IsState p round s → EachCanClose p order round gs s → IsState p round (close_all gs s)
 closed_is_state p order round [] s state can = state
