@@ -1,6 +1,6 @@
 -- What each line of an open piece says, by its words. The first word names the form, the number of words is tested
 -- next, and then the words are read from the left.
-use Rattle.std.specs.Prelude.{ℕ, Bool, List, drop, codes, Result, Ok, Err, if◌then◌else◌}
+use Rattle.std.specs.Prelude.{ℕ, Bool, true, false, List, drop, codes, Result, Ok, Err, if◌then◌else◌}
 use Rattle.field_lines.specs.Chain.{◌>>=◌}
 use Rattle.certificate_lines.specs.Words.{code}
 use Rattle.certificate_lines.specs.Lines.{most, begins, named, counted, number_at, code_word_at, each}
@@ -28,11 +28,11 @@ open_on line = do
 
 -- a closed group, which may stand only in front of what counties ask for
 unfoldable pub closed_on : Bool → List (List ℕ) → Result ToldLine TextKind
-closed_on closing words = if closing then (do
+closed_on false words = Err BadWord
+closed_on true words = do
   words ← counted 1 most words
   group ← each code words
-  Ok (Closed group))
-    else Err BadWord
+  Ok (Closed group)
 
 -- a county and the size that it asks for
 unfoldable pub least_on : List (List ℕ) → Result ToldLine TextKind

@@ -66,7 +66,9 @@ fn group_fits<C: CountySet>(
     requires placed { IsPlaced (graph_places graph.now) C.test state.now }
     requires below { (x : ℕ) → C.test group.now x ≡ true → x < graph_places graph.now }
     ensures { IfOk result (λ fit. IsTrue fit
-        ↔ Fits format (graph_problem graph.now) (state_at (graph_order graph.now) C.test state.now) (codes_of_set (graph_order graph.now) C.test group.now)) }
+        ↔ Fits format (graph_problem graph.now)
+        (state_at (graph_order graph.now) C.test state.now)
+        (codes_of_set (graph_order graph.now) C.test group.now)) }
 {
     if !is_connected(graph, group)? {
         return Ok(false);
@@ -84,10 +86,14 @@ fn told_group<C: CountySet>(
 ) -> Result<Option<C>, AllocError>
     requires graph { IsGraph C.test C.PLACES graph.now }
     requires placed { IsPlaced (graph_places graph.now) C.test state.now }
-    ensures codes { IfOk result (λ found. IfSome found (λ set. codes_of_set (graph_order graph.now) C.test set ≡ group.now)) }
-    ensures below { IfOk result (λ found. IfSome found (λ set. (x : ℕ) → C.test set x ≡ true → x < graph_places graph.now)) }
-    ensures can { IfOk result (λ found. IfSome found (λ _. CanClose (graph_problem graph.now) (graph_order graph.now) (round_of round.now) (state_at (graph_order graph.now) C.test state.now) group.now)) }
-    ensures none { IfOk result (λ found. found ≡ None → ¬ CanClose (graph_problem graph.now) (graph_order graph.now) (round_of round.now) (state_at (graph_order graph.now) C.test state.now) group.now) }
+    ensures codes { IfOk result (λ found. IfSome found (λ set.
+        codes_of_set (graph_order graph.now) C.test set ≡ group.now)) }
+    ensures below { IfOk result (λ found. IfSome found (λ set.
+        (x : ℕ) → C.test set x ≡ true → x < graph_places graph.now)) }
+    ensures can { IfOk result (λ found. IfSome found (λ _. CanClose (graph_problem graph.now) (graph_order graph.now)
+        (round_of round.now) (state_at (graph_order graph.now) C.test state.now) group.now)) }
+    ensures none { IfOk result (λ found. found ≡ None → ¬ CanClose (graph_problem graph.now) (graph_order graph.now)
+        (round_of round.now) (state_at (graph_order graph.now) C.test state.now) group.now) }
 {
     if group.as_slice().len() > usize::from(round.limit) {
         return Ok(None);
@@ -114,8 +120,10 @@ pub(crate) fn close_told<C: CountySet>(
     ensures placed { IfOk result (λ found. IfSome found (IsPlaced (graph_places graph.now) C.test)) }
     ensures value { IfOk result (λ found. IfSome found (λ s. state_at (graph_order graph.now) C.test s
         ≡ close_all groups.now (state_at (graph_order graph.now) C.test state))) }
-    ensures can { IfOk result (λ found. IfSome found (λ _. EachCanClose (graph_problem graph.now) (graph_order graph.now) (round_of round.now) groups.now (state_at (graph_order graph.now) C.test state))) }
-    ensures none { IfOk result (λ found. found ≡ None → ¬ EachCanClose (graph_problem graph.now) (graph_order graph.now) (round_of round.now) groups.now (state_at (graph_order graph.now) C.test state)) }
+    ensures can { IfOk result (λ found. IfSome found (λ _. EachCanClose (graph_problem graph.now) (graph_order graph.now)
+        (round_of round.now) groups.now (state_at (graph_order graph.now) C.test state))) }
+    ensures none { IfOk result (λ found. found ≡ None → ¬ EachCanClose (graph_problem graph.now) (graph_order graph.now)
+        (round_of round.now) groups.now (state_at (graph_order graph.now) C.test state)) }
 {
     let mut state = state;
     'closing: for group in groups {

@@ -2,9 +2,13 @@
 //!
 //! ```
 //! push_open_piece(&ordered, round, piece, &state, &mut out)?;     // open 1 2, closed .., least .., end
+//! let (open, length) = front_open_piece(alloc, &out)?;
+//! let state = told_state(&graph, &round, &open)?;                 // Some: the state that is told
 //! ```
 //!
-//! The definitions stand in `specs/`: `Told`, `Text` and `Laws`.
+//! The definitions stand in `specs/`. `Told` says what is told of a state and which state is told, and `Laws` that the
+//! two go together. `RoundStates` says which states that are told are states of a round. `Text` has the text, and
+//! `TextLines` and `Reading` say what is read of it.
 #![tactic(auto)]
 
 mod closing;

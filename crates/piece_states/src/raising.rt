@@ -35,10 +35,12 @@ fn raise_told<C: CountySet>(
     requires fits { length ordered.now.order ≤ C.PLACES }
     requires placed { IsPlaced (length ordered.now.order) C.test state.old }
     ensures placed { IsPlaced (length ordered.now.order) C.test state.new }
-    ensures can { result ≡ true → CanAsk (round_of round.now) (state_at ordered.now.order C.test state.old) (asked_of asked.now) }
+    ensures can { result ≡ true → CanAsk (round_of round.now)
+        (state_at ordered.now.order C.test state.old) (asked_of asked.now) }
     ensures value { result ≡ true → state_at ordered.now.order C.test state.new
         ≡ raise asked.now.county (asked.now.size - 1) (state_at ordered.now.order C.test state.old) }
-    ensures none { result ≡ false → ¬ CanAsk (round_of round.now) (state_at ordered.now.order C.test state.old) (asked_of asked.now) }
+    ensures none { result ≡ false → ¬ CanAsk (round_of round.now)
+        (state_at ordered.now.order C.test state.old) (asked_of asked.now) }
 {
     let _places = ordered.places();
     let Some(place) = ordered.place_of(asked.county) else {
@@ -66,8 +68,10 @@ pub(crate) fn raise_all_told<C: CountySet>(
     ensures placed { IfSome result (IsPlaced (length ordered.now.order) C.test) }
     ensures value { IfSome result (λ s. state_at ordered.now.order C.test s
         ≡ raise_all (map asked_of asked.now) (state_at ordered.now.order C.test state)) }
-    ensures can { IfSome result (λ _. EachCanAsk (round_of round.now) (map asked_of asked.now) (state_at ordered.now.order C.test state)) }
-    ensures none { result ≡ None → ¬ EachCanAsk (round_of round.now) (map asked_of asked.now) (state_at ordered.now.order C.test state) }
+    ensures can { IfSome result (λ _. EachCanAsk (round_of round.now)
+        (map asked_of asked.now) (state_at ordered.now.order C.test state)) }
+    ensures none { result ≡ None → ¬ EachCanAsk (round_of round.now)
+        (map asked_of asked.now) (state_at ordered.now.order C.test state) }
 {
     let mut state = state;
     'raising: for county in asked {

@@ -41,7 +41,8 @@ fn told_line(alloc: Global, closing: bool, cursor: &mut Cursor) -> Result<ToldLi
 
 /// Reads the lines behind the first up to the end: the closed groups, and then what counties ask for.
 fn told_lines(alloc: Global, cursor: &mut Cursor) -> Result<(Vec<Codes>, Vec<Asked>), TextFault>
-    ensures read { GivesUnless IsTextMemory (λ r. record { closed = r.0.items; asked = map asked_of r.1.items }) result (told_from true cursor.old.number (lines_of cursor.old)) }
+    ensures read { GivesUnless IsTextMemory (λ r. record { closed = r.0.items; asked = map asked_of r.1.items }) result
+        (told_from true cursor.old.number (lines_of cursor.old)) }
     ensures text { IfOk result (λ r. cursor.old.text
         ≡ text_of_told (record { closed = r.0.items; asked = map asked_of r.1.items }) ++ cursor.new.text) }
 {
@@ -50,7 +51,9 @@ fn told_lines(alloc: Global, cursor: &mut Cursor) -> Result<(Vec<Codes>, Vec<Ask
     let mut closing = true;
     'lines: loop {
         match told_line(alloc, closing, cursor)? {
-            ToldLine::Closed(group) => push_on(&mut closed, group, cursor.number())?,
+            ToldLine::Closed(group) => {
+                push_on(&mut closed, group, cursor.number())?;
+            }
             ToldLine::Least(county) => {
                 closing = false;
                 push_on(&mut asked, county, cursor.number())?;
