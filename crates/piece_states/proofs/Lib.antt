@@ -6,3 +6,4 @@ pub mod RoundStates
 pub mod LinesRead
 pub mod ReadSteps
 pub mod ToldBack
+pub mod ToldTexts

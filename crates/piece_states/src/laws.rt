@@ -1,8 +1,13 @@
-//! The law of what is told. The function does nothing; its contract is the law.
+//! Laws of what is told. Each function does nothing; its contract is the law.
 
-ghost use Rattle.piece_states.specs.Laws.{StatesAreTold};
+ghost use Rattle.piece_states.specs.Laws.{StatesAreTold, StatesHaveTexts};
 
 /// States that a state of a round is the one that is told of it.
 pub fn states_are_told()
     ensures { StatesAreTold }
+{}
+
+/// States that what is told of a state of a round has a text, which `front_open_piece` reads.
+pub fn states_have_texts()
+    ensures { StatesHaveTexts }
 {}

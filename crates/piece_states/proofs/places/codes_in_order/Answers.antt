@@ -1,4 +1,4 @@
-use Rattle.std.proofs.Common.{◌≡◌, sym, ap, ◌∙◌}
+use Rattle.std.proofs.Common.{sym, ap, ◌∙◌}
 use Rattle.county_problem.proofs.CodesInOrder.{codes_in, codes_out}
 use Rattle.piece_states.proofs.places.codes_in_order.Goals.{then-has_place+in_ok-push, else-has_place}
 use Rattle.piece_states.proofs.places.codes_in_order.Goals as goal
