@@ -7,3 +7,4 @@ pub mod LinesRead
 pub mod ReadSteps
 pub mod ToldBack
 pub mod ToldTexts
+pub mod KeptTold

@@ -119,23 +119,24 @@ module _ (s : State) (c : ℕ) where
       go reached true e k = subst (λ z. (raise_all (asked_by (z ∷ cs) s) t).least c ≡ s.least c) (sym (eqb-true x c e)) (here (s.rest c && nat_lt 0 (s.least c)) (ap (λ b. b && nat_lt 0 (s.least c)) rest ∙ some))
       go reached false e k = later (λ u. reached u k) (s.rest x && nat_lt 0 (s.least x))
 
+-- where the closed groups of a state are closed, and nothing is asked
+pub closed_first : (p : Problem) (round : Round) (s : State) → IsState p round s → close_all s.closed (empty_state p) ≡ record { closed = s.closed; rest = s.rest; least = λ c. 0 }
+closed_first p round s state = same_state (close_all s.closed (empty_state p)) (record { closed = s.closed; rest = s.rest; least = λ c. 0 })
+    (closed_behind s.closed (empty_state p)) (λ c. go c (s.rest c) refl (contains p.counties c) refl) (λ c. least_none c s.closed (empty_state p) refl)
+  where
+    go : (c : ℕ) (a : Bool) → s.rest c ≡ a → (b : Bool) → contains p.counties c ≡ b → (close_all s.closed (empty_state p)).rest c ≡ s.rest c
+    go c true e true k = rest_stays c s.closed (empty_state p) (omega (arith, state.once c, ap indicator e, ap indicator k)) ∙ (k ∙ sym e)
+    go c true e false k = absurd (omega (arith, state.once c, ap indicator e, ap indicator k))
+    go c false e true k = rest_left c s.closed (empty_state p) (omega (arith, state.once c, ap indicator e, ap indicator k)) ∙ sym e
+    go c false e false k = rest_out c s.closed (empty_state p) k ∙ sym e
+
 states_are_told_at : (p : Problem) (round : Round) (s : State) → IsOrder p round.order → IsState p round s → state_told p (told_of round.order s) ≡ s
-states_are_told_at p round s order state = same_state (state_told p (told_of round.order s)) s closed rest least
+states_are_told_at p round s order state =
+    ap (raise_all (asked_by round.order s)) (closed_first p round s state)
+    ∙ same_state (raise_all (asked_by round.order s) first) s (raise_keeps_closed (asked_by round.order s) first) (raise_keeps_rest (asked_by round.order s) first) least
   where
     first : State
-    first = close_all s.closed (empty_state p)
-
-    closed : (raise_all (asked_by round.order s) first).closed ≡ s.closed
-    closed = raise_keeps_closed (asked_by round.order s) first ∙ closed_behind s.closed (empty_state p)
-
-    rest : (c : ℕ) → (raise_all (asked_by round.order s) first).rest c ≡ s.rest c
-    rest c = raise_keeps_rest (asked_by round.order s) first c ∙ go (s.rest c) refl (contains p.counties c) refl
-      where
-        go : (a : Bool) → s.rest c ≡ a → (b : Bool) → contains p.counties c ≡ b → first.rest c ≡ a
-        go true e true k = rest_stays c s.closed (empty_state p) (omega (arith, state.once c, ap indicator e, ap indicator k)) ∙ k
-        go true e false k = absurd (omega (arith, state.once c, ap indicator e, ap indicator k))
-        go false e true k = rest_left c s.closed (empty_state p) (omega (arith, state.once c, ap indicator e, ap indicator k))
-        go false e false k = rest_out c s.closed (empty_state p) k
+    first = record { closed = s.closed; rest = s.rest; least = λ c. 0 }
 
     least : (c : ℕ) → (raise_all (asked_by round.order s) first).least c ≡ s.least c
     least c = go (s.rest c) refl (cases (s.least c))
@@ -144,14 +145,14 @@ states_are_told_at p round s order state = same_state (state_told p (told_of rou
         cases n = grind arith
 
         stays : s.least c ≡ 0 → (raise_all (asked_by round.order s) first).least c ≡ s.least c
-        stays none = least_stays s c round.order first (least_none c s.closed (empty_state p) refl ∙ sym none)
+        stays none = least_stays s c round.order first (sym none)
 
         listed : s.rest c ≡ true → contains round.order c ≡ true
-        listed e = go2 (contains p.counties c) refl
+        listed e = by_counties (contains p.counties c) refl
           where
-            go2 : (b : Bool) → contains p.counties c ≡ b → contains round.order c ≡ true
-            go2 true k = member_from_often c round.order (omega (arith, order c, ap indicator k))
-            go2 false k = absurd (omega (arith, state.once c, ap indicator e, ap indicator k))
+            by_counties : (b : Bool) → contains p.counties c ≡ b → contains round.order c ≡ true
+            by_counties true k = member_from_often c round.order (omega (arith, order c, ap indicator k))
+            by_counties false k = absurd (omega (arith, state.once c, ap indicator e, ap indicator k))
 
         go : (b : Bool) → s.rest c ≡ b → (s.least c ≡ 0) ⊎ (1 ≤ s.least c) → (raise_all (asked_by round.order s) first).least c ≡ s.least c
         go true e (inl none) = stays none

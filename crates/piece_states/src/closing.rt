@@ -120,8 +120,8 @@ pub(crate) fn close_told<C: CountySet>(
     ensures placed { IfOk result (λ found. IfSome found (IsPlaced (graph_places graph.now) C.test)) }
     ensures value { IfOk result (λ found. IfSome found (λ s. state_at (graph_order graph.now) C.test s
         ≡ close_all groups.now (state_at (graph_order graph.now) C.test state))) }
-    ensures can { IfOk result (λ found. IfSome found (λ _. EachCanClose (graph_problem graph.now) (graph_order graph.now)
-        (round_of round.now) groups.now (state_at (graph_order graph.now) C.test state))) }
+    ensures can { IfOk result (λ found. IfSome found (λ _. EachCanClose (graph_problem graph.now)
+        (graph_order graph.now) (round_of round.now) groups.now (state_at (graph_order graph.now) C.test state))) }
     ensures none { IfOk result (λ found. found ≡ None → ¬ EachCanClose (graph_problem graph.now) (graph_order graph.now)
         (round_of round.now) groups.now (state_at (graph_order graph.now) C.test state)) }
 {

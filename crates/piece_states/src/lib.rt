@@ -22,7 +22,7 @@ mod reading;
 mod told;
 mod writing;
 
-pub use laws::{states_are_told, states_have_texts};
+pub use laws::{branches_keep_told, states_are_told, states_have_texts};
 pub use line::ToldLine;
 pub use piece::{Asked, OpenPiece};
 pub use reading::front_open_piece;

@@ -21,7 +21,7 @@ use std::alloc::AllocError;
 /// Returns the state that is told of the `piece`, or `None` if it isn't a state of the `round`.
 ///
 /// It is one if these tests hold. Each closed group fits where those before it are closed. It has at most the round's
-/// limit of counties, and its codes stand in the order of the `graph`. Then each county that asks is in the rest, and it
+/// limit of counties, and its codes stand in the order of the `graph`. Then each county that asks is in the rest. It
 /// asks for a size of the round: in a plain round for one more than the limit, in a wide one for any from 1 on.
 ///
 /// # Errors
