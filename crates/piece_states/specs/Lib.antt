@@ -1,0 +1,7 @@
+pub mod Told
+pub mod RoundStates
+pub mod PieceValue
+pub mod Text
+pub mod TextLines
+pub mod Reading
+pub mod Laws
