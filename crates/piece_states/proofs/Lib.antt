@@ -8,3 +8,4 @@ pub mod ReadSteps
 pub mod ToldBack
 pub mod ToldTexts
 pub mod KeptTold
+pub mod Examples

@@ -5,3 +5,4 @@ pub mod Text
 pub mod TextLines
 pub mod Reading
 pub mod Laws
+pub mod Examples
