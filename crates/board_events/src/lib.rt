@@ -21,6 +21,6 @@ mod writing;
 
 pub use laws::events_have_texts;
 pub use line::EventLine;
-pub use reading::read_events;
+pub use reading::{front_event, read_events};
 pub use replies::push_reply;
 pub use writing::write_event;

@@ -114,7 +114,7 @@ fn moved(fault: TextFault, lines: u64) -> TextFault
 }
 
 /// Reads the event with which a `text` begins. Returns it and how many bytes spell it.
-fn front_event(
+pub fn front_event(
     alloc: Global,
     text: &[u8],
     format: Format,

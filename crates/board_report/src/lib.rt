@@ -19,6 +19,7 @@ mod sharing;
 mod taking;
 
 pub use answer_text::piece_text;
+pub use opening::opened_board;
 pub use board_outcome::Shared;
 pub use proving::prove_waiting;
 pub use shape::BoardShape;

@@ -15,7 +15,7 @@ use share_board::{Board, BoardFault};
 use std::alloc::Global;
 
 /// Creates a board that no event has come to yet, with the order of ascending codes.
-pub(crate) fn opened_board<C: CountySet>(
+pub fn opened_board<C: CountySet>(
     alloc: Global,
     problem: &Problem,
     target: &Grouping,

@@ -68,7 +68,7 @@ fn answer_at<C: CountySet>(
         return Ok(None);
     };
     let mut steps = Steps::new(steps);
-    let piece = prove_piece(alloc, problem, board.proof_round(), &state, &mut steps)?;
+    let piece = prove_piece(alloc, problem, board.proof_round(), &state, &mut PartLists::new(alloc), &mut steps)?;
     Ok(Some(piece))
 }
 

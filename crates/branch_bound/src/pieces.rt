@@ -88,6 +88,7 @@ fn piece_of(round: &Round, outcome: SearchOutcome) -> Piece
 fn wide_piece<C: CountySet>(
     input: &SearchInput<C>,
     state: &State<C>,
+    lists: &mut PartLists<C>,
     steps: &mut Steps,
 ) -> Result<Piece, AllocError>
     requires input { IsSearchInput C.PLACES C.test input.now }
@@ -100,8 +101,7 @@ fn wide_piece<C: CountySet>(
     ensures open { IfOk result (λ piece. IsOpen piece → steps.new.used ≡ steps.new.limit) }
 {
     let position = position_at(input, state)?;
-    let mut lists = PartLists::new(input.graph.alloc);
-    let outcome = prove(input, position, &mut lists, &mut NoWatcher, steps)?;
+    let outcome = prove(input, position, lists, &mut NoWatcher, steps)?;
     Ok(piece_of(input.round, outcome))
 }
 
@@ -130,6 +130,7 @@ fn ordered_piece<C: CountySet>(
     ordered: &Ordered,
     round: &Round,
     state: &State<C>,
+    lists: &mut PartLists<C>,
     steps: &mut Steps,
 ) -> Result<Piece, AllocError>
     requires fits { length ordered.now.order ≤ C.PLACES }
@@ -149,7 +150,7 @@ fn ordered_piece<C: CountySet>(
         round,
     };
     match round.format {
-        Format::Wide => wide_piece(&input, state, steps),
+        Format::Wide => wide_piece(&input, state, lists, steps),
         Format::Plain => plain_piece(&input, state, steps),
     }
 }
@@ -172,6 +173,7 @@ pub fn prove_piece<C: CountySet>(
     problem: &Problem,
     round: &Round,
     state: &State<C>,
+    lists: &mut PartLists<C>,
     steps: &mut Steps,
 ) -> Result<Piece, AllocError>
     requires fits { length round.now.order ≤ C.PLACES }
@@ -186,7 +188,7 @@ pub fn prove_piece<C: CountySet>(
     ensures open { IfOk result (λ piece. IsOpen piece → steps.new.used ≡ steps.new.limit) }
 {
     match Ordered::build(alloc, problem, round.order.as_slice()) {
-        Ok(ordered) => ordered_piece(alloc, &ordered, round, state, steps),
+        Ok(ordered) => ordered_piece(alloc, &ordered, round, state, lists, steps),
         Err(OrderFault::Memory) => Err(AllocError),
         Err(OrderFault::WrongOrder) => unreachable!(),
     }

@@ -20,6 +20,7 @@ mod problem;
 mod program;
 mod readers;
 mod recording;
+mod ring;
 mod share;
 mod size;
 mod solve;

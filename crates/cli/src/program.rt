@@ -13,6 +13,8 @@ ghost use Rattle.cli.specs.CaseRun.{IsWholeSource, IsReadAnswer, DeliversCase};
 use crate::case::run_case_with_end;
 use crate::command::run_with_end;
 use crate::end::End;
+use crate::ring::{run_board, run_desk};
+use cli_words::{CommandWords, parse};
 use branch_bound::Watcher;
 use cli_file_stores::{FileStore, Sink};
 use field_lines::Source;
@@ -50,6 +52,31 @@ pub fn run_program<H: FileStore, R: Source, W: Sink, V: Watcher>(
     ensures kept { words.now ≡ [] → H.stored file_store.new ≡ H.stored file_store.old }
     ensures still { words.now ≡ [] → H.history file_store.new ≡ H.history file_store.old }
 {
+    if !words.is_empty() && (words[0] == "board" || words[0] == "desk") {
+        let mut end = End::new(alloc);
+        let is_board = words[0] == "board";
+        let mut all: Vec<&str> = Vec::new(alloc);
+        let _ = all.push(if is_board { "share" } else { "piece" });
+        for word in &words[1..] {
+            let _ = all.push(*word);
+        }
+        let _ = all.push("--events");
+        let _ = all.push("-");
+        if !is_board {
+            for word in ["--grouping", "-", "--round", "1", "--number", "1"] {
+                let _ = all.push(word);
+            }
+        }
+        let said = match parse(alloc, &all) {
+            Ok(CommandWords::Share(words)) => run_board(alloc, words, file_store, input, out, &mut end),
+            Ok(CommandWords::Piece(words)) => run_desk(alloc, words, file_store, input, out, &mut end),
+            _ => Ok(2),
+        };
+        return match said {
+            Ok(status) => (status, end),
+            Err(_) => (4, end),
+        };
+    }
     if words.is_empty() {
         run_case_with_end(alloc, input, out)
     } else {
