@@ -9,3 +9,4 @@ pub mod ReadOnly
 pub mod Written
 pub mod SomeEvents
 pub mod FaultKinds
+pub mod ComingLaws

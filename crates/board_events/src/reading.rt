@@ -103,7 +103,7 @@ fn event_behind(
 }
 
 /// Moves a `fault` further on by this number of `lines`. If memory was refused, the line of the fault is left open.
-fn moved(fault: TextFault, lines: u64) -> TextFault
+pub(crate) fn moved(fault: TextFault, lines: u64) -> TextFault
     ensures kind { result.kind ≡ fault.kind }
     ensures line { fault.line + lines < 2 ^ 64 → result.line ≡ fault.line + lines }
 {
@@ -113,8 +113,14 @@ fn moved(fault: TextFault, lines: u64) -> TextFault
     }
 }
 
-/// Reads the event with which a `text` begins. Returns it and how many bytes spell it.
-fn front_event(
+/// Reads the event with which a `text` begins. Returns it and how many bytes spell it. Trees are of this `format` and
+/// for an order of `counties` counties.
+///
+/// # Errors
+///
+/// Returns the first fault of the text, with its line. If memory was refused, it returns `Memory` in place of any
+/// answer.
+pub fn front_event(
     alloc: Global,
     text: &[u8],
     format: Format,
@@ -137,7 +143,7 @@ fn front_event(
 }
 
 /// Counts the lines of a `text` that an LF ends.
-fn lines_in(text: &[u8]) -> u64
+pub(crate) fn lines_in(text: &[u8]) -> u64
     ensures value { result ≡ length (filter is_lf text.now) }
     ensures few { result ≤ length text.now }
 {
