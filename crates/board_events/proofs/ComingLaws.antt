@@ -13,14 +13,16 @@ use Rattle.certificate_lines.specs.Items.{by_words, item_on, wanted_after}
 use Rattle.certificate_lines.specs.Rest.{IsTextMemory, text_fault_at}
 use Rattle.certificate_lines.specs.declared.fault.TextFault.{TextFault}
 use Rattle.certificate_lines.specs.declared.fault.TextKind.{TextKind}
-use Rattle.certificate_lines.specs.declared.fault.TextKind.TheVariants.{CutShort}
+use Rattle.certificate_lines.specs.declared.fault.TextKind.TheVariants.{BadHead, BadWord, BadNumber, NotCanonical, CutShort, AfterEnd, TooDeep, ReadFault, Memory}
 use Rattle.certificate_lines.specs.declared.item.Item.{Item}
 use Rattle.certificate_lines.specs.declared.item.Wanted.{Wanted}
 use Rattle.board_events.specs.Lines.{event_on}
 use Rattle.board_events.specs.Spelling.{wanted_by}
 use Rattle.board_events.specs.Faults.{fault_from, events_fault}
-use Rattle.board_events.specs.Coming.{Held, PullsOnto, HaveFault, TellsFault}
+use Rattle.board_events.specs.Coming.{Held, PullsOnto, HasEvent, HaveFault, TellsFault, is_read_kind}
 use Rattle.board_events.specs.declared.line.EventLine.{EventLine}
+use Rattle.certificate_lines.proofs.LineKinds.{OfLine}
+use Rattle.board_events.proofs.FaultKinds.{fault_of_line}
 use Rattle.board_events.proofs.FaultLaws.{by_first, by_item}
 use Rattle.board_events.proofs.FaultPlaces.{fault_within}
 
@@ -159,15 +161,35 @@ pulled_onto before after old more grown buffer start room count is low grows sam
 
 -- the fault of what is held is told with its line in the whole text
 pub tells_fault : (format : Format) (counties : ℕ) (self : Held) (lines own_lines : ℕ) (held : List ℕ) (held_ended ended : Bool) (fault told : TextFault)
-    → self.lines ≡ lines → own_lines ≡ self.lines → held ≡ self.bytes → held_ended ≡ ended
+    → (HasEvent format counties held → IsTextMemory fault) → self.lines ≡ lines → own_lines ≡ self.lines → held ≡ self.bytes → held_ended ≡ ended
     → told.kind ≡ fault.kind → (fault.line + own_lines < 2 ^ 64 → told.line ≡ fault.line + own_lines)
     → ((IsTextMemory fault → ⊥) → HaveFault format counties held held_ended fault)
     → TellsFault format counties (record { bytes = self.bytes; lines = lines }) ended told self
-tells_fault format counties self lines own_lines held held_ended ended fault told same_lines same_own same_bytes same_ended kind moved have = record {
+tells_fault format counties self lines own_lines held held_ended ended fault told only same_lines same_own same_bytes same_ended kind moved have = record {
   stays = ap (λ (n : ℕ). record { bytes = self.bytes; lines = n }) same_lines;
+  only = λ has. inl (kind ∙ only (subst (HasEvent format counties) (sym same_bytes) has));
   found = λ unread small.
       let known : HaveFault format counties self.bytes ended fault =
       subst (λ (t : List ℕ). HaveFault format counties t ended fault) same_bytes
       (subst (λ (b : Bool). HaveFault format counties held b fault) same_ended (have (λ m. unread (inl (kind ∙ m))))) in
       own_line format counties self.bytes fault ended lines told kind (subst (λ (n : ℕ). fault.line + n < 2 ^ 64 → told.line ≡ fault.line + n) (same_own ∙ same_lines) moved) known small;
 }
+
+-- a fault of a text is none of its source
+pub no_read_fault : (format : Format) (counties : ℕ) (text : List ℕ) (fault : TextFault) → ((IsTextMemory fault → ⊥) → events_fault format counties text ≡ Some fault) → is_read_kind fault.kind ≡ false
+no_read_fault format counties text fault h =
+    of_kind fault.kind (λ e. subst OfLine e (fault_of_line format counties text fault (h (λ m. memory_not_read (sym m ∙ e)))))
+  where
+    memory_not_read : Memory ≡ ReadFault → ⊥
+    memory_not_read e = cc
+
+    of_kind : (kind : TextKind) → (kind ≡ ReadFault → ⊥) → is_read_kind kind ≡ false
+    of_kind ReadFault other = absurd (other refl)
+    of_kind Memory other = refl
+    of_kind BadHead other = refl
+    of_kind BadWord other = refl
+    of_kind BadNumber other = refl
+    of_kind NotCanonical other = refl
+    of_kind CutShort other = refl
+    of_kind AfterEnd other = refl
+    of_kind TooDeep other = refl

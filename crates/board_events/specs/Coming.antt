@@ -1,11 +1,13 @@
 -- Events that are read from a source one after the other.
-use Rattle.std.specs.Prelude.{◌≡◌, ◌<◌, ◌+◌, ◌-◌, ◌^◌, ℕ, Bool, true, List, [], ◌++◌, length, filter, Option, Some, None}
-use Rattle.std.specs.Prelude.{Result, Ok, Err}
+use Rattle.std.specs.Prelude.{◌≡◌, ◌<◌, ◌+◌, ◌-◌, ◌^◌, ℕ, Bool, true, List, [], ◌++◌, length, filter, Option}
+use Rattle.std.specs.Prelude.{Some, None, Result, Ok, Err, ◌⊎◌, ◌≤◌, ⊤, false}
 use Rattle.field_lines.specs.RawPieces.{is_lf}
 use Rattle.field_lines.specs.Source.{Given}
 use Rattle.field_lines.specs.HeldBytes.{MayCome}
 use Rattle.certificate_data.specs.declared.format.Format.{Format}
 use Rattle.certificate_lines.specs.Rest.{IsUnread, text_fault_at}
+use Rattle.certificate_lines.specs.declared.fault.TextKind.{TextKind}
+use Rattle.certificate_lines.specs.declared.fault.TextKind.TheVariants.{ReadFault}
 use Rattle.certificate_lines.specs.declared.fault.TextFault.{TextFault}
 use Rattle.board_laws.specs.Content.{Event}
 use Rattle.share_board.specs.Events.{event_of}
@@ -37,16 +39,25 @@ abbrev pub HaveFault : Format → ℕ → List ℕ → Bool → TextFault → Ty
 HaveFault format counties bytes ended fault =
     (later : List ℕ) → MayCome ended later → events_fault format counties (bytes ++ later) ≡ Some fault
 
+-- an event stands at the front of the bytes
+pub record HasEvent (format : Format) (counties : ℕ) (bytes : List ℕ) : Type 0 where
+  pub event : Event
+  pub rest : List ℕ
+  pub spelled : HasSpelling format counties event
+  pub text_is : bytes ≡ text_of_event event ++ rest
+
 -- the event was read from the front of the bytes, and the others are held
 pub record TakesEvent (format : Format) (counties : ℕ) (old : Held) (event : Event) (new : Held) : Type 0 where
   pub text_is : old.bytes ≡ text_of_event event ++ new.bytes
   pub spelled : HasSpelling format counties event
   pub lines : old.lines + lines_in (text_of_event event) < 2 ^ 64 → new.lines ≡ old.lines + lines_in (text_of_event event)
 
--- The fault of the bytes is told with its line in the whole text, and all bytes stay held.
+-- The fault of the bytes is told with its line in the whole text, and all bytes stay held. An event at their front is
+-- refused only if memory was refused, or the source failed.
 pub record TellsFault (format : Format) (counties : ℕ) (old : Held) (ended : Bool) (fault : TextFault)
     (new : Held) : Type 0 where
   pub stays : new ≡ old
+  pub only : HasEvent format counties old.bytes → IsUnread fault
   pub found : (IsUnread fault → ⊥) → old.lines + (length old.bytes + 1) < 2 ^ 64
       → HaveFault format counties old.bytes ended (text_fault_at fault.kind (fault.line - old.lines))
 
@@ -62,3 +73,17 @@ pub record ReadsNext (format : Format) (counties : ℕ) (old : Held) (before aft
   pub bytes : List ℕ
   pub pulls : PullsOnto before after old.bytes bytes
   pub next : IsNext format counties (record { bytes = bytes; lines = old.lines }) after.ended result new
+
+-- behind an event that was read stand at most this many bytes, unless nothing was pulled
+abbrev pub IsPrompt : ℕ → Given → Given → Result (Option EventHeld) TextFault → Held → Type 0
+IsPrompt most before after (Ok (Some event)) new = (after ≡ before) ⊎ (length new.bytes ≤ most)
+IsPrompt most before after result new = ⊤
+
+-- the source could not be read
+abbrev pub is_read_kind : TextKind → Bool
+is_read_kind ReadFault = true
+is_read_kind kind = false
+
+abbrev pub is_read_fault : {A : Type 0} → Result A TextFault → Bool
+is_read_fault (Ok x) = false
+is_read_fault (Err fault) = is_read_kind fault.kind

@@ -1,13 +1,14 @@
 //! Events that are pulled from a source one after the other, as they come.
 
-ghost use Rattle.std.specs.Prelude.{◌≡◌, ◌==◌, ◌+◌, ◌<◌, ◌≤◌, ◌-◌, ◌⊎◌, ℕ, List, true, false, [], None, take, length, get_or, IfOk, IfErr};
-ghost use Rattle.std.specs.Prelude.{IfSome, OnOk, OnErr, slice_range, ◌++◌};
+ghost use Rattle.std.specs.Prelude.{◌≡◌, ◌==◌, ◌+◌, ◌<◌, ◌≤◌, ◌-◌, ◌⊎◌, ℕ, List, true, false, [], None, take};
+ghost use Rattle.std.specs.Prelude.{length, get_or, IfOk, IfErr, IfSome, OnOk, OnErr, slice_range, ◌++◌};
 ghost use Rattle.certificate_lines.specs.Lines.{most};
 ghost use Rattle.certificate_lines.specs.Rest.{IsTextMemory};
 ghost use Rattle.certificate_lines.specs.declared.fault.TextKind.TheVariants.{CutShort, ReadFault, Memory};
 ghost use Rattle.share_board.specs.Events.{event_of};
 ghost use Rattle.board_events.specs.Spelling.{text_of_event, HasSpelling};
-ghost use Rattle.board_events.specs.Coming.{PullsOnto, HaveFault};
+ghost use Rattle.board_events.specs.Coming.{PullsOnto, HasEvent, HaveFault, is_read_kind};
+ghost use Rattle.std.specs.Result.{is_err};
 
 use crate::reading::{front_event, lines_in, moved};
 use certificate_data::Format;
@@ -27,6 +28,7 @@ const MOST_HELD: usize = 1_073_741_824;
 fn whole_lines(text: &[u8]) -> usize
     ensures place { result ≤ length text.now }
     ensures lf { 0 < result → get_or text.now (result - 1) 0 ≡ 10 }
+    ensures last { (k : ℕ) → result ≤ k → k < length text.now → get_or text.now k 0 ≡ 10 → ⊥ }
 {
     let mut end = text.len();
     while end > 0 && text[end - 1] != b'\n' {
@@ -40,13 +42,15 @@ fn readable(text: &[u8], ended: bool) -> usize
     ensures place { result ≤ length text.now }
     ensures all { ended ≡ true → result ≡ length text.now }
     ensures lf { ended ≡ false → 0 < result → get_or text.now (result - 1) 0 ≡ 10 }
+    ensures last { (k : ℕ) → result ≤ k → k < length text.now → get_or text.now k 0 ≡ 10 → ⊥ }
 {
     if ended { text.len() } else { whole_lines(text) }
 }
 
 /// Returns whether a fault of this `kind` may pass if more bytes come behind the whole lines.
 fn may_pass(kind: TextKind, ended: bool) -> bool
-    ensures passes { result ≡ true → ended ≡ false }
+    ensures open { result ≡ true → ended ≡ false }
+    ensures passes { result ≡ true → kind ≡ CutShort }
     ensures stays { result ≡ false → ended ≡ false → kind ≡ CutShort → ⊥ }
 {
     !ended && matches!(kind, TextKind::CutShort)
@@ -66,7 +70,10 @@ fn event_in_front(
     ensures found { IfOk result (λ found. IfSome found (λ r. take r.1 held.now ≡ text_of_event (event_of r.0))) }
     ensures spelled { IfOk result (λ found. IfSome found (λ r. HasSpelling format counties (event_of r.0))) }
     ensures none { IfOk result (λ found. found ≡ None → ended ≡ true → held.now ≡ []) }
+    ensures waits { IfOk result (λ found. found ≡ None → HasEvent format counties held.now → ⊥) }
+    ensures only { IfErr result (λ f. HasEvent format counties held.now → IsTextMemory f) }
     ensures fault { IfErr result (λ f. (IsTextMemory f → ⊥) → HaveFault format counties held.now ended f) }
+    ensures unfailed { IfErr result (λ f. is_read_kind f.kind ≡ false) }
 {
     let count = readable(held, ended);
     if count == 0 {
@@ -95,6 +102,7 @@ fn pull_behind<S: Source>(
     ensures given { IfOk result (λ n. (S.given source.new).bytes ≡ (S.given source.old).bytes ++ slice_range buffer.new start (start + n)) }
     ensures ended { IfOk result (λ n. (S.given source.new).ended ≡ (n == 0)) }
     ensures none { OnErr result (S.given source.new ≡ S.given source.old) }
+    ensures failed { S.is_failed source.new ≡ is_err result }
 {
     source.pull(&mut buffer[start..])
 }
@@ -104,9 +112,12 @@ fn pull_behind<S: Source>(
 fn pull_onto<S: Source>(held: &mut Vec<u8>, source: &mut S) -> Result<usize, TextKind>
     ensures pulls { PullsOnto (S.given source.old) (S.given source.new) held.old.items held.new.items }
     ensures count { IfOk result (λ n. length held.new.items ≡ length held.old.items + n) }
+    ensures small { IfOk result (λ n. n ≤ 65536) }
     ensures room { OnOk result (length held.old.items ≤ 1073741824) }
     ensures ended { IfOk result (λ n. (S.given source.new).ended ≡ (n == 0)) }
     ensures refused { IfErr result (λ kind. (kind ≡ Memory) ⊎ (kind ≡ ReadFault)) }
+    ensures sound { OnOk result (S.is_failed source.new ≡ false) }
+    ensures failed { IfErr result (λ kind. S.is_failed source.old ≡ false → S.is_failed source.new ≡ is_read_kind kind) }
 {
     let start = held.len();
     if start > MOST_HELD {
@@ -142,9 +153,9 @@ impl Model for EventReader {
 }
 
 impl EventReader {
-    ghost use Rattle.std.specs.Prelude.{◌≡◌, ◌≤◌, ◌+◌, ◌^◌, ◌<◌, drop, take, length};
+    ghost use Rattle.std.specs.Prelude.{◌≡◌, ◌≤◌, ◌+◌, ◌^◌, ◌<◌, false, drop, take, length};
     ghost use Rattle.certificate_lines.specs.Lines.{most};
-    ghost use Rattle.board_events.specs.Coming.{nothing_held, lines_in, ReadsNext};
+    ghost use Rattle.board_events.specs.Coming.{nothing_held, lines_in, ReadsNext, IsPrompt, is_read_fault};
 
     /// Creates a reader that has pulled nothing.
     pub fn new(alloc: Global) -> Self
@@ -192,7 +203,10 @@ impl EventReader {
         counties: u16,
     ) -> Result<Option<Event>, TextFault>
         requires { counties ≤ most }
-        ensures { ReadsNext format counties self.old (S.given source.old) (S.given source.new) result self.new }
+        ensures next { ReadsNext format counties self.old (S.given source.old) (S.given source.new) result self.new }
+        // Behind the event stand at most the bytes of the last pull, unless nothing was pulled.
+        ensures prompt { IsPrompt 65536 (S.given source.old) (S.given source.new) result self.new }
+        ensures failed { S.is_failed source.old ≡ false → S.is_failed source.new ≡ is_read_fault result }
     {
         loop {
             let ended = source.ended();

@@ -15,6 +15,7 @@ ghost use Rattle.board_laws.specs.Content.{Event as EventValue};
 ghost use Rattle.share_board.specs.Events.{event_of};
 ghost use Rattle.board_events.specs.Lines.{event_on};
 ghost use Rattle.board_events.specs.Spelling.{wanted_by, text_of_event, HasSpelling, EventsAreSpelled};
+ghost use Rattle.board_events.specs.Coming.{HasEvent};
 ghost use Rattle.board_events.specs.LaterLines.{StandsBehind};
 ghost use Rattle.board_events.specs.Faults.{fault_from, events_fault};
 
@@ -131,6 +132,8 @@ pub fn front_event(
     ensures place { IfOk result (λ r. (0 < r.1) × (r.1 ≤ length text.now)) }
     ensures found { IfOk result (λ r. take r.1 text.now ≡ text_of_event (event_of r.0)) }
     ensures spelled { IfOk result (λ r. HasSpelling format counties (event_of r.0)) }
+    // An event at the front is read, unless memory is refused.
+    ensures only { IfErr result (λ f. HasEvent format counties text.now → IsTextMemory f) }
     ensures fault { IfErr result (λ f. (IsTextMemory f → ⊥) → events_fault format counties text.now ≡ Some f) }
 {
     let mut cursor = Cursor::new(text);

@@ -1,5 +1,5 @@
-use Rattle.std.proofs.Common.{◌-◌, ◌≡◌, length, if◌then◌else◌}
-use Rattle.board_events.specs.Coming.{PullsOnto}
+use Rattle.std.proofs.Common.{◌-◌, ◌≡◌, ◌≤◌, ◌⊎◌, false, length, if◌then◌else◌}
+use Rattle.board_events.specs.Coming.{PullsOnto, HasEvent}
 use Rattle.board_events.proofs.event_reader.EventReader.next_event.Given as goal
 
 -- what was pulled stands behind what was held, and nothing was read
@@ -7,6 +7,8 @@ abbrev pub invariant-loop-event : goal.invariant-loop-event
 invariant-loop-event g l = record {
   pulls : PullsOnto (g.S.Source.given l.fn.source) (g.S.Source.given l.source) l.fn.self.bytes l.self.bytes;
   lines : l.self.lines ≡ l.fn.self.lines;
+  prompt : (has : HasEvent l.format l.counties l.self.bytes) → (g.S.Source.given l.source ≡ g.S.Source.given l.fn.source) ⊎ (length has.rest ≤ 65536);
+  sound : g.S.Source.is_failed l.fn.source ≡ false → g.S.Source.is_failed l.source ≡ false;
 }
 
 abbrev pub decreases-loop-event : goal.decreases-loop-event
