@@ -50,7 +50,8 @@ pub record HasEvent (format : Format) (counties : ℕ) (bytes : List ℕ) : Type
 pub record TakesEvent (format : Format) (counties : ℕ) (old : Held) (event : Event) (new : Held) : Type 0 where
   pub text_is : old.bytes ≡ text_of_event event ++ new.bytes
   pub spelled : HasSpelling format counties event
-  pub lines : old.lines + lines_in (text_of_event event) < 2 ^ 64 → new.lines ≡ old.lines + lines_in (text_of_event event)
+  pub lines : old.lines + lines_in (text_of_event event) < 2 ^ 64
+      → new.lines ≡ old.lines + lines_in (text_of_event event)
 
 -- The fault of the bytes is told with its line in the whole text, and all bytes stay held. An event at their front is
 -- refused only if memory was refused, or the source failed.
@@ -74,12 +75,12 @@ pub record ReadsNext (format : Format) (counties : ℕ) (old : Held) (before aft
   pub pulls : PullsOnto before after old.bytes bytes
   pub next : IsNext format counties (record { bytes = bytes; lines = old.lines }) after.ended result new
 
--- behind an event that was read stand at most this many bytes, unless nothing was pulled
+-- at most this many bytes stand behind an event that was read, unless nothing was pulled
 abbrev pub IsPrompt : ℕ → Given → Given → Result (Option EventHeld) TextFault → Held → Type 0
 IsPrompt most before after (Ok (Some event)) new = (after ≡ before) ⊎ (length new.bytes ≤ most)
 IsPrompt most before after result new = ⊤
 
--- the source could not be read
+-- whether a fault, or an answer, says that the source could not be read
 abbrev pub is_read_kind : TextKind → Bool
 is_read_kind ReadFault = true
 is_read_kind kind = false

@@ -180,12 +180,11 @@ impl EventReader {
         self.held.truncate(length - count);
     }
 
-    /// Reads the next event of the text that a `source` gives, and pulls only until its last line has come. Returns
-    /// `None` at the end of the text. Trees are of this `format` and for an order of `counties` counties. Each call is
-    /// lent the same `source`.
+    /// Reads the next event of the text that a `source` gives. Returns `None` at the end of the text. Trees are of this
+    /// `format` and for an order of `counties` counties. Each call is lent the same `source`.
     ///
-    /// The last pull may give bytes behind the event, at most as many as one pull gives. The source had them to give,
-    /// and they are held for the next call.
+    /// It pulls only until the event's last line has come. So no byte behind the event is pulled that the source hadn't
+    /// to give, and at most those of one pull. They are held for the next call.
     ///
     /// # Errors
     ///
@@ -203,9 +202,11 @@ impl EventReader {
         counties: u16,
     ) -> Result<Option<Event>, TextFault>
         requires { counties ≤ most }
+        // What was pulled is kept, and what is answered holds of all bytes that are held.
         ensures next { ReadsNext format counties self.old (S.given source.old) (S.given source.new) result self.new }
-        // Behind the event stand at most the bytes of the last pull, unless nothing was pulled.
+        // At most the bytes of one pull stand behind the event, unless nothing was pulled.
         ensures prompt { IsPrompt 65536 (S.given source.old) (S.given source.new) result self.new }
+        // `ReadFault` comes exactly if the source failed.
         ensures failed { S.is_failed source.old ≡ false → S.is_failed source.new ≡ is_read_fault result }
     {
         loop {

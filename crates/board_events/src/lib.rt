@@ -5,6 +5,7 @@
 //!
 //! ```
 //! let events = read_events(alloc, text, Format::Wide, 100)?;
+//! let next = reader.next_event(alloc, &mut source, Format::Wide, 100)?;
 //! let text = write_event(alloc, &event, Format::Wide, 100)?;
 //! ```
 //!
