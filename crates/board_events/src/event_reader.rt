@@ -191,9 +191,10 @@ impl EventReader {
     /// - Returns the first fault of the text, with its line in the whole text, as soon as its line has come. A fault
     ///   that the text ends too early comes only once the source has ended.
     /// - Returns `ReadFault` if the source could not be read.
-    /// - Returns `Memory` if memory was refused, or if an event takes more than 1,073,741,824 bytes.
+    /// - Returns `Memory` if memory was refused, or if more than 1,073,741,824 bytes are held and no event is whole yet.
     ///
-    /// All bytes stay held, so a later call reads on after `ReadFault` or `Memory`, and meets any other fault again.
+    /// All bytes stay held. So a later call reads on after `ReadFault`, or if memory was refused. It meets any other
+    /// fault again.
     pub fn next_event<S: Source>(
         &mut self,
         alloc: Global,
@@ -206,7 +207,7 @@ impl EventReader {
         ensures next { ReadsNext format counties self.old (S.given source.old) (S.given source.new) result self.new }
         // At most the bytes of one pull stand behind the event, unless nothing was pulled.
         ensures prompt { IsPrompt 65536 (S.given source.old) (S.given source.new) result self.new }
-        // `ReadFault` comes exactly if the source failed.
+        // `ReadFault` comes exactly if the source fails, unless it had failed before.
         ensures failed { S.is_failed source.old ≡ false → S.is_failed source.new ≡ is_read_fault result }
     {
         loop {
