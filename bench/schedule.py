@@ -3,8 +3,9 @@
 usage: python3 bench/schedule.py FOLDER [--desks N,N,..]
 
 FOLDER is that of `tools/share.sh`, where a proof was joined. `times` has the round, the number and
-the seconds of each piece that was proved. A piece may begin once the event that opened it was
-taken. Each desk takes the open piece that took longest. The board's own time is left out.
+the seconds of each piece that was proved. Only the pieces of the last round count, since a new
+round drops those before it. A piece may begin once the event that opened it was taken. Each desk
+takes the open piece that took longest. The board's own time is left out.
 A row has the desks, the seconds until the last piece is proved, how many times as fast that is as
 one desk, and the share of the time in which desks are idle.
 """
@@ -16,8 +17,6 @@ import os
 import re
 from typing import Iterator, NamedTuple
 
-Piece = tuple[int, int]
-
 EVENT = re.compile(r"^(hand|result|split|part|better|wider) ")
 SPLIT = re.compile(r"^split into (\d+) to (\d+)$")
 NEW_ROUND = re.compile(r"^new round (\d+)$")
@@ -26,17 +25,21 @@ NEW_ROUND = re.compile(r"^new round (\d+)$")
 class Shared(NamedTuple):
     """The pieces of a proof: the seconds of each, and which pieces each of them opened."""
 
-    seconds: dict[Piece, float]
-    opened: dict[Piece, list[Piece]]
+    seconds: dict[int, float]
+    opened: dict[int, list[int]]
 
 
-def recorded_times(folder: str) -> dict[Piece, float]:
-    """Returns the seconds of each piece. What was proved twice counts with its last time."""
-    seconds: dict[Piece, float] = {}
+def recorded_times(folder: str, last: int) -> dict[int, float]:
+    """Returns the seconds of each piece of the `last` round, by its number.
+
+    What was proved twice counts with its last time.
+    """
+    seconds: dict[int, float] = {}
     with open(os.path.join(folder, "times")) as file:
         for line in file:
             number, piece, taken = line.split()
-            seconds[(int(number), int(piece))] = float(taken)
+            if int(number) == last:
+                seconds[int(piece)] = float(taken)
     return seconds
 
 
@@ -57,22 +60,21 @@ def replies_of(folder: str) -> list[str]:
 
 
 def shared_proof(folder: str) -> Shared:
-    """Returns the pieces of the proof in `folder`."""
-    opened: dict[Piece, list[Piece]] = {}
+    """Returns the pieces of the last round of the proof in `folder`."""
+    opened: dict[int, list[int]] = {}
+    last = 1
     for words, reply in zip(events_of(folder), replies_of(folder)):
-        found = SPLIT.match(reply)
-        if found:
-            number = int(words[1])
-            first, last = int(found.group(1)), int(found.group(2))
-            pieces = [(number, piece) for piece in range(first, last + 1)]
-            opened[(number, int(words[2]))] = pieces
         begun = NEW_ROUND.match(reply)
         if begun:
-            opened[(int(words[1]), 0)] = [(int(begun.group(1)), 1)]
-    return Shared(recorded_times(folder), opened)
+            opened = {}
+            last = int(begun.group(1))
+        found = SPLIT.match(reply)
+        if found:
+            opened[int(words[2])] = list(range(int(found.group(1)), int(found.group(2)) + 1))
+    return Shared(recorded_times(folder, last), opened)
 
 
-def first_pieces(shared: Shared) -> list[Piece]:
+def first_pieces(shared: Shared) -> list[int]:
     """Returns the pieces that no piece opened."""
     later = {piece for pieces in shared.opened.values() for piece in pieces}
     return sorted(piece for piece in shared.seconds if piece not in later)
@@ -82,7 +84,7 @@ def finished_at(shared: Shared, desks: int) -> float:
     """Returns the seconds after which all pieces are proved by this number of `desks`."""
     waiting = [(-shared.seconds[piece], piece) for piece in first_pieces(shared)]
     heapq.heapify(waiting)
-    working: list[tuple[float, Piece]] = []
+    working: list[tuple[float, int]] = []
     now = 0.0
     while waiting or working:
         while waiting and len(working) < desks:
@@ -100,7 +102,7 @@ def rows(shared: Shared, numbers: list[int]) -> Iterator[str]:
     alone = sum(shared.seconds.values())
     for desks in numbers:
         taken = finished_at(shared, desks)
-        idle = 1 - alone / (desks * taken)
+        idle = max(0.0, 1 - alone / (desks * taken))
         yield f"| {desks} | {taken:.1f} | {alone / taken:.1f} | {100 * idle:.0f} % |"
 
 

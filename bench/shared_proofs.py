@@ -69,7 +69,8 @@ def rows(asked: argparse.Namespace, chamber: tuple[str, int, int]) -> Iterator[s
         for jobs in (int(word) for word in asked.jobs.split(",")):
             cells = cells_of(program, words, folder, jobs, asked.steps)
             part = float(cells[0]) / solved
-            yield f"| {jobs} jobs | {cells[0]} | {part:.2f} | " + " | ".join(cells[1:]) + " |"
+            label = "job" if jobs == 1 else "jobs"
+            yield f"| {jobs} {label} | {cells[0]} | {part:.2f} | " + " | ".join(cells[1:]) + " |"
 
 
 def main() -> None:
