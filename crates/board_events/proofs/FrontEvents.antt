@@ -25,7 +25,7 @@ use Rattle.board_events.proofs.FaultLaws.{by_first, lines_of, lines_of-more, eve
 use Rattle.board_events.proofs.FaultPlaces.{further, fault_further, fault_within}
 use Rattle.board_events.proofs.FaultTold.{fault_told}
 
-abbrev whole : List ℕ → Rest
+abbrev pub whole : List ℕ → Rest
 whole text = record { number = 1; text = text }
 
 -- a fault that was moved stands `k` lines further on

@@ -9,3 +9,5 @@ pub mod ReadOnly
 pub mod Written
 pub mod SomeEvents
 pub mod FaultKinds
+pub mod FrontOnly
+pub mod ComingLaws

@@ -4,4 +4,5 @@ pub mod Faults
 pub mod LaterLines
 pub mod Writing
 pub mod Replies
+pub mod Coming
 pub mod Laws

@@ -15,6 +15,7 @@ ghost use Rattle.board_laws.specs.Content.{Event as EventValue};
 ghost use Rattle.share_board.specs.Events.{event_of};
 ghost use Rattle.board_events.specs.Lines.{event_on};
 ghost use Rattle.board_events.specs.Spelling.{wanted_by, text_of_event, HasSpelling, EventsAreSpelled};
+ghost use Rattle.board_events.specs.Coming.{HasEvent};
 ghost use Rattle.board_events.specs.LaterLines.{StandsBehind};
 ghost use Rattle.board_events.specs.Faults.{fault_from, events_fault};
 
@@ -103,7 +104,7 @@ fn event_behind(
 }
 
 /// Moves a `fault` further on by this number of `lines`. If memory was refused, the line of the fault is left open.
-fn moved(fault: TextFault, lines: u64) -> TextFault
+pub(crate) fn moved(fault: TextFault, lines: u64) -> TextFault
     ensures kind { result.kind ≡ fault.kind }
     ensures line { fault.line + lines < 2 ^ 64 → result.line ≡ fault.line + lines }
 {
@@ -113,8 +114,14 @@ fn moved(fault: TextFault, lines: u64) -> TextFault
     }
 }
 
-/// Reads the event with which a `text` begins. Returns it and how many bytes spell it.
-fn front_event(
+/// Reads the event with which a `text` begins. Returns it and how many bytes spell it. Trees are of this `format` and
+/// for an order of `counties` counties.
+///
+/// # Errors
+///
+/// Returns the first fault of the text, with its line. If memory was refused, it returns `Memory` in place of any
+/// answer.
+pub fn front_event(
     alloc: Global,
     text: &[u8],
     format: Format,
@@ -125,6 +132,8 @@ fn front_event(
     ensures place { IfOk result (λ r. (0 < r.1) × (r.1 ≤ length text.now)) }
     ensures found { IfOk result (λ r. take r.1 text.now ≡ text_of_event (event_of r.0)) }
     ensures spelled { IfOk result (λ r. HasSpelling format counties (event_of r.0)) }
+    // An event at the front is read, unless memory is refused.
+    ensures only { IfErr result (λ f. HasEvent format counties text.now → IsTextMemory f) }
     ensures fault { IfErr result (λ f. (IsTextMemory f → ⊥) → events_fault format counties text.now ≡ Some f) }
 {
     let mut cursor = Cursor::new(text);
@@ -137,7 +146,7 @@ fn front_event(
 }
 
 /// Counts the lines of a `text` that an LF ends.
-fn lines_in(text: &[u8]) -> u64
+pub(crate) fn lines_in(text: &[u8]) -> u64
     ensures value { result ≡ length (filter is_lf text.now) }
     ensures few { result ≤ length text.now }
 {
