@@ -32,6 +32,6 @@ mod watcher;
 
 pub use answer::Answer;
 pub use piece::Piece;
-pub use pieces::prove_piece;
+pub use pieces::{prove_piece, prove_piece_over};
 pub use solving::{solve, solve_over, solve_watched};
 pub use watcher::{NoWatcher, Watcher};

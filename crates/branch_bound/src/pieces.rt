@@ -2,7 +2,7 @@
 
 ghost use Rattle.std.specs.Prelude.{◌≡◌, ℕ, ◌≤◌, ◌<◌, ◌↔◌, IsTrue, length, IfOk};
 ghost use Rattle.county_codes.specs.Limits.{most_counties};
-ghost use Rattle.connected_sets.specs.Graphs.{graph_places};
+ghost use Rattle.connected_sets.specs.Graphs.{graph_order, graph_places, graph_problem, place_problem, IsGraph};
 ghost use Rattle.certificate_laws.specs.Certificate.{HasGroupsWithin};
 ghost use Rattle.certificate_laws.specs.State.{IsState};
 ghost use Rattle.certificate_data.specs.Round.{Round as RoundValue};
@@ -15,6 +15,7 @@ ghost use Rattle.state_groups.specs.PlacedValues.{state_at, IsPlaced};
 ghost use Rattle.branch_bound.specs.PlainRounds.{IsPlainGround, IsStateOf};
 ghost use Rattle.branch_bound.specs.Searching.{search_problem, search_round, search_state, IsSearchInput};
 ghost use Rattle.branch_bound.specs.Searching.{IsBetter, IsOutcome, IsStopped};
+ghost use Rattle.search_groups.specs.PartLists.{AreListsOf};
 ghost use Rattle.partial_trees.specs.PartialValue.{partial_of};
 ghost use Rattle.branch_bound.specs.Parts.{IsOpenPart};
 ghost use Rattle.branch_bound.specs.Pieces.{IsPiece, IsOpen};
@@ -88,11 +89,14 @@ fn piece_of(round: &Round, outcome: SearchOutcome) -> Piece
 fn wide_piece<C: CountySet>(
     input: &SearchInput<C>,
     state: &State<C>,
+    lists: &mut PartLists<C>,
     steps: &mut Steps,
 ) -> Result<Piece, AllocError>
     requires input { IsSearchInput C.PLACES C.test input.now }
     requires placed { IsPlaced (graph_places input.now.graph.now) C.test state.now }
     requires state { IsState (search_problem input.now) (search_round input.now) (search_state input.now C.test state.now) }
+    requires lists { AreListsOf C.test (place_problem input.now.graph.now) (graph_places input.now.graph.now) lists.old }
+    ensures lists { AreListsOf C.test (place_problem input.now.graph.now) (graph_places input.now.graph.now) lists.new }
     ensures piece { IfOk result (IsPiece (search_problem input.now) (search_round input.now) (search_state input.now C.test state.now)) }
     ensures limit { steps.new.limit ≡ steps.old.limit }
     ensures counted { IfOk result (λ piece. ¬ IsOpen piece → steps.old.used < steps.new.used) }
@@ -100,8 +104,7 @@ fn wide_piece<C: CountySet>(
     ensures open { IfOk result (λ piece. IsOpen piece → steps.new.used ≡ steps.new.limit) }
 {
     let position = position_at(input, state)?;
-    let mut lists = PartLists::new(input.graph.alloc);
-    let outcome = prove(input, position, &mut lists, &mut NoWatcher, steps)?;
+    let outcome = prove(input, position, lists, &mut NoWatcher, steps)?;
     Ok(piece_of(input.round, outcome))
 }
 
@@ -124,6 +127,39 @@ fn plain_piece<C: CountySet>(
     Ok(piece_of(input.round, outcome))
 }
 
+/// Searches a piece of a `round` over a `graph` of its counties, as `prove_piece` does. The `lists` of groups are kept
+/// from piece to piece of the problem, and from round to round. A plain round has none.
+///
+/// # Errors
+///
+/// Returns `AllocError` if memory was refused. The lists may then be used on.
+pub fn prove_piece_over<C: CountySet>(
+    graph: &CountyGraph<C>,
+    round: &Round,
+    state: &State<C>,
+    lists: &mut PartLists<C>,
+    steps: &mut Steps,
+) -> Result<Piece, AllocError>
+    requires graph { IsGraph C.test C.PLACES graph.now }
+    requires order { graph_order graph.now ≡ round.now.order }
+    requires small { round.now.limit ≤ most_counties }
+    requires placed { IsPlaced (graph_places graph.now) C.test state.now }
+    requires state { IsState (graph_problem graph.now) (round_of round.now) (state_at (graph_order graph.now) C.test state.now) }
+    requires lists { AreListsOf C.test (place_problem graph.now) (graph_places graph.now) lists.old }
+    ensures lists { AreListsOf C.test (place_problem graph.now) (graph_places graph.now) lists.new }
+    ensures piece { IfOk result (IsPiece (graph_problem graph.now) (round_of round.now) (state_at (graph_order graph.now) C.test state.now)) }
+    ensures limit { steps.new.limit ≡ steps.old.limit }
+    ensures counted { IfOk result (λ piece. ¬ IsOpen piece → steps.old.used < steps.new.used) }
+    ensures more { steps.old.used ≤ steps.new.used }
+    ensures open { IfOk result (λ piece. IsOpen piece → steps.new.used ≡ steps.new.limit) }
+{
+    let input = SearchInput { graph, round };
+    match round.format {
+        Format::Wide => wide_piece(&input, state, lists, steps),
+        Format::Plain => plain_piece(&input, state, steps),
+    }
+}
+
 /// Returns the answer for a piece by the round's order of counties.
 fn ordered_piece<C: CountySet>(
     alloc: Global,
@@ -144,14 +180,8 @@ fn ordered_piece<C: CountySet>(
     ensures open { IfOk result (λ piece. IsOpen piece → steps.new.used ≡ steps.new.limit) }
 {
     let graph = CountyGraph::build(alloc, ordered)?;
-    let input = SearchInput {
-        graph: &graph,
-        round,
-    };
-    match round.format {
-        Format::Wide => wide_piece(&input, state, steps),
-        Format::Plain => plain_piece(&input, state, steps),
-    }
+    let mut lists = PartLists::new(alloc);
+    prove_piece_over(&graph, round, state, &mut lists, steps)
 }
 
 /// Searches a piece of a `round`, whose state is `state`. Returns a proof tree of the state, a greater grouping that

@@ -1,5 +1,4 @@
-use Rattle.std.proofs.Common.{length, subst}
-use Rattle.county_problem.specs.OrderedValue.{problem_at}
+use Rattle.std.proofs.Common.{subst}
 use Rattle.branch_bound.specs.Searching.{search_problem, search_round, search_state}
 use Rattle.branch_bound.specs.Pieces.{IsPiece}
 use Rattle.branch_bound.proofs.Searches.{own}
@@ -9,9 +8,6 @@ pub prove-requires-clause-at : goal.prove-requires-clause-at
 prove-requires-clause-at g c =
     let input = c.args.input.now in
     own g.row.C.Denot g.C.CountySet.test input (search_state input g.C.CountySet.test c.args.state.now) c.in_ok-position.position c.in_ok-position.ensures.at
-
-pub prove-requires-clause-lists : goal.prove-requires-clause-lists
-prove-requires-clause-lists g c = c.new-lists.ensures.lists (problem_at c.args.input.now.graph.now.ordered.now) (length c.args.input.now.graph.now.ordered.now.order)
 
 pub returns-clause-piece : goal.returns-clause-piece
 returns-clause-piece g c =
