@@ -77,8 +77,13 @@ fn certificate_lines(alloc: Global, certificate: &Certificate) -> Result<Vec<u8>
     }
 }
 
-/// Returns how `board` stands, with the lines for it appended to `text`.
-pub(crate) fn ended<C: CountySet>(
+/// Returns how `board` stands, with the lines for it appended to `text`: `joined`, or which pieces wait. If no piece
+/// waits, it returns the text of the certificate to which the pieces join, too.
+///
+/// # Errors
+///
+/// Returns an error if memory was refused.
+pub fn ended<C: CountySet>(
     alloc: Global,
     board: &Board<C>,
     text: Vec<u8>,

@@ -20,6 +20,8 @@ mod taking;
 
 pub use answer_text::piece_text;
 pub use board_outcome::Shared;
-pub use proving::prove_waiting;
+pub use ending::ended;
+pub use opening::opened_board;
+pub use proving::{prove_waiting, waiting_state};
 pub use shape::BoardShape;
 pub use sharing::share;

@@ -14,8 +14,13 @@ use place_sets::CountySet;
 use share_board::{Board, BoardFault};
 use std::alloc::Global;
 
-/// Creates a board that no event has come to yet, with the order of ascending codes.
-pub(crate) fn opened_board<C: CountySet>(
+/// Creates a board that no event has come to yet, for the proof that `target` is best. Its order is that of ascending
+/// codes, and one event may cost `budget` steps.
+///
+/// # Errors
+///
+/// Returns the first fault that applies if there is no board. Returns `Memory` if memory was refused.
+pub fn opened_board<C: CountySet>(
     alloc: Global,
     problem: &Problem,
     target: &Grouping,

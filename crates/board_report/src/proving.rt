@@ -27,8 +27,13 @@ use std::alloc::{AllocError, Global};
 /// The steps that an event may cost on the board of a piece.
 const PIECE_BUDGET: u64 = 10_000_000;
 
-/// Returns the state of the piece with this `number`, if it waits.
-fn waiting_state<C: CountySet>(
+/// Returns the state of the piece with this `number`, by places of the board's order. Returns `None` if the piece
+/// doesn't wait.
+///
+/// # Errors
+///
+/// Returns an error if memory was refused.
+pub fn waiting_state<C: CountySet>(
     alloc: Global,
     board: &Board<C>,
     number: u32,
