@@ -9,8 +9,12 @@
 //! The definitions stand in `specs/`.
 #![tactic(auto)]
 
+mod board_text;
+mod reading;
 mod round;
 mod writing;
 
+pub use board_text::BoardText;
+pub use reading::front_board_text;
 pub use round::RoundTold;
 pub use writing::push_round;
