@@ -1,0 +1,4 @@
+pub mod GroupLines
+pub mod GroupsFit
+pub mod FirstLines
+pub mod TextsBack

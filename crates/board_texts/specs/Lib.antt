@@ -1,0 +1,4 @@
+pub mod RoundText
+pub mod RoundReading
+pub mod BoardText
+pub mod TextValue

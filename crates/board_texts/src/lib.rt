@@ -1,0 +1,20 @@
+//! What a board says to its desks, written and read: the text of a round, and the texts of open pieces.
+//!
+//! ```
+//! push_round(&mut out, number, limit, &target)?;                  // round 1 4 2, group .., group ..
+//! let (text, length) = front_board_text(alloc, &out)?;            // the round, or an open piece
+//! let next = reader.next_text(alloc, &mut source)?;               // each text as soon as its last line has come
+//! ```
+//!
+//! The definitions stand in `specs/`.
+#![tactic(auto)]
+
+mod board_text;
+mod reading;
+mod round;
+mod writing;
+
+pub use board_text::BoardText;
+pub use reading::front_board_text;
+pub use round::RoundTold;
+pub use writing::push_round;
