@@ -87,7 +87,7 @@ round_lines_back round rest text has is =
     ∙ ap (round_with first) (groups_back (length round.target) 2 round.target rest refl has.each)))
 
 -- the form that the first word names
-abbrev by_form : List RawLine → Bool → Result BoardTextTold TextFault
+abbrev pub by_form : List RawLine → Bool → Result BoardTextTold TextFault
 by_form lines b = if b then in_form Round (round_from lines) else in_form Open (piece_from lines)
 
 pub text_back : (told : BoardTextTold) (rest text : List ℕ) → HasBoardText told → text ≡ text_of told ++ rest → text_in text ≡ Ok told

@@ -2,3 +2,4 @@ pub mod RoundText
 pub mod RoundReading
 pub mod BoardText
 pub mod TextValue
+pub mod Coming

@@ -12,9 +12,11 @@
 mod board_text;
 mod reading;
 mod round;
+mod text_reader;
 mod writing;
 
 pub use board_text::BoardText;
 pub use reading::front_board_text;
 pub use round::RoundTold;
+pub use text_reader::BoardTextReader;
 pub use writing::push_round;
