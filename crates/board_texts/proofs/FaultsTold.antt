@@ -1,9 +1,9 @@
 -- The first fault of the lines at the front of a text: where it stands, of which kinds it is, and that it stays.
-use Rattle.std.proofs.Common.{◌≡◌, ℕ, zero, suc, ◌+◌, ◌≤◌, Bool, true, false, List, [], ◌∷◌, ◌++◌, codes, drop, length, Result, Ok, Err, refl, sym, ap, subst, ◌∙◌, arith, if◌then◌else◌}
+use Rattle.std.proofs.Common.{◌≡◌, ℕ, zero, suc, ◌+◌, ◌≤◌, Bool, true, false, List, [], ◌∷◌, ◌++◌, codes, drop, length, Result, Ok, Err, refl, ap, subst, ◌∙◌, arith}
 use Rattle.field_lines.specs.RawPieces.{RawLine}
 use Rattle.county_codes.specs.declared.group.Group.{Group}
 use Rattle.grouping_laws.specs.Grouping.{Grouping}
-use Rattle.certificate_lines.specs.Items.{by_words, seen}
+use Rattle.certificate_lines.specs.Items.{by_words}
 use Rattle.certificate_lines.specs.Lines.{most, begins, named, counted, number_at, code_word_at, each, group_on}
 use Rattle.certificate_lines.specs.Rest.{text_fault_at}
 use Rattle.certificate_lines.specs.Words.{code}
@@ -14,11 +14,10 @@ use Rattle.certificate_lines.proofs.LineKinds.{OfLine, Said, cond_said, bind_sai
 use Rattle.piece_states.specs.declared.line.ToldLine.{ToldLine}
 use Rattle.piece_states.specs.declared.line.ToldLine.TheVariants.{Closed, Least, End}
 use Rattle.piece_states.specs.Told.{Asked, Told}
-use Rattle.piece_states.specs.PieceValue.{PieceTold, asked_of}
+use Rattle.piece_states.specs.PieceValue.{asked_of}
 use Rattle.piece_states.specs.TextLines.{greatest, greatest_size, open_on, closed_on, least_on, told_on}
-use Rattle.piece_states.specs.Reading.{told_behind, told_with, told_from, piece_with, piece_from}
+use Rattle.piece_states.specs.Reading.{told_behind, told_from, piece_with, piece_from}
 use Rattle.piece_states.proofs.ReadSteps.{told_by_line}
-use Rattle.board_texts.specs.RoundText.{RoundTold}
 use Rattle.board_texts.specs.RoundReading.{round_on, groups_before, groups_from, round_with, round_from}
 use Rattle.board_texts.specs.BoardText.{BoardTextTold, Round, Open, names_round, in_form, text_from}
 use Rattle.board_texts.proofs.GroupLines.{groups_by_line}

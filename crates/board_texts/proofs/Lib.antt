@@ -6,3 +6,5 @@ pub mod FaultsTold
 pub mod WholeLines
 pub mod ComingLaws
 pub mod FrontOnly
+pub mod TextLaws
+pub mod Examples

@@ -3,3 +3,5 @@ pub mod RoundReading
 pub mod BoardText
 pub mod TextValue
 pub mod Coming
+pub mod Laws
+pub mod Examples

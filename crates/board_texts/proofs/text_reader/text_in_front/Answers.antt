@@ -1,6 +1,5 @@
-use Rattle.std.proofs.Common.{◌≡◌, take, length, sym, ap, ◌∙◌, arith, length-take}
+use Rattle.std.proofs.Common.{◌≡◌, take, length, sym, ◌∙◌, arith, length-take}
 use Rattle.certificate_lines.specs.declared.fault.TextKind.TheVariants.{CutShort, Memory}
-use Rattle.board_texts.specs.Coming.{BeginsWithText}
 use Rattle.board_texts.proofs.ComingLaws.{held_fault, no_read_fault}
 use Rattle.board_texts.proofs.FrontOnly.{in_lines, none_empty}
 use Rattle.board_texts.proofs.text_reader.text_in_front.Goals as goal
