@@ -7,7 +7,7 @@ use Rattle.county_codes.specs.declared.group.Group.{Group}
 use Rattle.grouping_laws.specs.Grouping.{Grouping}
 use Rattle.certificate_lines.specs.Items.{by_words, seen}
 use Rattle.certificate_lines.specs.Lines.{group_on}
-use Rattle.certificate_lines.specs.Rest.{Rest, lines_of, text_fault_at, TakesTextLine, FaultOf, IsTextMemory}
+use Rattle.certificate_lines.specs.Rest.{Rest, lines_of, text_fault_at, TakesTextLine, FaultOf}
 use Rattle.certificate_lines.specs.Spelling.{item_line, text_of_items}
 use Rattle.certificate_lines.specs.declared.fault.TextFault.{TextFault}
 use Rattle.certificate_lines.specs.declared.fault.TextKind.{TextKind}

@@ -1,6 +1,5 @@
-use Rattle.std.proofs.Common.{take}
 use Rattle.piece_states.proofs.ToldBack.{only_read}
-use Rattle.board_texts.specs.BoardText.{text_of, text_in}
+use Rattle.board_texts.specs.BoardText.{text_in}
 use Rattle.board_texts.specs.TextValue.{told_of}
 use Rattle.board_texts.proofs.TextsBack.{text_back, some_read}
 use Rattle.board_texts.proofs.reading.front_board_text.Goals as goal
