@@ -24,17 +24,23 @@ abbrev pub IsAnswerAt : Problem → Round → State → (number piece : ℕ) →
 IsAnswerAt p round s number piece text =
     (answer : Piece) × IsPiece p round s answer × (text ≡ piece_text_of number piece answer)
 
+-- the text for a piece of a round, exactly where what is told of the piece is a state of the round
+abbrev pub IsAnswerIn : Problem → Round → PieceTold → Option (List ℕ) → Type 0
+IsAnswerIn p round piece None = ¬ IsTold p round.order round piece.told
+IsAnswerIn p round piece (Some text) =
+    IsTold p round.order round piece.told
+    × IsAnswerAt p round (state_told p piece.told) piece.round piece.piece text
+
+-- the text for a piece, exactly where it can be proved
+abbrev pub IsAnswerIfAny : Problem → Option RoundTold → PieceTold → Option (List ℕ) → Type 0
+IsAnswerIfAny p last piece None = ¬ CanProve p last piece
+IsAnswerIfAny p last piece (Some text) =
+    (can : CanProve p last piece)
+    × IsAnswerAt p (round_told p can.told) (state_told p piece.told) piece.round piece.piece text
+
 -- what is said of a piece: the solver's answer at the state that is told, or that there is no such piece
 abbrev pub IsAnswer : Problem → Option RoundTold → PieceTold → List ℕ → Type 0
 IsAnswer p last piece text =
     ((can : CanProve p last piece)
     × IsAnswerAt p (round_told p can.told) (state_told p piece.told) piece.round piece.piece text)
     ⊎ ((¬ CanProve p last piece) × (text ≡ codes "no such piece\n"))
-
--- what is said of a piece of a round: the solver's answer at the state that is told, if what is told is a state of the
--- round
-abbrev pub IsAnswerIn : {T : Type 0} → (T → List ℕ) → Problem → Round → PieceTold → Option T → Type 0
-IsAnswerIn bytes p round piece None = ¬ IsTold p round.order round piece.told
-IsAnswerIn bytes p round piece (Some text) =
-    IsTold p round.order round piece.told
-    × IsAnswerAt p round (state_told p piece.told) piece.round piece.piece (bytes text)
