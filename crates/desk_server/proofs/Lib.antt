@@ -1,1 +1,3 @@
 pub mod RoundsHeld
+pub mod Writes
+pub mod Tellings

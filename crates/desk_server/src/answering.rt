@@ -129,6 +129,7 @@ pub fn answer_piece<C: CountySet>(
     requires round { (last : Option RoundTold) × HoldsRound (graph_problem graph.now) last desk.old.last }
     ensures lists { AreListsOf C.test (place_problem graph.now) (graph_places graph.now) desk.new.lists }
     ensures last { desk.new.last ≡ desk.old.last }
+    ensures reader { desk.new.reader ≡ desk.old.reader }
     ensures answer { (last : Option RoundTold) → HoldsRound (graph_problem graph.now) last desk.old.last
         → IfOk result (λ text. IsAnswer (graph_problem graph.now) last (piece_of piece.now) text.items) }
 {
