@@ -6,7 +6,7 @@ ghost use Rattle.field_lines.specs.RawPieces.{is_lf};
 ghost use Rattle.certificate_lines.specs.Rest.{IsTextMemory};
 ghost use Rattle.certificate_lines.specs.declared.fault.TextKind.TheVariants.{CutShort, ReadFault, Memory};
 ghost use Rattle.board_texts.specs.BoardText.{text_of, HasBoardText};
-ghost use Rattle.board_texts.specs.TextValue.{told_of};
+ghost use Rattle.board_texts.specs.TextValue.{board_text_of};
 ghost use Rattle.board_texts.specs.Coming.{PullsOnto, BeginsWithText, HaveFault, is_read_kind};
 ghost use Rattle.std.specs.Result.{is_err};
 
@@ -82,8 +82,8 @@ fn text_in_front(
     ended: bool,
 ) -> Result<Option<(BoardText, usize)>, TextFault>
     ensures place { IfOk result (λ found. IfSome found (λ r. r.1 ≤ length held.now)) }
-    ensures found { IfOk result (λ found. IfSome found (λ r. take r.1 held.now ≡ text_of (told_of r.0))) }
-    ensures spelled { IfOk result (λ found. IfSome found (λ r. HasBoardText (told_of r.0))) }
+    ensures found { IfOk result (λ found. IfSome found (λ r. take r.1 held.now ≡ text_of (board_text_of r.0))) }
+    ensures spelled { IfOk result (λ found. IfSome found (λ r. HasBoardText (board_text_of r.0))) }
     ensures none { IfOk result (λ found. found ≡ None → ended ≡ true → held.now ≡ []) }
     ensures waits { IfOk result (λ found. found ≡ None → BeginsWithText held.now → ⊥) }
     ensures only { IfErr result (λ f. BeginsWithText held.now → IsTextMemory f) }
