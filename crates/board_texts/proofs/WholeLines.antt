@@ -12,10 +12,6 @@ use Rattle.certificate_lines.specs.Spelling.{item_line, item_words, text_of_item
 use Rattle.certificate_lines.specs.declared.item.Item.{Item}
 use Rattle.board_texts.specs.Coming.{PullsOnto}
 
--- nothing was pulled
-pub pulls_none : (given : Given) (held : List ℕ) → PullsOnto given given held held
-pulls_none given held = record { pulled = []; given = sym (append-nil given.bytes); text_is = sym (append-nil held) }
-
 -- one pull behind another
 pub pulls_more : (before mid after : Given) (held text more : List ℕ) → PullsOnto before mid held text → PullsOnto mid after text more → PullsOnto before after held more
 pulls_more before mid after held text more p q = record {

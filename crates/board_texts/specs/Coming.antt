@@ -10,7 +10,7 @@ use Rattle.certificate_lines.specs.declared.fault.TextKind.TheVariants.{ReadFaul
 use Rattle.certificate_lines.specs.declared.fault.TextFault.{TextFault}
 use Rattle.board_texts.specs.declared.board_text.BoardText.{BoardText}
 use Rattle.board_texts.specs.BoardText.{BoardTextTold, text_of, HasBoardText, text_in}
-use Rattle.board_texts.specs.TextValue.{told_of}
+use Rattle.board_texts.specs.TextValue.{board_text_of}
 
 -- bytes that were pulled and are of no text that was read, and the number of lines in front of them
 pub record Held : Type 0 where
@@ -58,7 +58,7 @@ pub record TellsFault (old : Held) (ended : Bool) (fault : TextFault) (new : Hel
 
 -- What is answered of the bytes that are held: the text at their front, the end where there are none, or a fault.
 abbrev pub IsNext : Held → Bool → Result (Option BoardText) TextFault → Held → Type 0
-IsNext old ended (Ok (Some text)) new = TakesText old (told_of text) new
+IsNext old ended (Ok (Some text)) new = TakesText old (board_text_of text) new
 IsNext old ended (Ok None) new = (ended ≡ true) × (old.bytes ≡ []) × (new ≡ old)
 IsNext old ended (Err fault) new = TellsFault old ended fault new
 

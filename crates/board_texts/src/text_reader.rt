@@ -1,12 +1,12 @@
 //! Texts of a board that are pulled from a source one after the other, as they come.
 
-ghost use Rattle.std.specs.Prelude.{◌≡◌, ◌==◌, ◌+◌, ◌<◌, ◌≤◌, ◌-◌, ◌^◌, ◌⊎◌, ℕ, List, true, false, [], None, take};
+ghost use Rattle.std.specs.Prelude.{◌≡◌, ◌==◌, ◌+◌, ◌<◌, ◌≤◌, ◌-◌, ◌^◌, ◌⊎◌, ℕ, true, false, [], None, take};
 ghost use Rattle.std.specs.Prelude.{length, get_or, filter, IfOk, IfErr, IfSome, OnOk, OnErr, slice_range, ◌++◌};
 ghost use Rattle.field_lines.specs.RawPieces.{is_lf};
 ghost use Rattle.certificate_lines.specs.Rest.{IsTextMemory};
 ghost use Rattle.certificate_lines.specs.declared.fault.TextKind.TheVariants.{CutShort, ReadFault, Memory};
 ghost use Rattle.board_texts.specs.BoardText.{text_of, HasBoardText};
-ghost use Rattle.board_texts.specs.TextValue.{told_of};
+ghost use Rattle.board_texts.specs.TextValue.{board_text_of};
 ghost use Rattle.board_texts.specs.Coming.{PullsOnto, BeginsWithText, HaveFault, is_read_kind};
 ghost use Rattle.std.specs.Result.{is_err};
 
@@ -82,8 +82,8 @@ fn text_in_front(
     ended: bool,
 ) -> Result<Option<(BoardText, usize)>, TextFault>
     ensures place { IfOk result (λ found. IfSome found (λ r. r.1 ≤ length held.now)) }
-    ensures found { IfOk result (λ found. IfSome found (λ r. take r.1 held.now ≡ text_of (told_of r.0))) }
-    ensures spelled { IfOk result (λ found. IfSome found (λ r. HasBoardText (told_of r.0))) }
+    ensures found { IfOk result (λ found. IfSome found (λ r. take r.1 held.now ≡ text_of (board_text_of r.0))) }
+    ensures spelled { IfOk result (λ found. IfSome found (λ r. HasBoardText (board_text_of r.0))) }
     ensures none { IfOk result (λ found. found ≡ None → ended ≡ true → held.now ≡ []) }
     ensures waits { IfOk result (λ found. found ≡ None → BeginsWithText held.now → ⊥) }
     ensures only { IfErr result (λ f. BeginsWithText held.now → IsTextMemory f) }
@@ -114,7 +114,8 @@ fn pull_behind<S: Source>(
     requires { start < length buffer.old }
     ensures same { take start buffer.new ≡ take start buffer.old }
     ensures bound { IfOk result (λ n. start + n ≤ length buffer.new) }
-    ensures given { IfOk result (λ n. (S.given source.new).bytes ≡ (S.given source.old).bytes ++ slice_range buffer.new start (start + n)) }
+    ensures given { IfOk result (λ n. (S.given source.new).bytes
+        ≡ (S.given source.old).bytes ++ slice_range buffer.new start (start + n)) }
     ensures ended { IfOk result (λ n. (S.given source.new).ended ≡ (n == 0)) }
     ensures none { OnErr result (S.given source.new ≡ S.given source.old) }
     ensures failed { S.is_failed source.new ≡ is_err result }
@@ -132,7 +133,8 @@ fn pull_onto<S: Source>(held: &mut Vec<u8>, source: &mut S) -> Result<usize, Tex
     ensures ended { IfOk result (λ n. (S.given source.new).ended ≡ (n == 0)) }
     ensures refused { IfErr result (λ kind. (kind ≡ Memory) ⊎ (kind ≡ ReadFault)) }
     ensures sound { OnOk result (S.is_failed source.new ≡ false) }
-    ensures failed { IfErr result (λ kind. S.is_failed source.old ≡ false → S.is_failed source.new ≡ is_read_kind kind) }
+    ensures failed { IfErr result (λ kind. S.is_failed source.old ≡ false
+        → S.is_failed source.new ≡ is_read_kind kind) }
 {
     let start = held.len();
     if start > MOST_HELD {
@@ -185,7 +187,8 @@ impl BoardTextReader {
     fn take_front(&mut self, count: usize)
         requires { count ≤ length self.old.bytes }
         ensures bytes { self.new.bytes ≡ drop count self.old.bytes }
-        ensures lines { self.old.lines + lines_in (take count self.old.bytes) < 2 ^ 64 → self.new.lines ≡ self.old.lines + lines_in (take count self.old.bytes) }
+        ensures lines { self.old.lines + lines_in (take count self.old.bytes) < 2 ^ 64
+            → self.new.lines ≡ self.old.lines + lines_in (take count self.old.bytes) }
     {
         let more = lines_in(&self.held[..count]);
         self.lines = self.lines.saturating_add(more);

@@ -1,7 +1,7 @@
 use Rattle.std.proofs.Common.{◌≡◌, ◌≤◌, ◌++◌, ℕ, List, take, drop, length, inr, ap, sym, subst, ◌∙◌, arith, length-append}
 use Rattle.std.proofs.lemmas.List.{take-append-drop}
 use Rattle.board_texts.specs.BoardText.{text_of}
-use Rattle.board_texts.specs.TextValue.{told_of}
+use Rattle.board_texts.specs.TextValue.{board_text_of}
 use Rattle.board_texts.specs.Coming.{PullsOnto, BeginsWithText}
 use Rattle.board_texts.proofs.ComingLaws.{tells_fault}
 use Rattle.board_texts.proofs.FrontOnly.{came_by}
@@ -24,7 +24,7 @@ pub returns-in-Ok-Some-clause-prompt : goal.returns-in-Ok-Some-clause-prompt
 returns-in-Ok-Some-clause-prompt g c =
     let self = c.loop-text.self in
     let n = c.in-Ok-Some.length in
-    let told = told_of c.in-Ok-Some.text in
+    let told = board_text_of c.in-Ok-Some.text in
     let rest = c.take_front.new.self.bytes in
     let bytes : c.deref.result.now ≡ self.bytes = grind (arith, c.deref.ensures.value, c.self.view_is) in
     let found : take n c.deref.result.now ≡ text_of told = rw c.in-Ok-Some.field-0-is at c.in-Ok-Some.ensures.found in
