@@ -236,8 +236,8 @@ module _ {C : Type 0} (test : C → ℕ → Bool) (b : Content) (old now : Momen
   }
 
   -- at the end of the source
-  pub done_ended : (new : Moment C) → TakesNone now new (Ok None) → HasServed test b old new (Ok tt)
-  done_ended new none =
+  pub done_ended : (new : Moment C) → SomeWaits come.last → TakesNone now new (Ok None) → HasServed test b old new (Ok tt)
+  done_ended new some none =
       let left : Held = record { bytes = none.reads.bytes; lines = now.served.reader.lines } in
       record {
         text = come.text;
@@ -245,12 +245,12 @@ module _ {C : Type 0} (test : C → ℕ → Bool) (b : Content) (old now : Momen
         left = left;
         serves = pulled_there new.given none.reads.bytes none.reads.pulls;
         written = quiet_there new none.quiet;
-        ends = (record { is = subst (λ (z : Board C). IsOf test z come.last) (sym none.board) come.is; reader = none.reads.next.2 }, inr (inl (none.reads.next.0, none.reads.next.1)));
+        ends = (record { is = subst (λ (z : Board C). IsOf test z come.last) (sym none.board) come.is; reader = none.reads.next.2 }, inr (inl (some, none.reads.next.0, none.reads.next.1)));
       }
 
   -- at a fault
-  pub done_fault : (new : Moment C) (fault : TextFault) → TakesNone now new (Err fault) → HasServed test b old new (Err fault)
-  done_fault new fault none =
+  pub done_fault : (new : Moment C) (fault : TextFault) → SomeWaits come.last → TakesNone now new (Err fault) → HasServed test b old new (Err fault)
+  done_fault new fault some none =
       let left : Held = record { bytes = none.reads.bytes; lines = now.served.reader.lines } in
       record {
         text = come.text;
@@ -258,15 +258,15 @@ module _ {C : Type 0} (test : C → ℕ → Bool) (b : Content) (old now : Momen
         left = left;
         serves = pulled_there new.given none.reads.bytes none.reads.pulls;
         written = quiet_there new none.quiet;
-        ends = inl (
+        ends = (some, inl (
           record { is = subst (λ (z : Board C). IsOf test z come.last) (sym none.board) come.is; reader = none.reads.next.stays },
           tells_there left new.served.reader new.given.ended fault none.reads.next,
-        );
+        ));
       }
 
   -- where an event was taken and not told
-  pub done_untold : (new : Moment C) (fault : TextFault) → IsTextMemory fault → TakesOne test come.last now new → IsQuiet now new → HasServed test b old new (Err fault)
-  done_untold new fault memory took quiet =
+  pub done_untold : (new : Moment C) (fault : TextFault) → SomeWaits come.last → IsTextMemory fault → TakesOne test come.last now new → IsQuiet now new → HasServed test b old new (Err fault)
+  done_untold new fault some memory took quiet =
       let left : Held = record { bytes = took.reads.bytes; lines = now.served.reader.lines } in
       let event = event_of took.event in
       record {
@@ -275,7 +275,7 @@ module _ {C : Type 0} (test : C → ℕ → Bool) (b : Content) (old now : Momen
         left = left;
         serves = pulled_there new.given took.reads.bytes took.reads.pulls;
         written = quiet_there new quiet;
-        ends = inr (
+        ends = (some, inr (
           memory,
           record {
             event = event;
@@ -286,7 +286,7 @@ module _ {C : Type 0} (test : C → ℕ → Bool) (b : Content) (old now : Momen
             leads = leads_there event took.reply took.next took.leads;
             is = took.is;
           },
-        );
+        ));
       }
 
 -- what was kept twice is kept
@@ -307,12 +307,12 @@ module _ {C : Type 0} (test : C → ℕ → Bool) (b : Content) (old now new : M
   pub come_taken : (answer : Served) → answer ≡ Taken → SomeWaits come.last → ServesNext test come.last now new (Ok answer) → HasCome test b old new (count + 1)
   come_taken answer is some next = come_more test b old now count keeps come new some (subst (λ z. ServesNext test come.last now new (Ok z)) is next)
 
-  pub done_answer : (answer : Served) → answer ≡ Ended → ServesNext test come.last now new (Ok answer) → HasServed test b old new (Ok tt)
-  done_answer answer is next = done_ended test b old now count keeps come new (subst (λ z. ServesNext test come.last now new (Ok z)) is next)
+  pub done_answer : (answer : Served) → answer ≡ Ended → SomeWaits come.last → ServesNext test come.last now new (Ok answer) → HasServed test b old new (Ok tt)
+  done_answer answer is some next = done_ended test b old now count keeps come new some (subst (λ z. ServesNext test come.last now new (Ok z)) is next)
 
-  pub done_err : (fault : TextFault) → ServesNext test come.last now new (Err fault) → HasServed test b old new (Err fault)
-  done_err fault (inl none) = done_fault test b old now count keeps come new fault none
-  done_err fault (inr (memory, took, quiet)) = done_untold test b old now count keeps come new fault memory took quiet
+  pub done_err : (fault : TextFault) → SomeWaits come.last → ServesNext test come.last now new (Err fault) → HasServed test b old new (Err fault)
+  done_err fault some (inl none) = done_fault test b old now count keeps come new fault some none
+  done_err fault some (inr (memory, took, quiet)) = done_untold test b old now count keeps come new fault some memory took quiet
 
 -- the same order of the same problem
 pub ordered_there : {C : Type 0} (ordered : OrderedValue) (before later : ServedBoard C) → ordered ≡ record { problem = before.board.problem; order = before.board.round.order } → KeepsServed before later

@@ -51,7 +51,7 @@ returns-in_err-serve_next-clause-served g c = λ b is.
     let inv = c.loop-taken.invariant in
     let so = inv.come b is in
     let p = err_from_is_err_and c.from_residual.result c.from_residual.ensures.1 in
-    rw (p.1, p.2) (done_err g.C.CountySet.test b _ _ _ c.loop-taken._taken inv.keeps so c.in_err-serve_next.field-0.0 (c.in_err-serve_next.ensures.served so.last so.is))
+    rw (p.1, p.2) (done_err g.C.CountySet.test b _ _ _ c.loop-taken._taken inv.keeps so c.in_err-serve_next.field-0.0 (some_waits so.last c.left.result (c.left.ensures so.last so.is) c.if-left-eq0.false) (c.in_err-serve_next.ensures.served so.last so.is))
 
 pub returns-in_err-serve_next-clause-keeps : goal.returns-in_err-serve_next-clause-keeps
 returns-in_err-serve_next-clause-keeps g c = keeps_then c.args.served.now c.loop-taken.served c.serve_next.new.served c.loop-taken.invariant.keeps c.serve_next.ensures.keeps
@@ -65,7 +65,7 @@ pub returns-in-Ended-clause-served : goal.returns-in-Ended-clause-served
 returns-in-Ended-clause-served g c = λ b is.
     let inv = c.loop-taken.invariant in
     let so = inv.come b is in
-    done_answer g.C.CountySet.test b _ _ _ c.loop-taken._taken inv.keeps so c.in_ok-serve_next.field-0 c.in-Ended.is (c.in_ok-serve_next.ensures.served so.last so.is)
+    done_answer g.C.CountySet.test b _ _ _ c.loop-taken._taken inv.keeps so c.in_ok-serve_next.field-0 c.in-Ended.is (some_waits so.last c.left.result (c.left.ensures so.last so.is) c.if-left-eq0.false) (c.in_ok-serve_next.ensures.served so.last so.is)
 
 pub returns-in-Ended-clause-keeps : goal.returns-in-Ended-clause-keeps
 returns-in-Ended-clause-keeps g c = keeps_then c.args.served.now c.loop-taken.served c.serve_next.new.served c.loop-taken.invariant.keeps c.serve_next.ensures.keeps
