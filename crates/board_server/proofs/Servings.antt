@@ -1,10 +1,8 @@
 -- Events that are read, taken and told in turn.
-use Rattle.std.proofs.Common.{◌≡◌, ◌≢◌, ℕ, ◌+◌, ◌<◌, ◌^◌, Bool, List, [], ◌∷◌, ◌++◌, length, length-append, refl, sym, ap, ◌∙◌, subst, arith, append_assoc, append-nil, inl, inr, Ok, Err, Some, None}
-use Rattle.std.specs.List.{AllByRecursion}
+use Rattle.std.proofs.Common.{◌≡◌, ◌≢◌, ℕ, ◌+◌, Bool, List, [], ◌∷◌, ◌++◌, length, length-append, refl, sym, ap, ◌∙◌, subst, arith, append_assoc, append-nil, inl, inr, Ok, Err, None}
 use Rattle.std.proofs.lemmas.List.{flat_map_more}
 use Rattle.std.proofs.lemmas.List.Elements.{filter-append}
 use Rattle.place_sets.proofs.AllLists.{all_append}
-use Rattle.field_lines.specs.RawPieces.{is_lf}
 use Rattle.field_lines.specs.Source.{Given}
 use Rattle.grouping_laws.specs.Problem.{Problem}
 use Rattle.county_problem.specs.OrderedValue.{OrderedValue}
@@ -16,7 +14,7 @@ use Rattle.board_laws.specs.Skeleton.{waiting}
 use Rattle.board_laws.specs.Content.{Content, Event, Reply, Leads}
 use Rattle.share_board.specs.declared.board.Board.{Board}
 use Rattle.share_board.specs.Events.{event_of}
-use Rattle.share_board.specs.BoardValue.{IsOf, Keeps}
+use Rattle.share_board.specs.BoardValue.{IsOf}
 use Rattle.share_board.specs.Replies.{IsReply}
 use Rattle.board_events.specs.Coming.{Held, PullsOnto, TakesEvent, TellsFault, lines_in}
 use Rattle.board_events.specs.Replies.{reply_line}
@@ -28,7 +26,7 @@ use Rattle.board_server.specs.declared.served_board.ServedBoard.{ServedBoard}
 use Rattle.board_server.specs.declared.served_board.Served.{Served}
 use Rattle.board_server.specs.declared.served_board.Served.TheVariants.{Taken, Ended}
 use Rattle.board_server.specs.Served.{Moment, KeepsServed, IsQuiet, TakesNone, TakesOne, TellsOne, ServesNext}
-use Rattle.board_server.specs.Serving.{SomeWaits, TakesAndTells, ServesFrom, most_events, IsDone, IsThere, IsUntold, HasServed}
+use Rattle.board_server.specs.Serving.{SomeWaits, TakesAndTells, ServesFrom, IsDone, IsThere, HasServed}
 use Rattle.board_server.proofs.Writings.{written_none, written_then}
 
 -- no piece waits where the number of those that wait is 0
@@ -47,18 +45,16 @@ lines_behind a b = simp (filter-append, length-append)
 pub tells_more : (p : Problem) (depth budget : ℕ) (b c next : Content) (events : List Event) (replies : List Reply) (text : List ℕ) (event : Event) (reply : Reply) (said : List ℕ)
     → TakesAndTells p depth budget b events replies text c → SomeWaits c → IsReply p depth budget c event reply → Leads p depth c event reply next → IsSaidBehind p next reply said
     → TakesAndTells p depth budget b (events ++ event ∷ []) (replies ++ reply ∷ []) (text ++ (reply_line reply ++ said)) next
-tells_more p depth budget b c next [] [] text event reply said t some says leads behind =
-    (
-      subst SomeWaits t.1 some,
-      subst (λ z. IsReply p depth budget z event reply) t.1 says,
-      (next, said, [], subst (λ z. Leads p depth z event reply next) t.1 leads, behind, (refl, refl), ap (λ (z : List ℕ). z ++ (reply_line reply ++ said)) t.0 ∙ sym (append-nil (reply_line reply ++ said))),
-    )
+tells_more p depth budget b c next [] [] text event reply said t some says leads behind = (
+  subst SomeWaits t.1 some,
+  subst (λ z. IsReply p depth budget z event reply) t.1 says,
+  (next, said, [], subst (λ z. Leads p depth z event reply next) t.1 leads, behind, (refl, refl), ap (λ (z : List ℕ). z ++ (reply_line reply ++ said)) t.0 ∙ sym (append-nil (reply_line reply ++ said))),
+)
 tells_more p depth budget b c next [] (r ∷ replies) text event reply said t some says leads behind = absurd t
 tells_more p depth budget b c next (e ∷ events) [] text event reply said t some says leads behind = absurd t
 tells_more p depth budget b c next (e ∷ events) (r ∷ replies) text event reply said t some says leads behind =
     let new = reply_line reply ++ said in
-    let one = reply_line r ++ t.2.1 in
-    (
+    let one = reply_line r ++ t.2.1 in (
       t.0,
       t.1,
       (
@@ -215,7 +211,7 @@ module _ {C : Type 0} (test : C → ℕ → Bool) (b : Content) (old now : Momen
         is = took.is;
         many =
             ap (λ (z : List Event). length z)
-                (more_events old.served.format old.served.counties (problem_of board.problem) board.depth board.budget b old.served.reader old.given new.given come.text come.last left pulled event took.reply took.next one.1 new.served.reader some says leads behind taken)
+            (more_events old.served.format old.served.counties (problem_of board.problem) board.depth board.budget b old.served.reader old.given new.given come.text come.last left pulled event took.reply took.next one.1 new.served.reader some says leads behind taken)
             ∙ length-append pulled.events (event ∷ [])
             ∙ ap (λ (z : List Event). length z + 1) (pulled_events new.given bytes pulls)
             ∙ ap (λ (z : ℕ). z + 1) come.many;
@@ -258,10 +254,13 @@ module _ {C : Type 0} (test : C → ℕ → Bool) (b : Content) (old now : Momen
         left = left;
         serves = pulled_there new.given none.reads.bytes none.reads.pulls;
         written = quiet_there new none.quiet;
-        ends = (some, inl (
-          record { is = subst (λ (z : Board C). IsOf test z come.last) (sym none.board) come.is; reader = none.reads.next.stays },
-          tells_there left new.served.reader new.given.ended fault none.reads.next,
-        ));
+        ends = (
+          some,
+          inl (
+            record { is = subst (λ (z : Board C). IsOf test z come.last) (sym none.board) come.is; reader = none.reads.next.stays },
+            tells_there left new.served.reader new.given.ended fault none.reads.next,
+          ),
+        );
       }
 
   -- where an event was taken and not told
@@ -275,18 +274,21 @@ module _ {C : Type 0} (test : C → ℕ → Bool) (b : Content) (old now : Momen
         left = left;
         serves = pulled_there new.given took.reads.bytes took.reads.pulls;
         written = quiet_there new quiet;
-        ends = (some, inr (
-          memory,
-          record {
-            event = event;
-            takes = takes_there left new.served.reader event took.reads.next;
-            reply = took.reply;
-            says = says_there event took.reply took.says;
-            next = took.next;
-            leads = leads_there event took.reply took.next took.leads;
-            is = took.is;
-          },
-        ));
+        ends = (
+          some,
+          inr (
+            memory,
+            record {
+              event = event;
+              takes = takes_there left new.served.reader event took.reads.next;
+              reply = took.reply;
+              says = says_there event took.reply took.says;
+              next = took.next;
+              leads = leads_there event took.reply took.next took.leads;
+              is = took.is;
+            },
+          ),
+        );
       }
 
 -- what was kept twice is kept

@@ -1,11 +1,9 @@
-use Rattle.std.proofs.Common.{◌≡◌, ◌≤◌, length, Err, refl, sym, ap, ◌∙◌, subst, arith, inl, inr}
+use Rattle.std.proofs.Common.{◌≡◌, ◌≤◌, length, refl, sym, ◌∙◌, subst, arith, inl, inr}
 use Rattle.std.proofs.lemmas.Result.{err_from_is_err_and}
-use Rattle.county_problem.specs.OrderedValue.{OrderedValue}
-use Rattle.county_problem.specs.ProblemValue.{ProblemValue}
 use Rattle.certificate_lines.specs.Lines.{most}
 use Rattle.board_laws.specs.Skeleton.{waiting}
-use Rattle.board_server.specs.Serving.{HasServed, most_events}
-use Rattle.board_server.proofs.Servings.{HasCome, come_first, come_taken, none_waits, some_waits, done_here, done_answer, done_err, keeps_then, ordered_there}
+use Rattle.board_server.specs.Serving.{most_events}
+use Rattle.board_server.proofs.Servings.{come_first, come_taken, none_waits, some_waits, done_here, done_answer, done_err, keeps_then, ordered_there}
 use Rattle.board_server.proofs.serving.serve.Goals as goal
 
 pub loop-taken-init : goal.loop-taken-init
