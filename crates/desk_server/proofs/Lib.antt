@@ -1,4 +1,3 @@
 pub mod RoundsHeld
-pub mod Writes
 pub mod Tellings
 pub mod Underway

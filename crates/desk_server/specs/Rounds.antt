@@ -14,8 +14,8 @@ use Rattle.desk_server.specs.declared.desk.NumberedRound.{NumberedRound}
 abbrev pub round_told : Problem → RoundTold → Round
 round_told p told = round_by_code p told.target told.limit Wide
 
--- The numbers agree, and the round is the one that is told. Its limit and the codes of its counties are in the ranges of
--- their lines.
+-- The numbers agree, and the round is the one that is told. Its limit and the codes of its counties are in the ranges
+-- of their lines.
 pub record IsRoundHeld (p : Problem) (told : RoundTold) (held : NumberedRound) : Type 0 where
   pub number : held.number ≡ told.number
   pub round : round_of held.round ≡ round_told p told

@@ -5,7 +5,7 @@ use Rattle.field_lines.specs.Source.{Given}
 use Rattle.certificate_lines.specs.Rest.{IsTextMemory}
 use Rattle.certificate_lines.specs.declared.fault.TextFault.{TextFault}
 use Rattle.board_texts.specs.RoundText.{RoundTold}
-use Rattle.board_texts.specs.TextValue.{told_of}
+use Rattle.board_texts.specs.TextValue.{board_text_of}
 use Rattle.board_texts.specs.Coming.{ReadsNext, IsPrompt}
 use Rattle.board_texts.specs.declared.board_text.BoardText.{BoardText}
 use Rattle.board_server.specs.Saying.{IsWritten}
@@ -23,6 +23,10 @@ pub record Moment (C : Type 0) : Type 0 where
   pub contents : Option (List ℕ)
   pub failed : Bool
   pub cut : Bool
+
+abbrev pub moment : {C : Type 0} → Desk C → Given → Option (List ℕ) → (failed cut : Bool) → Moment C
+moment desk given contents failed cut =
+    record { desk = desk; given = given; contents = contents; failed = failed; cut = cut }
 
 -- the desk holds the round that it held, and nothing was written
 pub record IsQuiet {C : Type 0} (old new : Moment C) : Type 0 where
@@ -50,7 +54,7 @@ pub record Tells {C : Type 0} (p : Problem) (last : Option RoundTold) (text : Bo
   where
     pub said : List ℕ
     pub end : Option RoundTold
-    pub answers : AnswersTexts p last (told_of text ∷ []) said end
+    pub answers : AnswersTexts p last (board_text_of text ∷ []) said end
     pub holds : HoldsRound p end new.desk.last
     pub written : IsWritten old.cut new.cut old.contents new.contents old.failed new.failed said
 

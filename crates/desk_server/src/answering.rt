@@ -40,11 +40,12 @@ fn answer_state<C: CountySet>(
     requires small { round.now.limit ≤ most_counties }
     requires codes { HasFiveDigits (graph_problem graph.now) }
     requires placed { IsPlaced (graph_places graph.now) C.test state.now }
-    requires state { IsState (graph_problem graph.now) (round_of round.now) (state_at (graph_order graph.now) C.test state.now) }
+    requires state { IsState (graph_problem graph.now) (round_of round.now)
+        (state_at (graph_order graph.now) C.test state.now) }
     requires lists { AreListsOf C.test (place_problem graph.now) (graph_places graph.now) lists.old }
     ensures lists { AreListsOf C.test (place_problem graph.now) (graph_places graph.now) lists.new }
-    ensures answer { IfOk result (λ text. IsAnswerAt (graph_problem graph.now) (round_of round.now) (state_at (graph_order graph.now) C.test state.now)
-        piece.now.round piece.now.piece text.items) }
+    ensures answer { IfOk result (λ text. IsAnswerAt (graph_problem graph.now) (round_of round.now)
+        (state_at (graph_order graph.now) C.test state.now) piece.now.round piece.now.piece text.items) }
 {
     let mut steps = Steps::new(steps);
     let counties = graph.ordered.places();
@@ -74,7 +75,8 @@ fn answer_in<C: CountySet>(
     requires codes { HasFiveDigits (graph_problem graph.now) }
     requires lists { AreListsOf C.test (place_problem graph.now) (graph_places graph.now) lists.old }
     ensures lists { AreListsOf C.test (place_problem graph.now) (graph_places graph.now) lists.new }
-    ensures answer { IfOk result (λ found. IsAnswerIn (graph_problem graph.now) (round_of round.now) (piece_of piece.now) (option_map (λ t. t.items) found)) }
+    ensures answer { IfOk result (λ found. IsAnswerIn (graph_problem graph.now) (round_of round.now)
+        (piece_of piece.now) (option_map (λ t. t.items) found)) }
 {
     let Some(state) = told_state(graph, round, piece)? else {
         return Ok(None);
@@ -98,7 +100,8 @@ fn answer_if_any<C: CountySet>(
     requires round { (told : Option RoundTold) × HoldsRound (graph_problem graph.now) told last.now }
     ensures lists { AreListsOf C.test (place_problem graph.now) (graph_places graph.now) lists.new }
     ensures answer { (told : Option RoundTold) → HoldsRound (graph_problem graph.now) told last.now
-        → IfOk result (λ found. IsAnswerIfAny (graph_problem graph.now) told (piece_of piece.now) (option_map (λ t. t.items) found)) }
+        → IfOk result (λ found. IsAnswerIfAny (graph_problem graph.now) told (piece_of piece.now)
+        (option_map (λ t. t.items) found)) }
 {
     match last {
         Some(last) if last.number == piece.round => {
@@ -108,8 +111,8 @@ fn answer_if_any<C: CountySet>(
     }
 }
 
-/// Returns what is said of an open `piece`. It is the solver's answer within `steps` steps at the state that is told, or
-/// `no such piece` if the piece isn't one of the round that was told last.
+/// Returns what is said of an open `piece`. It is the solver's answer at the state that is told, within `steps` steps,
+/// or `no such piece` if the piece isn't one of the round that was told last.
 ///
 /// The `graph` has its counties by ascending codes. It is the same at each call.
 ///

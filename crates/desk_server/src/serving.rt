@@ -6,10 +6,10 @@ ghost use Rattle.connected_sets.specs.Graphs.{graph_order, graph_places, graph_p
 ghost use Rattle.search_groups.specs.PartLists.{AreListsOf};
 ghost use Rattle.board_texts.specs.RoundText.{RoundTold};
 ghost use Rattle.board_texts.specs.BoardText.{HasBoardText};
-ghost use Rattle.board_texts.specs.TextValue.{told_of};
+ghost use Rattle.board_texts.specs.TextValue.{board_text_of};
 ghost use Rattle.board_texts.specs.Coming.{is_read_fault};
 ghost use Rattle.desk_server.specs.Rounds.{HoldsRound};
-ghost use Rattle.desk_server.specs.Taking.{IsQuiet, Tells, TakesNext};
+ghost use Rattle.desk_server.specs.Taking.{moment, IsQuiet, Tells, TakesNext};
 ghost use Rattle.desk_server.specs.Serving.{HasAnswered};
 
 use crate::answering::answer_piece;
@@ -42,16 +42,16 @@ fn take_text<C: CountySet, W: Sink>(
     requires order { graph_order graph.now ≡ (graph_problem graph.now).counties }
     requires lists { AreListsOf C.test (place_problem graph.now) (graph_places graph.now) desk.old.lists }
     requires round { (last : Option RoundTold) × HoldsRound (graph_problem graph.now) last desk.old.last }
-    requires spelled { HasBoardText (told_of text) }
+    requires spelled { HasBoardText (board_text_of text) }
     ensures lists { AreListsOf C.test (place_problem graph.now) (graph_places graph.now) desk.new.lists }
     ensures reader { desk.new.reader ≡ desk.old.reader }
-    ensures tells { (last : Option RoundTold) → HoldsRound (graph_problem graph.now) last desk.old.last → (from : Given) → (to : Given)
-        → OnOk result (Tells (graph_problem graph.now) last text
-        (record { desk = desk.old; given = from; contents = W.contents out.old; failed = W.is_failed out.old; cut = is_cut.old })
-        (record { desk = desk.new; given = to; contents = W.contents out.new; failed = W.is_failed out.new; cut = is_cut.new })) }
+    ensures tells { (last : Option RoundTold) → HoldsRound (graph_problem graph.now) last desk.old.last
+        → (from : Given) → (to : Given) → OnOk result (Tells (graph_problem graph.now) last text
+        (moment desk.old from (W.contents out.old) (W.is_failed out.old) is_cut.old)
+        (moment desk.new to (W.contents out.new) (W.is_failed out.new) is_cut.new)) }
     ensures quiet { (from : Given) → (to : Given) → OnErr result (IsQuiet
-        (record { desk = desk.old; given = from; contents = W.contents out.old; failed = W.is_failed out.old; cut = is_cut.old })
-        (record { desk = desk.new; given = to; contents = W.contents out.new; failed = W.is_failed out.new; cut = is_cut.new })) }
+        (moment desk.old from (W.contents out.old) (W.is_failed out.old) is_cut.old)
+        (moment desk.new to (W.contents out.new) (W.is_failed out.new) is_cut.new)) }
 {
     match text {
         BoardText::Round(told) => {
@@ -91,8 +91,8 @@ pub fn answer_next<C: CountySet, S: Source, W: Sink>(
     ensures lists { AreListsOf C.test (place_problem graph.now) (graph_places graph.now) desk.new.lists }
     ensures takes { (last : Option RoundTold) → HoldsRound (graph_problem graph.now) last desk.old.last
         → TakesNext (graph_problem graph.now) last
-        (record { desk = desk.old; given = S.given source.old; contents = W.contents out.old; failed = W.is_failed out.old; cut = is_cut.old })
-        (record { desk = desk.new; given = S.given source.new; contents = W.contents out.new; failed = W.is_failed out.new; cut = is_cut.new })
+        (moment desk.old (S.given source.old) (W.contents out.old) (W.is_failed out.old) is_cut.old)
+        (moment desk.new (S.given source.new) (W.contents out.new) (W.is_failed out.new) is_cut.new)
         result }
     // `ReadFault` comes exactly if the source fails, unless it had failed before.
     ensures failed { S.is_failed source.old ≡ false → S.is_failed source.new ≡ is_read_fault result }
@@ -136,8 +136,8 @@ pub fn answer_all<C: CountySet, S: Source, W: Sink>(
     ensures lists { AreListsOf C.test (place_problem graph.now) (graph_places graph.now) desk.new.lists }
     ensures answered { (last : Option RoundTold) → HoldsRound (graph_problem graph.now) last desk.old.last
         → HasAnswered (graph_problem graph.now) last
-        (record { desk = desk.old; given = S.given source.old; contents = W.contents out.old; failed = W.is_failed out.old; cut = is_cut.old })
-        (record { desk = desk.new; given = S.given source.new; contents = W.contents out.new; failed = W.is_failed out.new; cut = is_cut.new })
+        (moment desk.old (S.given source.old) (W.contents out.old) (W.is_failed out.old) is_cut.old)
+        (moment desk.new (S.given source.new) (W.contents out.new) (W.is_failed out.new) is_cut.new)
         result }
     // `ReadFault` comes exactly if the source fails, unless it had failed before.
     ensures failed { S.is_failed source.old ≡ false → S.is_failed source.new ≡ is_read_fault result }

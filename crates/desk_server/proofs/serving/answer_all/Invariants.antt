@@ -3,6 +3,7 @@ use Rattle.connected_sets.specs.Graphs.{graph_places, graph_problem, place_probl
 use Rattle.search_groups.specs.PartLists.{AreListsOf}
 use Rattle.board_texts.specs.RoundText.{RoundTold}
 use Rattle.desk_server.specs.Rounds.{HoldsRound}
+use Rattle.desk_server.specs.Taking.{moment}
 use Rattle.desk_server.proofs.Underway.{IsUnderway}
 use Rattle.desk_server.proofs.serving.answer_all.Given as goal
 
@@ -13,8 +14,8 @@ invariant-loop g l = record {
   holds : (last : Option RoundTold) × HoldsRound (graph_problem l.graph) last l.desk.last;
   underway : (last : Option RoundTold) → HoldsRound (graph_problem l.graph) last l.fn.desk.last
       → IsUnderway (graph_problem l.graph) last
-      (record { desk = l.fn.desk; given = g.S.Source.given l.fn.source; contents = g.W.Sink.contents l.fn.out; failed = g.W.Sink.is_failed l.fn.out; cut = l.fn.is_cut })
-      (record { desk = l.desk; given = g.S.Source.given l.source; contents = g.W.Sink.contents l.out; failed = g.W.Sink.is_failed l.out; cut = l.is_cut })
+      (moment l.fn.desk (g.S.Source.given l.fn.source) (g.W.Sink.contents l.fn.out) (g.W.Sink.is_failed l.fn.out) l.fn.is_cut)
+      (moment l.desk (g.S.Source.given l.source) (g.W.Sink.contents l.out) (g.W.Sink.is_failed l.out) l.is_cut)
       l.counter;
   sound : g.S.Source.is_failed l.fn.source ≡ false → g.S.Source.is_failed l.source ≡ false;
 }

@@ -2,14 +2,14 @@ use Rattle.std.proofs.Common.{ℕ, List, sym, subst}
 use Rattle.connected_sets.specs.Graphs.{graph_problem}
 use Rattle.board_server.specs.Saying.{IsWritten}
 use Rattle.desk_server.specs.Rounds.{HoldsRound}
-use Rattle.desk_server.proofs.Writes.{none_written}
+use Rattle.board_server.proofs.Writings.{written_none}
 use Rattle.desk_server.proofs.Tellings.{round_tells, piece_tells}
 use Rattle.desk_server.proofs.serving.take_text.Goals as goal
 
 pub returns-in_ok-numbered_round-in-Round-clause-tells : goal.returns-in_ok-numbered_round-in-Round-clause-tells
 returns-in_ok-numbered_round-in-Round-clause-tells g c = λ last holds from to.
     round_tells (graph_problem c.args.graph.now) last c.args.text _ _ c.in-Round.told c.in-Round.is c.in_ok-numbered_round-in-Round.ensures
-    (none_written c.args.is_cut.now (g.W.Sink.is_failed c.args.out.now) (g.W.Sink.contents c.args.out.now))
+    (written_none c.args.is_cut.now (g.W.Sink.contents c.args.out.now) (g.W.Sink.is_failed c.args.out.now))
 
 pub returns-in_ok-said-in-Open-clause-tells : goal.returns-in_ok-said-in-Open-clause-tells
 returns-in_ok-said-in-Open-clause-tells g c = λ last holds from to.
