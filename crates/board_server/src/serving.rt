@@ -46,7 +46,8 @@ fn text_behind<C: CountySet>(
     Ok(text)
 }
 
-/// Reads the next event from the `source`, takes it, and writes its reply to `out`. Each call is lent the same `source`.
+/// Reads the next event from the `source`, takes it, and writes its reply to `out`. Each call is lent the same
+/// `source`.
 ///
 /// The texts of the new pieces of a split are written behind its reply, and those of a new round and of its pieces
 /// behind that reply. Nothing is written once `is_cut` is set, and it is set if the write fails.
@@ -109,8 +110,10 @@ pub fn serve_next<C: CountySet, S: Source, W: Sink>(
 }
 
 /// Takes the events of the `source` in turn, each as soon as it has come, and writes its reply to `out` with what is
-/// said behind it. Returns once no piece waits, or at the end of the source. Also returns behind
-/// 18,446,744,073,709,551,615 events, for a call that goes on. Each call is lent the same `source`.
+/// said behind it. Each call is lent the same `source`.
+///
+/// Returns once no piece waits, and pulls nothing more then. Also returns at the end of the source, and behind
+/// 18,446,744,073,709,551,615 events.
 ///
 /// Nothing is written once `is_cut` is set, and it is set if a write fails. The events are taken all the same.
 ///
