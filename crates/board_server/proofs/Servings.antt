@@ -1,5 +1,5 @@
 -- Events that are read, taken and told in turn.
-use Rattle.std.proofs.Common.{◌≡◌, ◌≢◌, ℕ, ◌+◌, Bool, List, [], ◌∷◌, ◌++◌, length, length-append, refl, sym, ap, ◌∙◌, subst, arith, append_assoc, append-nil, inl, inr, Ok, Err, None}
+use Rattle.std.proofs.Common.{◌≡◌, ◌≢◌, ℕ, ◌+◌, ◌≤◌, ◌⊎◌, Bool, List, [], ◌∷◌, ◌++◌, length, length-append, refl, sym, ap, ◌∙◌, subst, arith, append_assoc, append-nil, inl, inr, Ok, Err, None}
 use Rattle.std.proofs.lemmas.List.{flat_map_more}
 use Rattle.std.proofs.lemmas.List.Elements.{filter-append}
 use Rattle.place_sets.proofs.AllLists.{all_append}
@@ -26,7 +26,7 @@ use Rattle.board_server.specs.declared.served_board.ServedBoard.{ServedBoard}
 use Rattle.board_server.specs.declared.served_board.Served.{Served}
 use Rattle.board_server.specs.declared.served_board.Served.TheVariants.{Taken, Ended}
 use Rattle.board_server.specs.Served.{Moment, KeepsServed, IsQuiet, TakesNone, TakesOne, TellsOne, ServesNext}
-use Rattle.board_server.specs.Serving.{SomeWaits, TakesAndTells, ServesFrom, IsDone, IsThere, HasServed}
+use Rattle.board_server.specs.Serving.{SomeWaits, TakesAndTells, ServesFrom, IsDone, IsThere, HasServed, HasFewBehind}
 use Rattle.board_server.proofs.Writings.{written_none, written_then}
 
 -- no piece waits where the number of those that wait is 0
@@ -128,6 +128,24 @@ module _ (format : Format) (counties : ℕ) (p : Problem) (depth budget : ℕ) (
     unfolding serves_more
     more_events event reply next said new some says leads behind taken = refl
 
+few_first : (held : List ℕ) → length held ≤ length held
+few_first held = omega arith
+
+-- the bytes behind an event that was read are few
+few_more : (held : List ℕ) (before after : Given) (old new bytes one : List ℕ) → PullsOnto before after old bytes → bytes ≡ one ++ new → (after ≡ before) ⊎ (length new ≤ 65536) → HasFewBehind held old → HasFewBehind held new
+few_more held before after old new bytes one pulls text (inr few) was = inl few
+few_more held before after old new bytes one pulls text (inl same) was = go was
+  where
+    none : length pulls.pulled ≡ 0
+    none = omega (arith, ap (λ (z : Given). length z.bytes) same, ap (λ (z : List ℕ). length z) pulls.given, length-append before.bytes pulls.pulled)
+
+    fewer : length new ≤ length old
+    fewer = omega (arith, none, ap (λ (z : List ℕ). length z) text, length-append one new, ap (λ (z : List ℕ). length z) pulls.text_is, length-append old pulls.pulled)
+
+    go : HasFewBehind held old → HasFewBehind held new
+    go (inl few) = inl (omega (arith, few, fewer))
+    go (inr few) = inr (omega (arith, few, fewer))
+
 -- so many events were read, taken and told
 pub record HasCome {C : Type 0} (test : C → ℕ → Bool) (b : Content) (old now : Moment C) (count : ℕ) : Type 0 where
   pub text : List ℕ
@@ -136,6 +154,7 @@ pub record HasCome {C : Type 0} (test : C → ℕ → Bool) (b : Content) (old n
   pub written : IsWritten old.cut now.cut old.contents now.contents old.failed now.failed text
   pub is : IsOf test now.served.board last
   pub many : length serves.events ≡ count
+  pub few : HasFewBehind old.served.reader.bytes now.served.reader.bytes
 
 pub come_first : {C : Type 0} (test : C → ℕ → Bool) (b : Content) (old : Moment C) → IsOf test old.served.board b → HasCome test b old old 0
 unfolding serves_none
@@ -146,6 +165,7 @@ come_first test b old is = record {
   written = written_none old.cut old.contents old.failed;
   is = is;
   many = refl;
+  few = inr (few_first old.served.reader.bytes);
 }
 
 module _ {C : Type 0} (test : C → ℕ → Bool) (b : Content) (old now : Moment C) (count : ℕ) (keeps : KeepsServed old.served now.served) (come : HasCome test b old now count) where
@@ -215,6 +235,7 @@ module _ {C : Type 0} (test : C → ℕ → Bool) (b : Content) (old now : Momen
             ∙ length-append pulled.events (event ∷ [])
             ∙ ap (λ (z : List Event). length z + 1) (pulled_events new.given bytes pulls)
             ∙ ap (λ (z : ℕ). z + 1) come.many;
+        few = few_more old.served.reader.bytes now.given new.given now.served.reader.bytes new.served.reader.bytes bytes (text_of_event event) pulls taken.text_is took.prompt come.few;
       }
 
   -- the events were told, and it ends where they led
@@ -229,6 +250,7 @@ module _ {C : Type 0} (test : C → ℕ → Bool) (b : Content) (old now : Momen
     serves = come.serves;
     written = come.written;
     ends = (there, subst (IsDone come.last now.given.ended now.served.reader.bytes) (sym come.many) done);
+    prompt = λ none. come.few;
   }
 
   -- at the end of the source
@@ -242,6 +264,7 @@ module _ {C : Type 0} (test : C → ℕ → Bool) (b : Content) (old now : Momen
         serves = pulled_there new.given none.reads.bytes none.reads.pulls;
         written = quiet_there new none.quiet;
         ends = (record { is = subst (λ (z : Board C). IsOf test z come.last) (sym none.board) come.is; reader = none.reads.next.2 }, inr (inl (some, none.reads.next.0, none.reads.next.1)));
+        prompt = λ gone. absurd (some gone);
       }
 
   -- at a fault
@@ -261,6 +284,7 @@ module _ {C : Type 0} (test : C → ℕ → Bool) (b : Content) (old now : Momen
             tells_there left new.served.reader new.given.ended fault none.reads.next,
           ),
         );
+        prompt = λ gone. absurd (some gone);
       }
 
   -- where an event was taken and not told
@@ -289,6 +313,7 @@ module _ {C : Type 0} (test : C → ℕ → Bool) (b : Content) (old now : Momen
             },
           ),
         );
+        prompt = λ gone. absurd (some gone);
       }
 
 -- what was kept twice is kept

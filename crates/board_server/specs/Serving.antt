@@ -1,5 +1,5 @@
 -- Events that are read from a source, and what is written in turn.
-use Rattle.std.specs.Prelude.{ℕ, ◌≡◌, ◌≢◌, ◌+◌, ◌<◌, ◌^◌, ◌⊎◌, Bool, true, List, [], ◌∷◌, ◌++◌, length, Result, Ok, Err}
+use Rattle.std.specs.Prelude.{ℕ, ◌≡◌, ◌≢◌, ◌+◌, ◌≤◌, ◌<◌, ◌^◌, ◌⊎◌, Bool, true, List, [], ◌∷◌, ◌++◌, length, Result, Ok, Err}
 use Rattle.std.specs.List.{AllByRecursion}
 use Rattle.grouping_laws.specs.Problem.{Problem}
 use Rattle.county_problem.specs.ProblemValue.{problem_of}
@@ -82,7 +82,11 @@ EndsBy test format counties p depth budget last left count new (Err fault) =
     × ((IsThere test last left new × TellsFault format counties left new.given.ended fault new.served.reader)
     ⊎ (IsTextMemory fault × IsUntold test format counties p depth budget last left new))
 
--- Events were read, taken and told, until it ended so.
+-- at most the bytes of one pull stand behind the events, unless more were held before
+abbrev pub HasFewBehind : (held left : List ℕ) → Type 0
+HasFewBehind held left = (length left ≤ 65536) ⊎ (length left ≤ length held)
+
+-- Events were read, taken and told, until it ended so. Nothing is pulled once no piece waits.
 pub record HasServed {C : Type 0} (test : C → ℕ → Bool) (b : Content) (old new : Moment C)
     (result : Result (Unit {0}) TextFault) : Type 0 where
   pub text : List ℕ
@@ -93,3 +97,4 @@ pub record HasServed {C : Type 0} (test : C → ℕ → Bool) (b : Content) (old
   pub written : IsWritten old.cut new.cut old.contents new.contents old.failed new.failed text
   pub ends : EndsBy test old.served.format old.served.counties (problem_of old.served.board.problem)
       old.served.board.depth old.served.board.budget last left (length serves.events) new result
+  pub prompt : waiting last.skeleton ≡ [] → HasFewBehind old.served.reader.bytes left.bytes

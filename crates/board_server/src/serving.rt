@@ -46,9 +46,11 @@ fn text_behind<C: CountySet>(
     Ok(text)
 }
 
-/// Reads the next event from the `source`, takes it, and writes its reply to `out`. What is said behind the reply is
-/// written with it: the text of each new piece of a split, or of a new round with its pieces. Each call is lent the
-/// same `source`. Nothing is written once `is_cut` is set, and it is set if the write fails.
+/// Reads the next event from the `source`, takes it, and writes its reply to `out`. Each call is lent the same
+/// `source`.
+///
+/// The texts of the new pieces of a split are written behind its reply, and those of a new round and of its pieces
+/// behind that reply. Nothing is written once `is_cut` is set, and it is set if the write fails.
 ///
 /// # Errors
 ///
@@ -67,10 +69,23 @@ pub fn serve_next<C: CountySet, S: Source, W: Sink>(
     requires fits { length served.old.board.round.order ≤ C.PLACES }
     requires lists { AreBoardLists C.test served.old.board served.old.lists }
     requires counties { served.old.counties ≤ most }
-    requires ordered { ordered.now ≡ record { problem = served.old.board.problem; order = served.old.board.round.order } }
+    requires ordered { ordered.now
+        ≡ record { problem = served.old.board.problem; order = served.old.board.round.order } }
     ensures served { (b : Content) → IsOf C.test served.old.board b → ServesNext C.test b
-        (record { served = served.old; given = S.given source.old; contents = W.contents out.old; failed = W.is_failed out.old; cut = is_cut.old })
-        (record { served = served.new; given = S.given source.new; contents = W.contents out.new; failed = W.is_failed out.new; cut = is_cut.new })
+        (record {
+          served = served.old;
+          given = S.given source.old;
+          contents = W.contents out.old;
+          failed = W.is_failed out.old;
+          cut = is_cut.old;
+        })
+        (record {
+          served = served.new;
+          given = S.given source.new;
+          contents = W.contents out.new;
+          failed = W.is_failed out.new;
+          cut = is_cut.new;
+        })
         result }
     ensures keeps { KeepsServed served.old served.new }
     ensures lists { AreBoardLists C.test served.new.board served.new.lists }
@@ -95,7 +110,10 @@ pub fn serve_next<C: CountySet, S: Source, W: Sink>(
 }
 
 /// Takes the events of the `source` in turn, each as soon as it has come, and writes its reply to `out` with what is
-/// said behind it. Returns once no piece waits, or at the end of the source. Each call is lent the same `source`.
+/// said behind it. Each call is lent the same `source`.
+///
+/// Returns once no piece waits, and pulls nothing more then. Also returns at the end of the source, and behind
+/// 18,446,744,073,709,551,615 events.
 ///
 /// Nothing is written once `is_cut` is set, and it is set if a write fails. The events are taken all the same.
 ///
@@ -116,10 +134,23 @@ pub fn serve<C: CountySet, S: Source, W: Sink>(
     requires fits { length served.old.board.round.order ≤ C.PLACES }
     requires lists { AreBoardLists C.test served.old.board served.old.lists }
     requires counties { served.old.counties ≤ most }
-    requires ordered { ordered.now ≡ record { problem = served.old.board.problem; order = served.old.board.round.order } }
+    requires ordered { ordered.now
+        ≡ record { problem = served.old.board.problem; order = served.old.board.round.order } }
     ensures served { (b : Content) → IsOf C.test served.old.board b → HasServed C.test b
-        (record { served = served.old; given = S.given source.old; contents = W.contents out.old; failed = W.is_failed out.old; cut = is_cut.old })
-        (record { served = served.new; given = S.given source.new; contents = W.contents out.new; failed = W.is_failed out.new; cut = is_cut.new })
+        (record {
+          served = served.old;
+          given = S.given source.old;
+          contents = W.contents out.old;
+          failed = W.is_failed out.old;
+          cut = is_cut.old;
+        })
+        (record {
+          served = served.new;
+          given = S.given source.new;
+          contents = W.contents out.new;
+          failed = W.is_failed out.new;
+          cut = is_cut.new;
+        })
         result }
     ensures keeps { KeepsServed served.old served.new }
     ensures lists { AreBoardLists C.test served.new.board served.new.lists }

@@ -5,7 +5,8 @@ ghost use Rattle.std.specs.List.{range_with_len};
 ghost use Rattle.county_problem.specs.ProblemValue.{problem_of};
 ghost use Rattle.board_laws.specs.Content.{Content};
 ghost use Rattle.share_board.specs.BoardValue.{IsOf, reply_of};
-ghost use Rattle.board_server.specs.Telling.{IsToldIfWaiting, ArePiecesTold, IsRoundTold, IsSaidBehind, HasSmallNumbers};
+ghost use Rattle.board_server.specs.Telling.{IsToldIfWaiting, ArePiecesTold, IsRoundTold, IsSaidBehind};
+ghost use Rattle.board_server.specs.Telling.{HasSmallNumbers};
 
 use board_report::waiting_state;
 use board_texts::push_round;
