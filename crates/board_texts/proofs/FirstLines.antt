@@ -1,9 +1,8 @@
 -- The first line of a round, read and read back.
-use Rattle.std.proofs.Common.{◌≡◌, ℕ, ◌+◌, ◌*◌, ◌<◌, ◌≤◌, ◌^◌, true, List, [], ◌∷◌, ◌++◌, length, codes, Ok, refl, sym, ap, subst, ◌∙◌, arith, lit<, length-append}
+use Rattle.std.proofs.Common.{◌≡◌, ℕ, ◌<◌, ◌≤◌, ◌^◌, true, List, [], ◌∷◌, ◌++◌, length, codes, Ok, refl, sym, ap, subst, ◌∙◌, arith, lit<, length-append}
 use Rattle.std.specs.Fmt.{decimal}
 use Rattle.std.specs.List.{AllByRecursion, join_with_byte}
 use Rattle.std.proofs.lemmas.Fmt.{decimal_nonempty, length-decimal-le}
-use Rattle.field_lines.specs.Chain.{◌>>=◌}
 use Rattle.field_lines.specs.Fault.{most_bytes}
 use Rattle.field_lines.specs.RawPieces.{RawLine, bytes_of}
 use Rattle.field_lines.proofs.NumbersBack.{decimal_digits}

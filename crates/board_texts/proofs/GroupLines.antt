@@ -7,7 +7,7 @@ use Rattle.county_codes.specs.declared.group.Group.{Group}
 use Rattle.grouping_laws.specs.Grouping.{Grouping}
 use Rattle.certificate_lines.specs.Items.{by_words, seen}
 use Rattle.certificate_lines.specs.Lines.{group_on}
-use Rattle.certificate_lines.specs.Rest.{Rest, lines_of, text_fault_at, TakesTextLine, FaultOf, IsTextMemory}
+use Rattle.certificate_lines.specs.Rest.{Rest, lines_of, text_fault_at, TakesTextLine, FaultOf}
 use Rattle.certificate_lines.specs.Spelling.{item_line, text_of_items}
 use Rattle.certificate_lines.specs.declared.fault.TextFault.{TextFault}
 use Rattle.certificate_lines.specs.declared.fault.TextKind.{TextKind}
@@ -27,18 +27,6 @@ groups_by_line left n pieces r = elim r as (λ _. Result Grouping TextFault) [
 pub record GroupsRead (count : ℕ) (start : Rest) (groups : Grouping) (left : ℕ) (rest : Rest) : Type 0 where
   pub gives : groups_from count start.number (lines_of start) ≡ groups_before groups (groups_from left rest.number (lines_of rest))
   pub text : start.text ≡ text_of_items (map Grouped groups) ++ rest.text
-
-before_none : (r : Result Grouping TextFault) → r ≡ groups_before [] r
-before_none (Ok groups) = refl
-before_none (Err fault) = refl
-
-pub groups_start : (count : ℕ) (start : Rest) (groups : Grouping) → groups ≡ [] → GroupsRead count start groups (count - 0) start
-groups_start count start groups none =
-    let same : count ≡ count - 0 = omega arith in
-    rw none (record {
-      gives = ap (λ k. groups_from k start.number (lines_of start)) same ∙ before_none (groups_from (count - 0) start.number (lines_of start));
-      text = refl;
-    })
 
 -- a line that was read as a group is that group's
 group_bytes : (piece : RawLine) (group : Group) → by_words group_on piece ≡ Ok group → bytes_of piece ≡ item_line (Grouped group)
@@ -88,10 +76,3 @@ module _ (count done : ℕ) (some : done < count) (start old : Rest) (groups : G
       go : (pieces : List RawLine) → FaultOf (by_words group_on) old.number pieces fault → groups_from (suc left) old.number pieces ≡ Err fault
       go [] e = ap (λ (f : TextFault). Err f) (sym e)
       go (piece ∷ pieces) e = ap (groups_by_line left old.number pieces) e.0 ∙ ap (λ n. Err (text_fault_at fault.kind n)) (sym e.1)
-
-pub groups_all : (count done : ℕ) (start rest : Rest) (groups : Grouping) → GroupsRead count start groups (count - done) rest → count - done ≡ 0
-    → groups_from count start.number (lines_of start) ≡ Ok groups
-groups_all count done start rest groups read none =
-    read.gives
-    ∙ (ap (λ k. groups_before groups (groups_from k rest.number (lines_of rest))) none
-    ∙ ap (λ (gs : Grouping). Ok gs) (append-nil groups))

@@ -2,3 +2,9 @@ pub mod GroupLines
 pub mod GroupsFit
 pub mod FirstLines
 pub mod TextsBack
+pub mod FaultsTold
+pub mod WholeLines
+pub mod ComingLaws
+pub mod FrontOnly
+pub mod TextLaws
+pub mod Examples

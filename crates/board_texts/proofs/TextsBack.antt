@@ -1,9 +1,8 @@
 -- What is spelled at the front of a text is read.
-use Rattle.std.proofs.Common.{◌≡◌, ℕ, ◌+◌, ◌<◌, Bool, true, false, List, [], ◌∷◌, ◌++◌, codes, length, map, take, Result, Ok, Err, refl, sym, ap, subst, ◌∙◌, arith, append_assoc, length-append, length-take, if◌then◌else◌}
+use Rattle.std.proofs.Common.{◌≡◌, ℕ, ◌<◌, Bool, true, false, List, [], ◌∷◌, ◌++◌, codes, length, map, take, Result, Ok, Err, refl, ap, ◌∙◌, arith, append_assoc, length-append, length-take, if◌then◌else◌}
 use Rattle.std.specs.List.{join_with_byte}
 use Rattle.std.specs.Result.{IfOk}
 use Rattle.field_lines.specs.RawPieces.{RawLine, raw_lines, raw_lines_from}
-use Rattle.grouping_laws.specs.Grouping.{Grouping}
 use Rattle.certificate_lines.specs.Items.{by_words}
 use Rattle.certificate_lines.specs.Lines.{begins, named}
 use Rattle.certificate_lines.specs.Rest.{text_fault_at}
@@ -22,8 +21,8 @@ use Rattle.piece_states.specs.Reading.{told_from, piece_with, piece_from}
 use Rattle.piece_states.proofs.ToldBack.{piece_back}
 use Rattle.board_texts.specs.RoundText.{RoundTold, round_words, text_of_round, HasRoundText}
 use Rattle.board_texts.specs.RoundReading.{round_on, groups_from, round_with, round_from}
-use Rattle.board_texts.specs.BoardText.{BoardTextTold, Round, Open, text_of, HasBoardText, names_round, in_form, text_from, text_in}
-use Rattle.board_texts.proofs.FirstLines.{first_words, round_ok, round_back}
+use Rattle.board_texts.specs.BoardText.{BoardTextTold, Round, Open, text_of, HasBoardText, names_round, in_form, text_in}
+use Rattle.board_texts.proofs.FirstLines.{round_ok, round_back}
 use Rattle.board_texts.proofs.GroupsFit.{groups_back}
 
 -- what a first line tells with those behind it
@@ -87,7 +86,7 @@ round_lines_back round rest text has is =
     ∙ ap (round_with first) (groups_back (length round.target) 2 round.target rest refl has.each)))
 
 -- the form that the first word names
-abbrev by_form : List RawLine → Bool → Result BoardTextTold TextFault
+abbrev pub by_form : List RawLine → Bool → Result BoardTextTold TextFault
 by_form lines b = if b then in_form Round (round_from lines) else in_form Open (piece_from lines)
 
 pub text_back : (told : BoardTextTold) (rest text : List ℕ) → HasBoardText told → text ≡ text_of told ++ rest → text_in text ≡ Ok told

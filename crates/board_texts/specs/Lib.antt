@@ -2,3 +2,6 @@ pub mod RoundText
 pub mod RoundReading
 pub mod BoardText
 pub mod TextValue
+pub mod Coming
+pub mod Laws
+pub mod Examples

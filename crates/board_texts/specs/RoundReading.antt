@@ -1,7 +1,7 @@
 -- What the lines of a round tell, or their first fault.
 use Rattle.std.specs.Prelude.{ℕ, zero, suc, ◌+◌, List, [], ◌∷◌, ◌++◌, codes, Result, Ok, Err}
 use Rattle.field_lines.specs.Chain.{◌>>=◌}
-use Rattle.field_lines.specs.RawPieces.{RawLine, raw_lines}
+use Rattle.field_lines.specs.RawPieces.{RawLine}
 use Rattle.grouping_laws.specs.Grouping.{Grouping}
 use Rattle.certificate_lines.specs.Items.{by_words}
 use Rattle.certificate_lines.specs.Lines.{most, named, counted, number_at, group_on}

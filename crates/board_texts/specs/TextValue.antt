@@ -11,6 +11,6 @@ abbrev pub round_told : RoundHeld → RoundTold
 round_told round = record { number = round.number; limit = round.limit; target = round.target.groups.items }
 
 -- what the text tells
-abbrev pub told_of : BoardText → BoardTextTold
-told_of (held.Round round) = Round (round_told round)
-told_of (held.Open piece) = Open (piece_of piece)
+abbrev pub board_text_of : BoardText → BoardTextTold
+board_text_of (held.Round round) = Round (round_told round)
+board_text_of (held.Open piece) = Open (piece_of piece)

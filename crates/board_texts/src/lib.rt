@@ -6,15 +6,23 @@
 //! let next = reader.next_text(alloc, &mut source)?;               // each text as soon as its last line has come
 //! ```
 //!
-//! The definitions stand in `specs/`.
+//! The text of an open piece is written by `push_open_piece` of `piece_states`.
+//!
+//! The definitions stand in `specs/`. `RoundText` has the text of a round, and `RoundReading` says what is read of it.
+//! `BoardText` has the texts of both forms and `TextValue` what the Rust types tell. `Coming` says what is read of a
+//! source, and `Laws` which texts stand at the front of a text.
 #![tactic(auto)]
 
 mod board_text;
+mod laws;
 mod reading;
 mod round;
+mod text_reader;
 mod writing;
 
 pub use board_text::BoardText;
+pub use laws::board_texts_are_read;
 pub use reading::front_board_text;
 pub use round::RoundTold;
+pub use text_reader::BoardTextReader;
 pub use writing::push_round;

@@ -11,7 +11,7 @@ ghost use Rattle.certificate_lines.specs.declared.item.Item.TheVariants as item;
 ghost use Rattle.board_texts.specs.RoundText.{text_of_round, HasRoundText};
 ghost use Rattle.board_texts.specs.RoundReading.{round_on, groups_from, round_from};
 ghost use Rattle.board_texts.specs.BoardText.{BoardTextTold, text_of, HasBoardText, names_round, text_in};
-ghost use Rattle.board_texts.specs.TextValue.{round_told, told_of};
+ghost use Rattle.board_texts.specs.TextValue.{round_told, board_text_of};
 
 use crate::board_text::BoardText;
 use crate::round::RoundTold;
@@ -89,9 +89,9 @@ fn names_round(text: &[u8]) -> Result<bool, TextFault>
 /// Reads what is told at the front of a `text`. Returns it and how many bytes spell it.
 fn text_at(alloc: Global, text: &[u8]) -> Result<(BoardText, usize), TextFault>
     ensures place { IfOk result (λ r. r.1 ≤ length text.now) }
-    ensures found { IfOk result (λ r. take r.1 text.now ≡ text_of (told_of r.0)) }
-    ensures spelled { IfOk result (λ r. HasBoardText (told_of r.0)) }
-    ensures read { GivesUnless IsTextMemory (λ r. told_of r.0) result (text_in text.now) }
+    ensures found { IfOk result (λ r. take r.1 text.now ≡ text_of (board_text_of r.0)) }
+    ensures spelled { IfOk result (λ r. HasBoardText (board_text_of r.0)) }
+    ensures read { GivesUnless IsTextMemory (λ r. board_text_of r.0) result (text_in text.now) }
 {
     if names_round(text)? {
         let (round, length) = front_round(alloc, text)?;
@@ -112,13 +112,13 @@ pub fn front_board_text(alloc: Global, text: &[u8]) -> Result<(BoardText, usize)
     ensures place { IfOk result (λ r. r.1 ≤ length text.now) }
     ensures some { IfOk result (λ r. 0 < r.1) }
     // The bytes spell what is read, whose numbers are in their ranges.
-    ensures found { IfOk result (λ r. take r.1 text.now ≡ text_of (told_of r.0)) }
-    ensures spelled { IfOk result (λ r. HasBoardText (told_of r.0)) }
+    ensures found { IfOk result (λ r. take r.1 text.now ≡ text_of (board_text_of r.0)) }
+    ensures spelled { IfOk result (λ r. HasBoardText (board_text_of r.0)) }
     // What is spelled at the front of the text is read, unless memory is refused.
     ensures only { (told : BoardTextTold) (rest : List ℕ) → HasBoardText told → text.now ≡ text_of told ++ rest
-        → IsUnlessMemory (λ r. told_of r.0) result told }
+        → IsUnlessMemory (λ r. board_text_of r.0) result told }
     // Unless memory was refused, the answer is what the lines tell, or their first fault.
-    ensures read { GivesUnless IsTextMemory (λ r. told_of r.0) result (text_in text.now) }
+    ensures read { GivesUnless IsTextMemory (λ r. board_text_of r.0) result (text_in text.now) }
 {
     text_at(alloc, text)
 }

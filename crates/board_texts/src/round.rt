@@ -9,6 +9,6 @@ pub struct RoundTold {
     pub number: u32,
     /// The greatest number of counties of a group.
     pub limit: u16,
-    /// The grouping that is to be beaten.
+    /// The grouping that is to be shown best.
     pub target: Grouping,
 }

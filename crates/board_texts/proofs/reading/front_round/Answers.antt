@@ -1,4 +1,4 @@
-use Rattle.std.proofs.Common.{◌≡◌, ◌++◌, List, ℕ, map, sym, ap, ◌∙◌, subst, ◌≤◌}
+use Rattle.std.proofs.Common.{◌++◌, List, ℕ, map, sym, ap, ◌∙◌, subst, ◌≤◌}
 use Rattle.certificate_lines.specs.Fitting.{AllFit}
 use Rattle.certificate_lines.specs.Items.{groups_wanted}
 use Rattle.certificate_lines.specs.Lines.{most}
