@@ -33,6 +33,10 @@ use Rattle.cli_words.specs.declared.end.OptionsFault.TheVariants.{Depth, NumberO
 use Rattle.cli_words.specs.declared.end.WordsEnd.{WordsEnd}
 use Rattle.cli_words.specs.declared.end.WordsEnd.TheVariants.{Help, Version, Usage, Memory}
 
+-- the name of the file that `board` and `desk` read as it comes: standard input
+abbrev pub standard_input : Text
+standard_input = codes "/dev/stdin"
+
 -- the subcommand that the words name, and the values of its options
 unfoldable pub subcommand_in : List Text → Option (Text × List Row)
 subcommand_in words = subcommand_of countygroups words

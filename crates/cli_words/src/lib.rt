@@ -25,6 +25,6 @@ pub use end::WordsEnd;
 pub use version::version_text;
 pub use words::{
     AuditWords, BoardWords, CertificateWords, CheckWords, CommandWords, CommonWords, DeskWords,
-    JudgeWords, ListWords, PieceWords, ProblemWords, RoundWords, ServeWords, ShareWords,
-    SolveWords, StoredWords, parse,
+    JudgeWords, ListWords, PieceWords, ProblemWords, RoundWords, STANDARD_INPUT, ServeWords,
+    ShareWords, SolveWords, StoredWords, parse,
 };

@@ -21,6 +21,9 @@ use clap::{ArgMatches, Error};
 use county_codes::Window;
 use std::alloc::Global;
 
+/// The name of the file that `board` and `desk` read as it comes: standard input.
+pub const STANDARD_INPUT: &str = "/dev/stdin";
+
 /// The words of the command line: a subcommand, with the values of its options.
 #[derive(Clone, Copy, Debug)]
 pub enum CommandWords<'a> {
