@@ -50,6 +50,24 @@ named_events_refuse : (files : Files) (words : BoardWords) (counties : ℕ) (nam
 named_events_refuse files words counties None = value_refuses (λ (events : List Event). events ≡ [])
 named_events_refuse files words counties (Some name) = events_refuse files words counties name.now
 
+-- a board at which no piece waits has a certificate, and one at which some wait has none
+pub joined_text : (p : Problem) (b : Content) (text : Option (List ℕ)) → AreJoined p b [] text → (t : List ℕ) × (text ≡ Some t) × IsJoinedText p b t
+joined_text p b (Some text) h = (text, refl, h)
+joined_text p b None h = absurd h
+
+pub none_joined : (p : Problem) (b : Content) (piece : ℕ) (pieces : List ℕ) (text : Option (List ℕ)) → AreJoined p b (piece ∷ pieces) text → text ≡ None
+none_joined p b piece pieces (Some text) h = absurd h
+none_joined p b piece pieces None h = refl
+
+-- no certificate is no file
+pub named_none : (name : Option (Bor (List ℕ))) → named_file name None ≡ []
+named_none None = refl
+named_none (Some name) = refl
+
+-- what `share` says, by its text and by how many pieces wait
+pub said_with : (s : Shared) (text : List ℕ) (left : ℕ) → s.text.items ≡ text → s.left ≡ left → share_answer s ≡ record { text = text; status = left_status left }
+said_with s text left is count = ap (λ (t : List ℕ). record { text = t; status = left_status s.left }) is ∙ ap (λ (n : ℕ). record { text = text; status = left_status n }) count
+
 module _ (files : Files) where
   -- ---- the board
 
@@ -66,7 +84,7 @@ module _ (files : Files) where
   StopsAtBudget words budget a = IsRefusal a ⊎ BoardTellsBudget files words budget a
 
   module _ (words : BoardWords) (budget : ℕ) (v : ProblemValue) (problem : IsProblemOfFiles files words.problem v) (target : Grouping) (target_is : IsGroupingOfFile files words.grouping.now target) where
-    fault_tells : (round : Round) → IsFirstRound (problem_of v) target (limit_of_words target words.round) (format_of words.round) round
+    pub fault_tells : (round : Round) → IsFirstRound (problem_of v) target (limit_of_words target words.round) (format_of words.round) round
         → (f : BoardFault) → IsBoardFault (problem_of v) (depth_of words.round) budget target round f → (a : Answered) → a ≡ board_answer f → StopsAtBudget words budget a
     fault_tells round first board.Budget below a said = inr (record {
       v = v;
@@ -149,28 +167,12 @@ module _ (files : Files) where
       taken = h.shared.taken;
     }
 
-    -- a board at which no piece waits has a certificate, and one at which some wait has none
-    pub joined_text : (p : Problem) (b : Content) (text : Option (List ℕ)) → AreJoined p b [] text → (t : List ℕ) × (text ≡ Some t) × IsJoinedText p b t
-    joined_text p b (Some text) h = (text, refl, h)
-    joined_text p b None h = absurd h
-
-    pub none_joined : (p : Problem) (b : Content) (piece : ℕ) (pieces : List ℕ) (text : Option (List ℕ)) → AreJoined p b (piece ∷ pieces) text → text ≡ None
-    none_joined p b piece pieces (Some text) h = absurd h
-    none_joined p b piece pieces None h = refl
-
-    named_none : (name : Option (Bor (List ℕ))) → named_file name None ≡ []
-    named_none None = refl
-    named_none (Some name) = refl
-
     abbrev pub certificate_of_run : Shared → Option (List ℕ)
     certificate_of_run s = option_map (λ t. t.items) s.certificate
 
     -- nothing is stored if some piece waits
     pub none_to_store : (s : Shared) → certificate_of_run s ≡ None → joined_file words s ≡ []
     none_to_store s none = ap (named_file words.certificate) none ∙ named_none words.certificate
-
-    said_with : (s : Shared) (text : List ℕ) (left : ℕ) → s.text.items ≡ text → s.left ≡ left → share_answer s ≡ record { text = text; status = left_status left }
-    said_with s text left is count = ap (λ (t : List ℕ). record { text = t; status = left_status s.left }) is ∙ ap (λ (n : ℕ). record { text = text; status = left_status n }) count
 
     -- what is told of a board by the pieces that wait
     module _ (a : Answered) (s : Shared) (h : HasShared s) (said : a ≡ share_answer s) where

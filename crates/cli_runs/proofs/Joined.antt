@@ -52,7 +52,7 @@ module _ (files : Files) (words : ShareWords) (stored : List NamedFile) (a : Ans
   module _ (s : Shared) (h : HasShared files words s) (all : stored ≡ joined_file words s) (said : a ≡ share_answer s) (zero : a.status ≡ 0) where
     pieces_share : (found : List ℕ) → h.shared.ended.found ≡ found → AreJoined (problem_of h.v) h.shared.last found (certificate_of_run files words s) → SharesBest files words stored a
     pieces_share [] is joined =
-        let text = joined_text files words (problem_of h.v) h.shared.last (certificate_of_run files words s) joined in
+        let text = joined_text (problem_of h.v) h.shared.last (certificate_of_run files words s) joined in
         record {
           told = best_told files words a s h said is text.0 text.2;
           proof = λ name named. (
@@ -85,7 +85,7 @@ module _ (files : Files) (words : ShareWords) (stored : List NamedFile) (a : Ans
       → AreJoined (problem_of h.v) h.shared.last found (certificate_of_run files words s) → joined_file words s ≡ []
   pieces_none s h said other [] is joined = absurd (other (same_status a _ (answer_is files words a s h said [] is)))
   pieces_none s h said other (piece ∷ pieces) is joined =
-      none_to_store files words s (none_joined files words (problem_of h.v) h.shared.last piece pieces (certificate_of_run files words s) joined)
+      none_to_store files words s (none_joined (problem_of h.v) h.shared.last piece pieces (certificate_of_run files words s) joined)
 
   -- a file that was refused, or nothing to store
   stored_none : (s : Shared) (h : HasShared files words s) (between after : History) (refusal : Option Answered)

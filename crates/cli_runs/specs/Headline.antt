@@ -334,7 +334,7 @@ pub record ServeTellsBest (files : Files) (words : ServeWords) (a : Answered) : 
   pub left : Held
   pub board : ServedEvents files words v text last left
   pub target : Grouping
-  pub target_is : last.round.target ≡ Some target
+  pub last_target : last.round.target ≡ Some target
   pub best : IsBest (problem_of v) target
   pub answer : a ≡ success (text ++ codes "joined\n")
 

@@ -1,6 +1,6 @@
 -- The steps of `board`: the problem is built and the grouping is read, a board takes events from standard input as they
 -- come, and the certificate that it joins is stored.
-use Rattle.std.specs.Prelude.{◌≡◌, ◌⊎◌, ◌++◌, ℕ, Bool, List, [], length, Option, None, option_map, Result, Ok, Err, codes}
+use Rattle.std.specs.Prelude.{◌≡◌, ◌⊎◌, ◌++◌, ℕ, Bool, true, List, [], length, Option, None, option_map, Result, Ok, Err, codes}
 use Rattle.field_lines.specs.Source.{Given, nothing_given}
 use Rattle.grouping_laws.specs.Grouping.{Grouping}
 use Rattle.county_problem.specs.ProblemValue.{ProblemValue, problem_of}
@@ -17,7 +17,6 @@ use Rattle.board_server.specs.Telling.{IsRoundTold}
 use Rattle.board_server.specs.Serving.{ServesFrom}
 use Rattle.cli_words.specs.declared.words.ServeWords.{ServeWords}
 use Rattle.cli_file_stores.specs.declared.file_store.ReadEnd.{ReadEnd}
-use Rattle.cli_file_stores.specs.declared.file_store.ReadEnd.TheVariants.{Whole}
 use Rattle.cli_file_stores.specs.declared.file_store.FileStoreFault.{FileStoreFault}
 use Rattle.cli_file_stores.specs.FileStore.{read_end}
 use Rattle.cli_file_stores.specs.Files.{NamedFile, Files}
@@ -75,12 +74,14 @@ pub record HasNoBoard (v : ProblemValue) (words : ServeWords) (g : Grouping) (s 
   pub none : s.certificate ≡ None
   pub answer : s.end ≡ board_answer fault
 
--- no piece waits, or the events ended, and the answer tells how the board stands
+-- Standard input didn't fail. No piece waits, or the events ended, and the answer tells how the board stands.
 pub record HasStood (v : ProblemValue) (last : Content) (left : Held) (back : Result ReadEnd FileStoreFault)
     (s : ServedRun) : Type 0 where
   pub shared : Shared
   pub stands : IsEnded (problem_of v) last [] shared
-  pub why : (shared.left ≡ 0) ⊎ ((back ≡ Ok Whole) × (left.bytes ≡ []))
+  pub ended : Bool
+  pub back_is : back ≡ Ok (read_end ended)
+  pub why : (shared.left ≡ 0) ⊎ ((ended ≡ true) × (left.bytes ≡ []))
   pub certificate : s.certificate ≡ option_map (λ t. t.items) shared.certificate
   pub answer : s.end ≡ share_answer shared
 
