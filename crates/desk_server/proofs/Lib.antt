@@ -1,0 +1,4 @@
+pub mod RoundsHeld
+pub mod Writes
+pub mod Tellings
+pub mod Underway

@@ -1,0 +1,4 @@
+pub mod Rounds
+pub mod Answers
+pub mod Taking
+pub mod Serving

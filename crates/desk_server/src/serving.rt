@@ -1,0 +1,153 @@
+//! Texts of a board that are read and answered in turn.
+
+ghost use Rattle.std.specs.Prelude.{◌≡◌, Option, false, OnOk, OnErr};
+ghost use Rattle.field_lines.specs.Source.{Given};
+ghost use Rattle.connected_sets.specs.Graphs.{graph_order, graph_places, graph_problem, place_problem, IsGraph};
+ghost use Rattle.search_groups.specs.PartLists.{AreListsOf};
+ghost use Rattle.board_texts.specs.RoundText.{RoundTold};
+ghost use Rattle.board_texts.specs.BoardText.{HasBoardText};
+ghost use Rattle.board_texts.specs.TextValue.{told_of};
+ghost use Rattle.board_texts.specs.Coming.{is_read_fault};
+ghost use Rattle.desk_server.specs.Rounds.{HoldsRound};
+ghost use Rattle.desk_server.specs.Taking.{IsQuiet, Tells, TakesNext};
+ghost use Rattle.desk_server.specs.Serving.{HasAnswered};
+
+use crate::answering::answer_piece;
+use crate::desk::Desk;
+use crate::reply::Reply;
+use crate::rounds::numbered_round;
+use board_server::say;
+use board_texts::BoardText;
+use certificate_lines::{TextFault, TextKind};
+use cli_file_stores::Sink;
+use connected_sets::CountyGraph;
+use field_lines::Source;
+use place_sets::CountySet;
+use std::alloc::{AllocError, Global};
+
+/// The greatest number of texts that one call answers.
+const MOST_TEXTS: u64 = u64::MAX;
+
+/// Keeps the round that a `text` tells, or writes what is said of its piece to `out`.
+fn take_text<C: CountySet, W: Sink>(
+    alloc: Global,
+    graph: &CountyGraph<C>,
+    steps: u64,
+    desk: &mut Desk<C>,
+    text: BoardText,
+    out: &mut W,
+    is_cut: &mut bool,
+) -> Result<(), AllocError>
+    requires graph { IsGraph C.test C.PLACES graph.now }
+    requires order { graph_order graph.now ≡ (graph_problem graph.now).counties }
+    requires lists { AreListsOf C.test (place_problem graph.now) (graph_places graph.now) desk.old.lists }
+    requires round { (last : Option RoundTold) × HoldsRound (graph_problem graph.now) last desk.old.last }
+    requires spelled { HasBoardText (told_of text) }
+    ensures lists { AreListsOf C.test (place_problem graph.now) (graph_places graph.now) desk.new.lists }
+    ensures reader { desk.new.reader ≡ desk.old.reader }
+    ensures tells { (last : Option RoundTold) → HoldsRound (graph_problem graph.now) last desk.old.last → (from : Given) → (to : Given)
+        → OnOk result (Tells (graph_problem graph.now) last text
+        (record { desk = desk.old; given = from; contents = W.contents out.old; failed = W.is_failed out.old; cut = is_cut.old })
+        (record { desk = desk.new; given = to; contents = W.contents out.new; failed = W.is_failed out.new; cut = is_cut.new })) }
+    ensures quiet { (from : Given) → (to : Given) → OnErr result (IsQuiet
+        (record { desk = desk.old; given = from; contents = W.contents out.old; failed = W.is_failed out.old; cut = is_cut.old })
+        (record { desk = desk.new; given = to; contents = W.contents out.new; failed = W.is_failed out.new; cut = is_cut.new })) }
+{
+    match text {
+        BoardText::Round(told) => {
+            desk.last = Some(numbered_round(alloc, graph, told)?);
+            Ok(())
+        }
+        BoardText::Open(piece) => {
+            let said = answer_piece(alloc, graph, desk, &piece, steps)?;
+            say(out, is_cut, &said);
+            Ok(())
+        }
+    }
+}
+
+/// Reads the next text from the `source`. Keeps its round, or writes what is said of its piece to `out`, which is the
+/// solver's answer within `steps` steps. Each call is lent the same `source` and the same `graph`, whose counties stand
+/// by ascending codes. Nothing is written once `is_cut` is set, and it is set if the write fails.
+///
+/// # Errors
+///
+/// - Returns the fault of the text, or `ReadFault`, as `BoardTextReader::next_text` does.
+/// - Returns `Memory` if memory was refused. If it was refused behind the text, nothing is written of it, and the desk
+///   holds the round that it held.
+pub fn answer_next<C: CountySet, S: Source, W: Sink>(
+    alloc: Global,
+    graph: &CountyGraph<C>,
+    steps: u64,
+    desk: &mut Desk<C>,
+    source: &mut S,
+    out: &mut W,
+    is_cut: &mut bool,
+) -> Result<Reply, TextFault>
+    requires graph { IsGraph C.test C.PLACES graph.now }
+    requires order { graph_order graph.now ≡ (graph_problem graph.now).counties }
+    requires lists { AreListsOf C.test (place_problem graph.now) (graph_places graph.now) desk.old.lists }
+    requires round { (last : Option RoundTold) × HoldsRound (graph_problem graph.now) last desk.old.last }
+    ensures lists { AreListsOf C.test (place_problem graph.now) (graph_places graph.now) desk.new.lists }
+    ensures takes { (last : Option RoundTold) → HoldsRound (graph_problem graph.now) last desk.old.last
+        → TakesNext (graph_problem graph.now) last
+        (record { desk = desk.old; given = S.given source.old; contents = W.contents out.old; failed = W.is_failed out.old; cut = is_cut.old })
+        (record { desk = desk.new; given = S.given source.new; contents = W.contents out.new; failed = W.is_failed out.new; cut = is_cut.new })
+        result }
+    // `ReadFault` comes exactly if the source fails, unless it had failed before.
+    ensures failed { S.is_failed source.old ≡ false → S.is_failed source.new ≡ is_read_fault result }
+{
+    match desk.reader.next_text(alloc, source) {
+        Ok(Some(text)) => match take_text(alloc, graph, steps, desk, text, out, is_cut) {
+            Ok(()) => Ok(Reply::Taken),
+            Err(_) => Err(TextFault {
+                kind: TextKind::Memory,
+                line: 1,
+            }),
+        },
+        Ok(None) => Ok(Reply::Ended),
+        Err(fault) => Err(fault),
+    }
+}
+
+/// Answers the texts of the `source` in turn, each as soon as it has come, until the source ends. Keeps each round, and
+/// writes what is said of each piece to `out`, as `answer_next` does.
+///
+/// Nothing is written once `is_cut` is set, and it is set if a write fails. The texts are read all the same.
+///
+/// # Errors
+///
+/// - Returns the fault of a text, or `ReadFault`, as `BoardTextReader::next_text` does.
+/// - Returns `Memory` if memory was refused. If it was refused behind a text, nothing is written of that text, and the
+///   desk holds the round that it held.
+pub fn answer_all<C: CountySet, S: Source, W: Sink>(
+    alloc: Global,
+    graph: &CountyGraph<C>,
+    steps: u64,
+    desk: &mut Desk<C>,
+    source: &mut S,
+    out: &mut W,
+    is_cut: &mut bool,
+) -> Result<(), TextFault>
+    requires graph { IsGraph C.test C.PLACES graph.now }
+    requires order { graph_order graph.now ≡ (graph_problem graph.now).counties }
+    requires lists { AreListsOf C.test (place_problem graph.now) (graph_places graph.now) desk.old.lists }
+    requires round { (last : Option RoundTold) × HoldsRound (graph_problem graph.now) last desk.old.last }
+    ensures lists { AreListsOf C.test (place_problem graph.now) (graph_places graph.now) desk.new.lists }
+    ensures answered { (last : Option RoundTold) → HoldsRound (graph_problem graph.now) last desk.old.last
+        → HasAnswered (graph_problem graph.now) last
+        (record { desk = desk.old; given = S.given source.old; contents = W.contents out.old; failed = W.is_failed out.old; cut = is_cut.old })
+        (record { desk = desk.new; given = S.given source.new; contents = W.contents out.new; failed = W.is_failed out.new; cut = is_cut.new })
+        result }
+    // `ReadFault` comes exactly if the source fails, unless it had failed before.
+    ensures failed { S.is_failed source.old ≡ false → S.is_failed source.new ≡ is_read_fault result }
+{
+    for count in 0..MOST_TEXTS {
+        match answer_next(alloc, graph, steps, desk, source, out, is_cut) {
+            Ok(Reply::Taken) => {}
+            Ok(Reply::Ended) => return Ok(()),
+            Err(fault) => return Err(fault),
+        }
+    }
+    Ok(())
+}
