@@ -1,1 +1,5 @@
 pub mod Tellings
+pub mod Writings
+pub mod Calls
+pub mod Servings
+pub mod Prefixes

@@ -126,7 +126,7 @@ pub fn serve<C: CountySet, S: Source, W: Sink>(
     // `ReadFault` comes exactly if the source fails, unless it had failed before.
     ensures failed { S.is_failed source.old ≡ false → S.is_failed source.new ≡ is_read_fault result }
 {
-    for _ in 0..MOST_EVENTS {
+    for _taken in 0..MOST_EVENTS {
         if served.board.left() == 0 {
             return Ok(());
         }

@@ -1,0 +1,1 @@
+-- Events in turn.
