@@ -1,5 +1,5 @@
 -- What steps whose files are stored came to, where they end with a status of an answer.
-use Rattle.std.proofs.Common.{◌≡◌, ◌≤◌, ◌⊎◌, List, [], Option, Some, None, inl, inr, refl, ap, ◌∙◌, arith}
+use Rattle.std.proofs.Common.{◌≡◌, ◌≤◌, ◌⊎◌, List, Option, Some, None, inl, inr, refl, ap, ◌∙◌, arith}
 use Rattle.std.specs.Prelude.{Ok, Err}
 use Rattle.cli_file_stores.specs.Files.{NamedFile}
 use Rattle.cli_file_stores.specs.History.{History}

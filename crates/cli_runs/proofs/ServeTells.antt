@@ -1,40 +1,36 @@
 -- What runs of `board` and of `desk` tell.
-use Rattle.std.proofs.Common.{◌≡◌, ◌≤◌, ◌⊎◌, ℕ, Bool, true, false, List, [], ◌∷◌, ◌++◌, length, Option, Some, None, inl, inr, refl, sym, ap, subst, ◌∙◌, arith}
+use Rattle.std.proofs.Common.{◌≡◌, ◌≤◌, ◌⊎◌, ℕ, Bool, true, false, List, [], ◌∷◌, ◌++◌, length, Some, inl, inr, refl, sym, ap, subst, ◌∙◌}
 use Rattle.std.proofs.lemmas.List.{append-nil}
-use Rattle.std.specs.Prelude.{Result, Ok, Err, codes, option_map}
+use Rattle.std.specs.Prelude.{Result, Ok, option_map}
 use Rattle.county_problem.specs.ProblemValue.{ProblemValue, problem_of}
 use Rattle.grouping_laws.specs.Grouping.{Grouping}
 use Rattle.board_laws.specs.Content.{Content}
 use Rattle.board_events.specs.Coming.{Held}
 use Rattle.board_texts.specs.Coming as texts
 use Rattle.share_board.specs.OpenPieces.{AreOpen}
-use Rattle.board_report.specs.BoardOutcome.{IsJoinedText, AreJoined, board_end_lines}
-use Rattle.board_report.specs.declared.board_outcome.Shared.{Shared}
+use Rattle.board_report.specs.BoardOutcome.{AreJoined, board_end_lines}
 use Rattle.cli_words.specs.declared.words.ServeWords.{ServeWords}
 use Rattle.cli_words.specs.declared.words.DeskWords.{DeskWords}
 use Rattle.cli_words.specs.declared.words.CommandWords.TheVariants.{Board, Desk}
 use Rattle.cli_file_stores.specs.declared.file_store.ReadEnd.{ReadEnd}
-use Rattle.cli_file_stores.specs.declared.file_store.ReadEnd.TheVariants.{Whole}
 use Rattle.cli_file_stores.specs.declared.file_store.FileStoreFault.{FileStoreFault}
 use Rattle.cli_file_stores.specs.Files.{NamedFile, Files}
 use Rattle.cli_file_stores.specs.FileStore.{ReadsFile, read_end}
 use Rattle.cli_file_stores.specs.History.{History}
 use Rattle.cli_answers.specs.Answer.{Answered, success, memory_answer}
-use Rattle.cli_answers.specs.Refusals.{board_answer, events_answer, pieces_answer, file_store_answer}
-use Rattle.cli_runs.specs.Course.{Course, ◌>>=◌, value_step}
-use Rattle.cli_runs.specs.Reading.{GivenBack, read_one}
+use Rattle.cli_answers.specs.Refusals.{board_answer}
+use Rattle.cli_runs.specs.Reading.{GivenBack}
 use Rattle.cli_runs.specs.FilesProblem.{IsProblemOfFiles, IsGroupingOfFile}
-use Rattle.cli_runs.specs.ProblemCourse.{problem_course, grouping_of}
 use Rattle.cli_runs.specs.ShareCourse.{left_status}
 use Rattle.cli_runs.specs.Storing.{named_file, said_after}
 use Rattle.cli_runs.specs.Spoken.{behind}
 use Rattle.cli_runs.specs.ServeCourse.{standard_input, ServedRun, HasServed, HasNoBoard, HasStood, IsServedRun, serve_course}
 use Rattle.cli_runs.specs.DeskCourse.{DeskRun, HasProved, DeskStops, IsDeskRun, desk_course}
 use Rattle.cli_runs.specs.Run.{CommandRun}
-use Rattle.cli_runs.specs.Headline.{BeginsWith, ServedEvents, ServeTellsBest, ServeTellsOpen, DeskTells, Tells}
+use Rattle.cli_runs.specs.Headline.{BeginsWith, ServedEvents, Tells}
 use Rattle.cli_runs.proofs.Texts.{file_store_status, one_told}
 use Rattle.cli_runs.proofs.Refusing.{IsRefusal, Refuses, as_refused, bind_refuses, value_refuses, problem_refuses, grouping_refuses, read_one_refuses, events_status, pieces_status}
-use Rattle.cli_runs.proofs.Ending.{HasEnded, same_status, not_refused, not_out_of_memory, has_said}
+use Rattle.cli_runs.proofs.Ending.{same_status, not_refused, not_out_of_memory, has_said}
 use Rattle.cli_runs.proofs.FilesRead.{went, problem_reads, problem_of_files}
 use Rattle.cli_runs.proofs.FilesProblemLemmas.{grouping_told}
 use Rattle.cli_runs.proofs.BoardTells.{StopsAtBudget, fault_tells, joined_text, none_joined, named_none, said_with}

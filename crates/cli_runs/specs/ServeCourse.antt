@@ -1,7 +1,7 @@
 -- The steps of `board`: the problem is built and the grouping is read, a board takes events from standard input as they
 -- come, and the certificate that it joins is stored.
 use Rattle.std.specs.Prelude.{◌≡◌, ◌⊎◌, ◌++◌, ℕ, Bool, true, List, [], length, Option, None, option_map, Result, Ok, Err, codes}
-use Rattle.field_lines.specs.Source.{Given, nothing_given}
+use Rattle.field_lines.specs.Source.{nothing_given}
 use Rattle.grouping_laws.specs.Grouping.{Grouping}
 use Rattle.county_problem.specs.ProblemValue.{ProblemValue, problem_of}
 use Rattle.certificate_data.specs.Round as rounds
