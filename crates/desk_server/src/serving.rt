@@ -142,7 +142,7 @@ pub fn answer_all<C: CountySet, S: Source, W: Sink>(
     // `ReadFault` comes exactly if the source fails, unless it had failed before.
     ensures failed { S.is_failed source.old ≡ false → S.is_failed source.new ≡ is_read_fault result }
 {
-    for count in 0..MOST_TEXTS {
+    for _ in 0..MOST_TEXTS {
         match answer_next(alloc, graph, steps, desk, source, out, is_cut) {
             Ok(Reply::Taken) => {}
             Ok(Reply::Ended) => return Ok(()),

@@ -1,4 +1,4 @@
-use Rattle.std.proofs.Common.{option_map, subst, sym, IfOk}
+use Rattle.std.proofs.Common.{option_map, subst}
 use Rattle.std.proofs.lemmas.Result.{IfOk-weaker}
 use Rattle.connected_sets.specs.Graphs.{graph_problem}
 use Rattle.certificate_data.specs.RoundValue.{round_of}

@@ -4,8 +4,8 @@ use Rattle.desk_server.specs.Serving.{most_texts}
 use Rattle.desk_server.proofs.Underway.{begun, goes_on, ends_read, ends_fault, ends_full}
 use Rattle.desk_server.proofs.serving.answer_all.Goals as goal
 
-pub loop-count-init : goal.loop-count-init
-loop-count-init g c = record {
+pub loop-init : goal.loop-init
+loop-init g c = record {
   lists = c.requires.lists;
   holds = c.requires.round;
   underway = λ last holds. begun (graph_problem c.args.graph.now) last _ holds;
@@ -14,30 +14,30 @@ loop-count-init g c = record {
 
 pub returns-in-Ok-Ended-clause-answered : goal.returns-in-Ok-Ended-clause-answered
 returns-in-Ok-Ended-clause-answered g c = λ last holds.
-    let underway = c.loop-count.invariant.underway last holds in
+    let underway = c.loop.invariant.underway last holds in
     let takes = rw c.in-Ok-Ended.field-0-is at c.in-Ok-Ended.ensures.takes in
-    ends_read (graph_problem c.args.graph.now) last _ _ _ c.loop-count.count underway (takes underway.end underway.holds)
+    ends_read (graph_problem c.args.graph.now) last _ _ _ c.loop.counter underway (takes underway.end underway.holds)
 
 pub returns-in-Err-clause-answered : goal.returns-in-Err-clause-answered
 returns-in-Err-clause-answered g c = λ last holds.
-    let underway = c.loop-count.invariant.underway last holds in
-    ends_fault (graph_problem c.args.graph.now) last _ _ _ c.loop-count.count c.in-Err.fault underway (c.in-Err.ensures.takes underway.end underway.holds)
+    let underway = c.loop.invariant.underway last holds in
+    ends_fault (graph_problem c.args.graph.now) last _ _ _ c.loop.counter c.in-Err.fault underway (c.in-Err.ensures.takes underway.end underway.holds)
 
-pub loop-count-preserved : goal.loop-count-preserved
-loop-count-preserved g c =
+pub loop-preserved : goal.loop-preserved
+loop-preserved g c =
     let takes = rw c.in-Ok-Taken.field-0-is at c.in-Ok-Taken.ensures.takes in
-    let some = c.loop-count.invariant.holds in
+    let some = c.loop.invariant.holds in
     let tells = (takes some.0 some.1).1 in
     record {
       lists = c.in-Ok-Taken.ensures.lists;
       holds = (tells.end, tells.holds);
       underway = λ last holds.
-          let underway = c.loop-count.invariant.underway last holds in
-          goes_on (graph_problem c.args.graph.now) last _ _ _ c.loop-count.count underway (takes underway.end underway.holds);
-      sound = λ h. c.in-Ok-Taken.ensures.failed (c.loop-count.invariant.sound h);
+          let underway = c.loop.invariant.underway last holds in
+          goes_on (graph_problem c.args.graph.now) last _ _ _ c.loop.counter underway (takes underway.end underway.holds);
+      sound = λ h. c.in-Ok-Taken.ensures.failed (c.loop.invariant.sound h);
     }
 
 pub returns-clause-answered : goal.returns-clause-answered
 returns-clause-answered g c = λ last holds.
-    let full : c.loop-count.count ≡ most_texts = omega arith in
-    ends_full (graph_problem c.args.graph.now) last _ _ c.loop-count.count (c.loop-count.invariant.underway last holds) full
+    let full : c.loop.counter ≡ most_texts = omega arith in
+    ends_full (graph_problem c.args.graph.now) last _ _ c.loop.counter (c.loop.invariant.underway last holds) full

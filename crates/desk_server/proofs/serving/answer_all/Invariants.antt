@@ -7,14 +7,14 @@ use Rattle.desk_server.proofs.Underway.{IsUnderway}
 use Rattle.desk_server.proofs.serving.answer_all.Given as goal
 
 -- so many texts were answered, and no pull has failed
-abbrev pub invariant-loop-count : goal.invariant-loop-count
-invariant-loop-count g l = record {
+abbrev pub invariant-loop : goal.invariant-loop
+invariant-loop g l = record {
   lists : AreListsOf g.C.CountySet.test (place_problem l.graph) (graph_places l.graph) l.desk.lists;
   holds : (last : Option RoundTold) × HoldsRound (graph_problem l.graph) last l.desk.last;
   underway : (last : Option RoundTold) → HoldsRound (graph_problem l.graph) last l.fn.desk.last
       → IsUnderway (graph_problem l.graph) last
       (record { desk = l.fn.desk; given = g.S.Source.given l.fn.source; contents = g.W.Sink.contents l.fn.out; failed = g.W.Sink.is_failed l.fn.out; cut = l.fn.is_cut })
       (record { desk = l.desk; given = g.S.Source.given l.source; contents = g.W.Sink.contents l.out; failed = g.W.Sink.is_failed l.out; cut = l.is_cut })
-      l.count;
+      l.counter;
   sound : g.S.Source.is_failed l.fn.source ≡ false → g.S.Source.is_failed l.source ≡ false;
 }
