@@ -5,7 +5,7 @@ use Rattle.piece_states.specs.PieceValue.{piece_of}
 use Rattle.piece_states.specs.declared.piece.OpenPiece.{OpenPiece}
 use Rattle.board_texts.specs.RoundText.{RoundTold}
 use Rattle.board_texts.specs.BoardText.{BoardTextTold, Round, Open}
-use Rattle.board_texts.specs.TextValue.{round_told, told_of}
+use Rattle.board_texts.specs.TextValue.{round_told, board_text_of}
 use Rattle.board_texts.specs.declared.round.RoundTold.{RoundTold as RoundHeld}
 use Rattle.board_texts.specs.declared.board_text.BoardText.{BoardText}
 use Rattle.board_texts.specs.declared.board_text.BoardText.TheVariants as held
@@ -20,7 +20,7 @@ module _ {C : Type 0} (p : Problem) (last : Option RoundTold) (text : BoardText)
   round_tells round e holds written = record {
     said = [];
     end = Some (round_told round);
-    answers = subst (λ t. AnswersTexts p last (told_of t ∷ []) [] (Some (round_told round))) (sym e) (refl, refl);
+    answers = subst (λ t. AnswersTexts p last (board_text_of t ∷ []) [] (Some (round_told round))) (sym e) (refl, refl);
     holds = holds;
     written = written;
   }
@@ -30,7 +30,7 @@ module _ {C : Type 0} (p : Problem) (last : Option RoundTold) (text : BoardText)
   piece_tells piece said e is holds written = record {
     said = said;
     end = last;
-    answers = subst (λ t. AnswersTexts p last (told_of t ∷ []) said last) (sym e) (said, [], is, (refl, refl), sym (append-nil said));
+    answers = subst (λ t. AnswersTexts p last (board_text_of t ∷ []) said last) (sym e) (said, [], is, (refl, refl), sym (append-nil said));
     holds = holds;
     written = written;
   }

@@ -10,7 +10,7 @@ use Rattle.certificate_lines.specs.Rest.{IsTextMemory}
 use Rattle.certificate_lines.specs.declared.fault.TextFault.{TextFault}
 use Rattle.board_texts.specs.RoundText.{RoundTold}
 use Rattle.board_texts.specs.BoardText.{BoardTextTold, text_of, HasBoardText}
-use Rattle.board_texts.specs.TextValue.{told_of}
+use Rattle.board_texts.specs.TextValue.{board_text_of}
 use Rattle.board_texts.specs.Coming.{Held, PullsOnto, TakesText, lines_in}
 use Rattle.board_texts.proofs.WholeLines.{pulls_more}
 use Rattle.board_server.specs.Saying.{IsWritten}
@@ -112,7 +112,7 @@ module _ {C : Type 0} (p : Problem) (last : Option RoundTold) (old : Moment C) w
   pub goes_on : (now next : Moment C) (count : ℕ) → (u : IsUnderway p last old now count) → TakesOne p u.end now next → IsUnderway p last old next (count + 1)
   goes_on now next count u takes =
       let reads = (takes.0).reads in
-      let told = told_of (takes.0).text in
+      let told = board_text_of (takes.0).text in
       let pulled = pulled_on p last old.desk.reader old.given now.given next.given u.text u.end now.desk.reader reads.bytes u.serves reads.pulls in
       let more = taken_on p last old.desk.reader old.given next.given u.text (takes.1).said u.end (takes.1).end (record { bytes = reads.bytes; lines = now.desk.reader.lines }) next.desk.reader told pulled.0 reads.next (takes.1).answers in
       record {
@@ -157,7 +157,7 @@ module _ {C : Type 0} (p : Problem) (last : Option RoundTold) (old : Moment C) w
   pub ends_fault : (now new : Moment C) (count : ℕ) (fault : TextFault) → IsUnderway p last old now count → TakesNone now new (Err fault) ⊎ (IsTextMemory fault × ReadsOne now new × IsQuiet now new) → HasAnswered p last old new (Err fault)
   ends_fault now new count fault u (inl none) = ends_so now new count u none.1 (none.0).bytes (none.0).pulls (Err fault) (λ n. inl (none.0).next)
   ends_fault now new count fault u (inr (memory, one, quiet)) =
-      ends_so now new count u quiet one.reads.bytes one.reads.pulls (Err fault) (λ n. inr (memory, record { told = told_of one.text; takes = one.reads.next }))
+      ends_so now new count u quiet one.reads.bytes one.reads.pulls (Err fault) (λ n. inr (memory, record { told = board_text_of one.text; takes = one.reads.next }))
 
   -- as many texts were answered as one call answers
   pub ends_full : (now : Moment C) (count : ℕ) → IsUnderway p last old now count → count ≡ most_texts → HasAnswered p last old now (Ok tt)

@@ -5,7 +5,7 @@ use Rattle.field_lines.specs.Source.{Given}
 use Rattle.certificate_lines.specs.Rest.{IsTextMemory}
 use Rattle.certificate_lines.specs.declared.fault.TextFault.{TextFault}
 use Rattle.board_texts.specs.RoundText.{RoundTold}
-use Rattle.board_texts.specs.TextValue.{told_of}
+use Rattle.board_texts.specs.TextValue.{board_text_of}
 use Rattle.board_texts.specs.Coming.{ReadsNext, IsPrompt}
 use Rattle.board_texts.specs.declared.board_text.BoardText.{BoardText}
 use Rattle.board_server.specs.Saying.{IsWritten}
@@ -50,7 +50,7 @@ pub record Tells {C : Type 0} (p : Problem) (last : Option RoundTold) (text : Bo
   where
     pub said : List ℕ
     pub end : Option RoundTold
-    pub answers : AnswersTexts p last (told_of text ∷ []) said end
+    pub answers : AnswersTexts p last (board_text_of text ∷ []) said end
     pub holds : HoldsRound p end new.desk.last
     pub written : IsWritten old.cut new.cut old.contents new.contents old.failed new.failed said
 

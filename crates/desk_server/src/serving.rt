@@ -6,7 +6,7 @@ ghost use Rattle.connected_sets.specs.Graphs.{graph_order, graph_places, graph_p
 ghost use Rattle.search_groups.specs.PartLists.{AreListsOf};
 ghost use Rattle.board_texts.specs.RoundText.{RoundTold};
 ghost use Rattle.board_texts.specs.BoardText.{HasBoardText};
-ghost use Rattle.board_texts.specs.TextValue.{told_of};
+ghost use Rattle.board_texts.specs.TextValue.{board_text_of};
 ghost use Rattle.board_texts.specs.Coming.{is_read_fault};
 ghost use Rattle.desk_server.specs.Rounds.{HoldsRound};
 ghost use Rattle.desk_server.specs.Taking.{IsQuiet, Tells, TakesNext};
@@ -42,7 +42,7 @@ fn take_text<C: CountySet, W: Sink>(
     requires order { graph_order graph.now ≡ (graph_problem graph.now).counties }
     requires lists { AreListsOf C.test (place_problem graph.now) (graph_places graph.now) desk.old.lists }
     requires round { (last : Option RoundTold) × HoldsRound (graph_problem graph.now) last desk.old.last }
-    requires spelled { HasBoardText (told_of text) }
+    requires spelled { HasBoardText (board_text_of text) }
     ensures lists { AreListsOf C.test (place_problem graph.now) (graph_places graph.now) desk.new.lists }
     ensures reader { desk.new.reader ≡ desk.old.reader }
     ensures tells { (last : Option RoundTold) → HoldsRound (graph_problem graph.now) last desk.old.last → (from : Given) → (to : Given)
