@@ -1,5 +1,5 @@
 -- One event is read, taken and told.
-use Rattle.std.proofs.Common.{◌≡◌, ℕ, ◌+◌, ◌≤◌, Bool, List, ◌++◌, Option, Some, Ok, refl, sym, ap, ◌∙◌, subst, arith}
+use Rattle.std.proofs.Common.{◌≡◌, ℕ, Bool, List, ◌++◌, Option, Some, Ok, ap, ◌∙◌, subst, arith}
 use Rattle.county_problem.specs.ProblemValue.{problem_of}
 use Rattle.county_problem.specs.declared.problem.Problem.{Problem as ProblemHeld}
 use Rattle.board_laws.specs.Content.{Content, Event, hand, result, split_piece, part_piece, better, wider}

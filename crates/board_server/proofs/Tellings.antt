@@ -1,13 +1,12 @@
 -- Texts of pieces, one more of them.
-use Rattle.std.proofs.Common.{◌≡◌, ◌≢◌, ◌+◌, ◌-◌, ◌≤◌, arith, Result, OnOk, ℕ, Bool, List, [], ◌∷◌, ◌++◌, refl, sym, ap, ◌∙◌, subst, append_assoc, append-nil, inl, inr, Contains, Option, Some}
+use Rattle.std.proofs.Common.{◌≡◌, ◌≢◌, ◌+◌, ◌-◌, ◌≤◌, ◌<◌, take, get_or, length, arith, Result, OnOk, ℕ, Bool, List, [], ◌∷◌, ◌++◌, refl, sym, ap, ◌∙◌, subst, append_assoc, append-nil, Option, Some}
 use Rattle.std.specs.List.{range_with_len}
 use Rattle.std.specs.declared.alloc.AllocError.{AllocError}
-use Rattle.std.proofs.lemmas.List.{map-id}
+use Rattle.std.proofs.lemmas.List.{map-id, take_more}
 use Rattle.std.proofs.lemmas.List.FromFn.{map-range_with_len_more}
 use Rattle.grouping_laws.specs.Problem.{Problem}
 use Rattle.grouping_laws.specs.Grouping.{Grouping}
-use Rattle.certificate_laws.specs.State.{State, empty_state}
-use Rattle.board_laws.specs.Skeleton.{waiting}
+use Rattle.certificate_laws.specs.State.{empty_state}
 use Rattle.board_laws.specs.Standing.{StandsAt}
 use Rattle.board_laws.specs.Content.{Content}
 use Rattle.state_groups.specs.declared.state.State.{State as StateHeld}
@@ -34,7 +33,7 @@ piece_told test p b order held_order number piece state number_is same order_is 
 }
 
 -- the text of a round, and of its pieces
-pub round_told : (p : Problem) (b : Content) (number limit : ℕ) (target : Option Grouping) (groups : Grouping) (pieces told : List ℕ) → number ≡ b.number → limit ≡ b.round.limit → target ≡ b.round.target → target ≡ Some groups
+round_told : (p : Problem) (b : Content) (number limit : ℕ) (target : Option Grouping) (groups : Grouping) (pieces told : List ℕ) → number ≡ b.number → limit ≡ b.round.limit → target ≡ b.round.target → target ≡ Some groups
     → AreOpen b.skeleton pieces → ArePiecesTold p b pieces told → IsRoundTold p b (text_of_round (record { number = number; limit = limit; target = groups }) ++ told)
 round_told p b number limit target groups pieces told number_is limit_is target_is some are all = record {
   target = groups;
@@ -48,11 +47,28 @@ round_told p b number limit target groups pieces told number_is limit_is target_
       ∙ ap (λ n. text_of_round (record { number = b.number; limit = n; target = groups }) ++ told) limit_is;
 }
 
+-- the texts of a round and of its pieces, where they were written
+pub round_written : (p : Problem) (b : Content) (number limit : ℕ) (target : Option Grouping) (groups : Grouping) (pieces handed start mid after : List ℕ) → number ≡ b.number → limit ≡ b.round.limit → target ≡ b.round.target → target ≡ Some groups
+    → AreOpen b.skeleton pieces → handed ≡ pieces → mid ≡ start ++ text_of_round (record { number = number; limit = limit; target = groups }) → (text : List ℕ) × ArePiecesTold p b handed text × (after ≡ mid ++ text)
+    → (text : List ℕ) × IsRoundTold p b text × (after ≡ start ++ text)
+round_written p b number limit target groups pieces handed start mid after number_is limit_is target_is some are same first (told, all, is) =
+    let round : List ℕ = text_of_round (record { number = number; limit = limit; target = groups }) in (
+      round ++ told,
+      round_told p b number limit target groups pieces told number_is limit_is target_is some are (subst (λ z. ArePiecesTold p b z told) same all),
+      is ∙ ap (λ (t : List ℕ). t ++ told) first ∙ append_assoc start round told,
+    )
+
 -- the text of one more piece stands behind
-pub pieces_more : (p : Problem) (b : Content) (pieces : List ℕ) (piece : ℕ) (text more : List ℕ) → ArePiecesTold p b pieces text → IsToldIfWaiting p b piece more → ArePiecesTold p b (pieces ++ piece ∷ []) (text ++ more)
+pieces_more : (p : Problem) (b : Content) (pieces : List ℕ) (piece : ℕ) (text more : List ℕ) → ArePiecesTold p b pieces text → IsToldIfWaiting p b piece more → ArePiecesTold p b (pieces ++ piece ∷ []) (text ++ more)
 pieces_more p b [] piece text more told one = (more, [], one, refl, ap (λ (t : List ℕ). t ++ more) told ∙ sym (append-nil more))
 pieces_more p b (x ∷ pieces) piece text more told one =
     (told.0, told.1 ++ more, told.2, pieces_more p b pieces piece told.1 more told.3 one, ap (λ (t : List ℕ). t ++ more) told.4 ∙ append_assoc told.0 told.1 more)
+
+-- the texts of the first pieces of a list, one more of them
+pub told_more : (p : Problem) (b : Content) (pieces : List ℕ) (i : ℕ) (start before after : List ℕ) → i < length pieces → (text : List ℕ) × ArePiecesTold p b (take i pieces) text × (before ≡ start ++ text)
+    → (text : List ℕ) × IsToldIfWaiting p b (get_or pieces i 0) text × (after ≡ before ++ text) → (text : List ℕ) × ArePiecesTold p b (take (i + 1) pieces) text × (after ≡ start ++ text)
+told_more p b pieces i start before after inside (text, all, was) (more, one, is) =
+    (text ++ more, subst (λ z. ArePiecesTold p b z (text ++ more)) (sym (take_more pieces i 0 inside)) (pieces_more p b (take i pieces) (get_or pieces i 0) text more all one), is ∙ ap (λ (t : List ℕ). t ++ more) was ∙ append_assoc start text more)
 
 -- behind other replies nothing is said
 pub nothing_said : {C : Type 0} (p : Problem) (b : Content) (order : List ℕ) (test : C → ℕ → Bool) (r : ReplyHeld C) → ((first many : ℕ) → r ≢ held.Split first many) → ((number : ℕ) → r ≢ held.NewRound number) → IsSaidBehind p b (reply_of order test r) []

@@ -51,10 +51,10 @@ pub record ServesFrom (format : Format) (counties : ℕ) (p : Problem) (depth bu
 abbrev pub most_events : ℕ
 most_events = 18446744073709551615
 
--- no piece waits, or the source has ended and all of it was read, or so many events were taken
+-- no piece waits; or one waits, but the source has ended and all of it was read; or so many events were taken
 abbrev pub IsDone : Content → Bool → List ℕ → ℕ → Type 0
 IsDone last ended left count =
-    (waiting last.skeleton ≡ []) ⊎ (((ended ≡ true) × (left ≡ [])) ⊎ (count ≡ most_events))
+    (waiting last.skeleton ≡ []) ⊎ ((SomeWaits last × (ended ≡ true) × (left ≡ [])) ⊎ (count ≡ most_events))
 
 -- memory was refused to the telling of the event behind those that were told: it was read, and the board has taken it
 pub record IsUntold {C : Type 0} (test : C → ℕ → Bool) (format : Format) (counties : ℕ) (p : Problem)
@@ -72,14 +72,15 @@ pub record IsThere {C : Type 0} (test : C → ℕ → Bool) (last : Content) (le
   pub is : IsOf test new.served.board last
   pub reader : new.served.reader ≡ left
 
--- how it ends, when so many events were told
+-- How it ends, when so many events were told. A fault comes only while a piece waits.
 abbrev pub EndsBy : {C : Type 0} → (C → ℕ → Bool) → Format → (counties : ℕ) → Problem → (depth budget : ℕ) → Content
     → Held → (count : ℕ) → Moment C → Result (Unit {0}) TextFault → Type 0
 EndsBy test format counties p depth budget last left count new (Ok done) =
     IsThere test last left new × IsDone last new.given.ended left.bytes count
 EndsBy test format counties p depth budget last left count new (Err fault) =
-    (IsThere test last left new × TellsFault format counties left new.given.ended fault new.served.reader)
-    ⊎ (IsTextMemory fault × IsUntold test format counties p depth budget last left new)
+    SomeWaits last
+    × ((IsThere test last left new × TellsFault format counties left new.given.ended fault new.served.reader)
+    ⊎ (IsTextMemory fault × IsUntold test format counties p depth budget last left new))
 
 -- Events were read, taken and told, until it ended so.
 pub record HasServed {C : Type 0} (test : C → ℕ → Bool) (b : Content) (old new : Moment C)

@@ -130,8 +130,9 @@ pub fn serve<C: CountySet, S: Source, W: Sink>(
         if served.board.left() == 0 {
             return Ok(());
         }
-        if let Served::Ended = serve_next(alloc, ordered, served, source, out, is_cut)? {
-            return Ok(());
+        match serve_next(alloc, ordered, served, source, out, is_cut)? {
+            Served::Taken => {}
+            Served::Ended => return Ok(()),
         }
     }
     Ok(())

@@ -128,9 +128,7 @@ pub(crate) fn push_said<C: CountySet>(
         × (out.new.items ≡ out.old.items ++ text)) }
 {
     match reply {
-        Reply::Split(first, many) => {
-            push_new_pieces(alloc, ordered, board, *first, *many, out)
-        }
+        Reply::Split(first, many) => { push_new_pieces(alloc, ordered, board, *first, *many, out) }
         Reply::NewRound(_) => push_round_and_pieces(alloc, ordered, board, out),
         _ => Ok(()),
     }

@@ -1,4 +1,4 @@
-use Rattle.std.proofs.Common.{◌≡◌, ◌+◌, ◌-◌, ap, sym, ◌∙◌, arith}
+use Rattle.std.proofs.Common.{ap, ◌∙◌, arith}
 use Rattle.std.specs.List.{range_with_len}
 use Rattle.board_server.proofs.Tellings.{numbers_more}
 use Rattle.board_server.proofs.telling.numbers_from.Goals as goal

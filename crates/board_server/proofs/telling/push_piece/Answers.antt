@@ -1,4 +1,4 @@
-use Rattle.std.proofs.Common.{◌≡◌, [], List, ℕ, length, append-nil, sym, ap, refl, subst, inl, inr}
+use Rattle.std.proofs.Common.{◌≡◌, [], length, append-nil, sym, ap, refl, subst, inl, inr}
 use Rattle.county_problem.specs.OrderedValue.{OrderedValue}
 use Rattle.county_problem.specs.ProblemValue.{problem_of}
 use Rattle.certificate_data.specs.Round.{Round}
