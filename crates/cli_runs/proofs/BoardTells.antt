@@ -1,6 +1,6 @@
 -- What runs of `share` and of `piece` tell.
-use Rattle.std.proofs.Common.{◌≡◌, ◌≢◌, ◌≤◌, ◌⊎◌, ℕ, zero, suc, List, [], ◌∷◌, ◌++◌, length, Option, Some, None, inl, inr, refl, sym, ap, subst, ◌∙◌, arith}
-use Rattle.std.specs.Prelude.{Ok, Err, codes, option_map}
+use Rattle.std.proofs.Common.{◌≡◌, ◌≤◌, ◌⊎◌, ℕ, List, [], ◌∷◌, ◌++◌, length, Option, Some, None, inl, inr, refl, ap, subst, ◌∙◌}
+use Rattle.std.specs.Prelude.{Ok, Err, option_map}
 use Rattle.std.specs.List.{flat_map}
 use Rattle.std.specs.Borrow.{Bor}
 use Rattle.county_problem.specs.ProblemValue.{ProblemValue, problem_of}
@@ -15,7 +15,7 @@ use Rattle.share_board.specs.declared.fault.BoardFault.TheVariants as board
 use Rattle.share_board.specs.OpenPieces.{AreOpen}
 use Rattle.board_report.specs.BoardOutcome.{IsShared, IsJoinedText, AreJoined, board_end_lines}
 use Rattle.board_report.specs.Rounds.{IsFirstRound}
-use Rattle.board_report.specs.PieceAnswers.{IsAnswered, IsAnswerAt, piece_budget}
+use Rattle.board_report.specs.PieceAnswers.{IsAnswered, piece_budget}
 use Rattle.board_report.specs.declared.board_outcome.Shared.{Shared}
 use Rattle.branch_bound.specs.declared.piece.Piece.{Piece as PieceAnswer}
 use Rattle.branch_bound.specs.declared.piece.Piece.TheVariants.{Proved, Better, Wider, Open}
@@ -27,15 +27,15 @@ use Rattle.cli_file_stores.specs.Files.{NamedFile, Files}
 use Rattle.cli_file_stores.specs.History.{History}
 use Rattle.cli_answers.specs.Answer.{Answered}
 use Rattle.cli_answers.specs.Refusals.{board_answer, events_answer}
-use Rattle.cli_runs.specs.Course.{Course, ◌>>=◌, GoesOn, load_step, value_step}
+use Rattle.cli_runs.specs.Course.{Course, ◌>>=◌, load_step}
 use Rattle.cli_runs.specs.FilesProblem.{IsProblemOfFiles, IsGroupingOfFile}
-use Rattle.cli_runs.specs.ProblemCourse.{problem_course, grouping_of}
-use Rattle.cli_runs.specs.BoardCourse.{format_of, depth_of, limit_of_words, AreEvents, events_in, events_of, named_events_of, AnswersOnBoard}
+use Rattle.cli_runs.specs.ProblemCourse.{grouping_of}
+use Rattle.cli_runs.specs.BoardCourse.{format_of, depth_of, limit_of_words, AreEvents, events_in, events_of, named_events_of}
 use Rattle.cli_runs.specs.ShareCourse.{left_status, share_answer, share_step, share_course, joined_file}
-use Rattle.cli_runs.specs.PieceCourse.{no_such_piece, piece_said, piece_status, piece_step, said_step, piece_course}
+use Rattle.cli_runs.specs.PieceCourse.{no_such_piece, piece_said, said_step, piece_course}
 use Rattle.cli_runs.specs.Storing.{named_file}
 use Rattle.cli_runs.specs.Run.{CommandRun}
-use Rattle.cli_runs.specs.Headline.{AreEventsOfFile, IsFirstRoundOfFiles, TookEvents, ShareTellsBest, ShareTellsOpen, BoardTellsBudget, PieceTells, Tells}
+use Rattle.cli_runs.specs.Headline.{AreEventsOfFile, IsFirstRoundOfFiles, TookEvents, ShareTellsBest, BoardTellsBudget, PieceTells, Tells}
 use Rattle.cli_runs.proofs.Refusing.{IsRefusal, Refuses, as_refused, bind_refuses, load_refuses, call_refuses, value_refuses, problem_refuses, grouping_refuses, events_status}
 use Rattle.cli_runs.proofs.Ending.{HasEnded, same_status, not_refused, not_out_of_memory, stopped_or_ended}
 use Rattle.cli_runs.proofs.FilesRead.{ReadsProblem, went, problem_reads, problem_of_files}

@@ -1,6 +1,6 @@
 -- What the definitions of `specs/Headline.antt` say of a state of one county that is written out, and of files that are
 -- refused. A weakened definition would say more.
-use Rattle.std.proofs.Common.{◌≡◌, ◌≤◌, ◌⊎◌, ℕ, zero, suc, List, [], ◌∷◌, ◌++◌, Option, Some, None, inl, inr, refl, sym, ap, subst, subst₂, ◌∙◌, arith, codes}
+use Rattle.std.proofs.Common.{◌≡◌, ℕ, List, [], ◌∷◌, ◌++◌, Option, Some, None, inl, inr, refl, sym, ap, subst, subst₂, ◌∙◌, arith, codes}
 use Rattle.std.specs.Prelude.{Ok, Err}
 use Rattle.std.specs.List.Sorted.{IsStrictlySortedBy}
 use Rattle.std.specs.Borrow.{Bor}

@@ -1,5 +1,5 @@
 -- What an answer with status 0, 1 or 3 tells of the files that a run read.
-use Rattle.std.proofs.Common.{◌≡◌, ◌≤◌, ◌⊎◌, ℕ, List, [], ◌∷◌, ◌++◌, Contains, append_assoc, Option, Some, None, inl, inr, refl, sym, ap, subst, ◌∙◌, arith}
+use Rattle.std.proofs.Common.{◌≡◌, ◌≤◌, ℕ, List, [], ◌∷◌, ◌++◌, append_assoc, Option, Some, None, inl, inr, sym, ap, subst, ◌∙◌, arith}
 use Rattle.std.specs.Prelude.{true}
 use Rattle.cli_words.specs.declared.words.CommandWords.{CommandWords}
 use Rattle.cli_words.specs.declared.words.CommandWords.TheVariants.{Size, Judge, Solve, Check, Audit, List as ListAll, Share, Piece, Board, Desk}
@@ -9,14 +9,14 @@ use Rattle.cli_words.specs.Words.{EndsTaken}
 use Rattle.cli_file_stores.specs.Files.{NamedFile, Files}
 use Rattle.cli_file_stores.specs.History.{FileStoreEvent, History}
 use Rattle.cli_file_stores.specs.History.FileStoreEvent.{Stored}
-use Rattle.cli_answers.specs.Answer.{Answered, memory_answer}
+use Rattle.cli_answers.specs.Answer.{Answered}
 use Rattle.cli_record.specs.RecordFiles.{record_name_of}
 use Rattle.cli_runs.specs.Spoken.{behind}
 use Rattle.cli_runs.specs.Storing.{said_after, store_steps}
 use Rattle.cli_runs.specs.Recording.{is_recorded, RecordEnds}
 use Rattle.cli_runs.specs.Loads.{AnsweredBy}
 use Rattle.cli_runs.specs.Run.{CommandRun, IsEndAnswer, IsRunAnswer, RunsAsAsked}
-use Rattle.cli_runs.specs.Headline.{IsStoreTaken, AreTaken, Tells, TellsOfFiles, RunsTell, RunTells}
+use Rattle.cli_runs.specs.Headline.{IsStoreTaken, AreTaken, Tells, RunsTell, RunTells}
 use Rattle.cli_runs.proofs.AnswerStatus.{answer_status, at_most_three}
 use Rattle.cli_runs.proofs.SolveTells.{solve_tells}
 use Rattle.cli_runs.proofs.CheckTells.{check_tells}

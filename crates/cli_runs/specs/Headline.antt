@@ -71,7 +71,6 @@ use Rattle.cli_runs.specs.JudgeWithCertificate.{lawful_answer, best_answer}
 use Rattle.cli_runs.specs.JudgeCourse.{IsDistrictsTable, findings_answer}
 use Rattle.cli_runs.specs.ListCourse.{listing_answer, open_answer, grouping_numbered}
 use Rattle.cli_runs.specs.BoardCourse.{format_of, depth_of, limit_of_words}
-use Rattle.cli_runs.specs.ShareCourse.{left_status}
 use Rattle.cli_runs.specs.PieceCourse.{piece_said}
 use Rattle.cli_runs.specs.ServeCourse.{standard_input, HasServed}
 use Rattle.cli_runs.specs.DeskCourse.{HasProved}
