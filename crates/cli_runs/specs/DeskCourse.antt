@@ -58,7 +58,8 @@ IsDeskRun v given s =
 -- `desk`: the problem is built before standard input is opened, which is then read once
 abbrev pub desk_course : Option Files → DeskWords → Course DeskRun
 desk_course files words =
-    problem_course files words.problem >>= λ v. read_one files standard_input >>= λ given. value_step (IsDeskRun v given)
+    problem_course files words.problem >>= λ v. read_one files standard_input >>= λ given.
+    value_step (IsDeskRun v given)
 
 -- `desk` ends: at a fault that it met before it wrote anything, or with its answer behind what it wrote
 abbrev pub DeskEnds : Option Files → DeskWords → History → History → List NamedFile → Answered → Type 0

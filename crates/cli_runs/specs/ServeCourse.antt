@@ -1,6 +1,7 @@
 -- The steps of `board`: the problem is built and the grouping is read, a board takes events from standard input as they
 -- come, and the certificate that it joins is stored.
-use Rattle.std.specs.Prelude.{◌≡◌, ◌⊎◌, ◌++◌, ℕ, Bool, true, List, [], length, Option, None, option_map, Result, Ok, Err, codes}
+use Rattle.std.specs.Prelude.{◌≡◌, ◌⊎◌, ◌++◌, ℕ, Bool, true, List, [], length, Option, None, option_map, codes}
+use Rattle.std.specs.Prelude.{Result, Ok, Err}
 use Rattle.field_lines.specs.Source.{nothing_given}
 use Rattle.grouping_laws.specs.Grouping.{Grouping}
 use Rattle.county_problem.specs.ProblemValue.{ProblemValue, problem_of}
@@ -46,7 +47,8 @@ pub record ServedRun : Type 0 where
 pub record HasServed (v : ProblemValue) (words : ServeWords) (g : Grouping) (bytes text : List ℕ) (last : Content)
     (left : Held) : Type 0 where
   pub round : rounds.Round
-  pub first_round : IsFirstRound (problem_of v) g (limit_of_words g words.board.round) (format_of words.board.round) round
+  pub first_round : IsFirstRound (problem_of v) g (limit_of_words g words.board.round)
+      (format_of words.board.round) round
   pub first : Content
   pub opening : IsOpening (problem_of v) (depth_of words.board.round) round first
   pub start : List ℕ
@@ -67,7 +69,8 @@ pub record HasServed (v : ProblemValue) (words : ServeWords) (g : Grouping) (byt
 -- there is no such board, and nothing is written before the answer
 pub record HasNoBoard (v : ProblemValue) (words : ServeWords) (g : Grouping) (s : ServedRun) : Type 0 where
   pub round : rounds.Round
-  pub first_round : IsFirstRound (problem_of v) g (limit_of_words g words.board.round) (format_of words.board.round) round
+  pub first_round : IsFirstRound (problem_of v) g (limit_of_words g words.board.round)
+      (format_of words.board.round) round
   pub fault : BoardFault
   pub first : IsBoardFault (problem_of v) (depth_of words.board.round) words.budget g round fault
   pub silent : s.text ≡ []
