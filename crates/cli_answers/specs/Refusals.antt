@@ -20,7 +20,7 @@ use Rattle.county_problem.specs.declared.grouping_fault.GroupingFault.{GroupingF
 use Rattle.county_problem.specs.declared.grouping_fault.GroupingFault.TheVariants as verdict
 use Rattle.cli_answers.specs.declared.refusal.InputFile.{InputFile}
 use Rattle.cli_answers.specs.declared.refusal.InputFile.TheVariants.{Geo, Segment1, Adjacency, Links, Withdrawn}
-use Rattle.cli_answers.specs.declared.refusal.InputFile.TheVariants.{Grouping, Assignments, Events}
+use Rattle.cli_answers.specs.declared.refusal.InputFile.TheVariants.{Grouping, Assignments, Events, Pieces}
 use Rattle.county_problem.specs.declared.fault.ProblemFault.{ProblemFault}
 use Rattle.county_problem.specs.declared.fault.ProblemFault.TheVariants as problem
 use Rattle.certificate_lines.specs.declared.fault.TextFault.{TextFault}
@@ -104,6 +104,7 @@ file_word Withdrawn = codes "withdrawn"
 file_word Grouping = codes "grouping"
 file_word Assignments = codes "assignments"
 file_word Events = codes "events"
+file_word Pieces = codes "pieces"
 
 -- the input file that a PL 94-171 file is
 abbrev pub input_of : File → InputFile
@@ -151,14 +152,17 @@ assignment_line_answer kind line = input_answer Assignments (assignment_word kin
 abbrev pub assignment_answer : AssignmentFault → Answered
 assignment_answer fault = assignment_line_answer fault.kind fault.line
 
--- a fault of this kind, at this line of a text of events
-abbrev pub events_line_answer : TextKind → ℕ → Answered
-events_line_answer text.Memory line = memory_answer
-events_line_answer kind line = input_answer Events (text_kind_word kind) line
+-- a fault of this kind, at this line of a text that is read from such a file
+abbrev pub text_line_answer : InputFile → TextKind → ℕ → Answered
+text_line_answer file text.Memory line = memory_answer
+text_line_answer file kind line = input_answer file (text_kind_word kind) line
 
--- the answer to a fault of a text of events
+-- the answer to a fault of a text of events, and to one of a text of rounds and open pieces
 abbrev pub events_answer : TextFault → Answered
-events_answer fault = events_line_answer fault.kind fault.line
+events_answer fault = text_line_answer Events fault.kind fault.line
+
+abbrev pub pieces_answer : TextFault → Answered
+pieces_answer fault = text_line_answer Pieces fault.kind fault.line
 
 -- `fault KIND` with its group, its county or its seats
 unfoldable pub fault_line : GroupingFault → List ℕ

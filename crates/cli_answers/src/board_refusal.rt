@@ -5,7 +5,7 @@ ghost use Rattle.std.specs.Prelude.{◌≡◌, ◌≢◌, IfOk};
 ghost use Rattle.certificate_lines.specs.declared.fault.TextKind.TheVariants as text;
 ghost use Rattle.share_board.specs.declared.fault.BoardFault.TheVariants as board;
 ghost use Rattle.cli_answers.specs.Answers.{RefusalShows, IsShown};
-ghost use Rattle.cli_answers.specs.Refusals.{board_answer, board_word, events_answer, refused_board};
+ghost use Rattle.cli_answers.specs.Refusals.{board_answer, board_word, events_answer, pieces_answer, refused_board, text_line_answer};
 
 use crate::answer::Refusal;
 use crate::check_lines::budget_answer;
@@ -14,16 +14,34 @@ use certificate_lines::{TextFault, TextKind};
 use share_board::BoardFault;
 use std::alloc::{AllocError, Global};
 
+/// Returns the refusal of a text of a `file`: `refused FILE KIND line L` with exit status 4. The line counts from 1.
+/// Returns `Memory` if that is the fault, or if memory for the line was refused.
+fn refuse_text(alloc: Global, file: InputFile, fault: TextFault) -> Refusal
+    ensures answer { RefusalShows (text_line_answer file fault.kind fault.line) result }
+    ensures shown { IsShown result → fault.kind ≢ text.Memory }
+{
+    if fault.kind == TextKind::Memory {
+        return Refusal::Memory;
+    }
+    refuse_input(alloc, file, fault.kind.word(), fault.line)
+}
+
 /// Returns the refusal of a text of events: `refused events KIND line L` with exit status 4. The line counts from 1.
 /// Returns `Memory` if that is the fault, or if memory for the line was refused.
 pub fn refuse_events(alloc: Global, fault: TextFault) -> Refusal
     ensures answer { RefusalShows (events_answer fault) result }
     ensures shown { IsShown result → fault.kind ≢ text.Memory }
 {
-    if fault.kind == TextKind::Memory {
-        return Refusal::Memory;
-    }
-    refuse_input(alloc, InputFile::Events, fault.kind.word(), fault.line)
+    refuse_text(alloc, InputFile::Events, fault)
+}
+
+/// Returns the refusal of a text of rounds and open pieces: `refused pieces KIND line L` with exit status 4. The line
+/// counts from 1. Returns `Memory` if that is the fault, or if memory for the line was refused.
+pub fn refuse_pieces(alloc: Global, fault: TextFault) -> Refusal
+    ensures answer { RefusalShows (pieces_answer fault) result }
+    ensures shown { IsShown result → fault.kind ≢ text.Memory }
+{
+    refuse_text(alloc, InputFile::Pieces, fault)
 }
 
 fn word_of_board_fault(fault: BoardFault) -> &'static [u8]

@@ -12,7 +12,7 @@ mod check_lines;
 mod refusal;
 
 pub use answer::{Refusal, RunAnswer};
-pub use board_refusal::{refuse_board, refuse_events};
+pub use board_refusal::{refuse_board, refuse_events, refuse_pieces};
 pub use check_lines::{budget_answer, no_answer};
 pub use refusal::{
     InputFile, MEMORY, refuse_assignments, refuse_codes, refuse_file, refuse_load,

@@ -103,6 +103,8 @@ pub enum InputFile {
     Assignments,
     /// The events of a board.
     Events,
+    /// The rounds and the open pieces that a board tells.
+    Pieces,
 }
 
 fn input_of(file: File) -> InputFile
@@ -126,6 +128,7 @@ fn word_of_file(file: InputFile) -> &'static [u8]
         InputFile::Grouping => b"grouping",
         InputFile::Assignments => b"assignments",
         InputFile::Events => b"events",
+        InputFile::Pieces => b"pieces",
     }
 }
 

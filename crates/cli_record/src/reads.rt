@@ -2,19 +2,19 @@
 
 ghost use Rattle.std.specs.Prelude.{◌≡◌, ◌++◌, ◌∷◌, [], List, IfOk, OnOk, map, find};
 ghost use Rattle.std.specs.Option.{option_map};
-ghost use Rattle.cli_words.specs.declared.words.CommandWords.TheVariants.{Judge, Audit, List as ListAll, Share, Piece};
+ghost use Rattle.cli_words.specs.declared.words.CommandWords.TheVariants.{Judge, Audit, List as ListAll, Piece};
 ghost use Rattle.cli_record_text.specs.declared.run.ReadFile.TheVariants.{Certificate};
 ghost use Rattle.cli_file_stores.specs.Sums.{sum_value};
 ghost use Rattle.cli_record.specs.RunRecord.{read_line_of};
 ghost use Rattle.cli_record.specs.RecordFiles.{went as has_gone, is_of as is_event_of, reading_of as reading_of_name};
 ghost use Rattle.cli_record.specs.RecordFiles.{files_read, file_named, if_named, census_files, problem_files};
-ghost use Rattle.cli_record.specs.RecordFiles.{problem_and, board_files, files_to_read};
+ghost use Rattle.cli_record.specs.RecordFiles.{problem_and, board_files, board_and_events, files_to_read};
 
 use cli_file_stores::{EventKind, EventSum};
 use cli_record_text::{FileRead, ReadFile};
 use cli_words::{
     AuditWords, BoardWords, CertificateWords, CommandWords, CommonWords, JudgeWords, ListWords,
-    PieceWords, ProblemWords, ShareWords,
+    PieceWords, ProblemWords, STANDARD_INPUT,
 };
 use std::alloc::{AllocError, Global};
 
@@ -208,17 +208,19 @@ fn push_audit(
     push_read(reads, sums, ReadFile::Assignments, words.assignments)
 }
 
-/// Appends the lines of the files that `share` reads, each if it was read.
-fn push_share(
+/// Appends the lines of the files of a board, and then that of the file `events`, each if it was read.
+fn push_board_and_events(
     reads: &mut Vec<FileRead>,
     sums: &[EventSum],
-    words: &ShareWords<'_>,
+    words: &BoardWords<'_>,
+    events: &str,
 ) -> Result<(), AllocError>
     ensures { OnOk result (map read_line_of reads.new.items
-        ≡ map read_line_of reads.old.items ++ files_read (files_to_read (Share words.now)) (map sum_value sums.now)) }
+        ≡ map read_line_of reads.old.items
+        ++ files_read (board_and_events words.now events.now) (map sum_value sums.now)) }
 {
-    push_board(reads, sums, &words.board)?;
-    push_read(reads, sums, ReadFile::Events, words.events)
+    push_board(reads, sums, words)?;
+    push_read(reads, sums, ReadFile::Events, events)
 }
 
 /// Appends the lines of the files that `piece` reads, each if it was read.
@@ -264,8 +266,17 @@ fn push_files(
         CommandWords::Check(words) => push_certificate(reads, sums, &words.check),
         CommandWords::Audit(words) => push_audit(reads, sums, words),
         CommandWords::List(words) => push_list(reads, sums, words),
-        CommandWords::Share(words) => push_share(reads, sums, words),
+        CommandWords::Share(words) => {
+            push_board_and_events(reads, sums, &words.board, words.events)
+        }
         CommandWords::Piece(words) => push_piece(reads, sums, words),
+        CommandWords::Board(words) => {
+            push_board_and_events(reads, sums, &words.board, STANDARD_INPUT)
+        }
+        CommandWords::Desk(words) => {
+            let (file, name) = (ReadFile::Events, STANDARD_INPUT);
+            push_problem_and(reads, sums, &words.problem, file, name)
+        }
     }
 }
 

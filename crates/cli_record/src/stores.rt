@@ -126,7 +126,10 @@ fn push_options(
         CommandWords::Share(words) => {
             push_at_0(options, StoreOption::Certificate, words.certificate, status)
         }
-        CommandWords::Size(_) | CommandWords::Piece(_) => Ok(()),
+        CommandWords::Board(words) => {
+            push_at_0(options, StoreOption::Certificate, words.certificate, status)
+        }
+        CommandWords::Size(_) | CommandWords::Piece(_) | CommandWords::Desk(_) => Ok(()),
     }
 }
 

@@ -1,8 +1,7 @@
 -- What runs of `audit` and of `size` tell.
-use Rattle.std.proofs.Common.{◌≡◌, ◌≤◌, ◌⊎◌, ℕ, List, [], ◌∷◌, Option, Some, None, inl, inr, refl, ◌∙◌}
+use Rattle.std.proofs.Common.{◌≡◌, ◌≤◌, ℕ, List, [], ◌∷◌, Option, Some, None, inl, inr, ◌∙◌}
 use Rattle.std.specs.Prelude.{is_some}
 use Rattle.std.specs.Borrow.{Bor}
-use Rattle.county_codes.specs.declared.county.County.{County}
 use Rattle.county_problem.specs.ProblemValue.{ProblemValue}
 use Rattle.grouping_laws.specs.Grouping.{Grouping}
 use Rattle.grouping_report.specs.SizeTable.{size_text}
@@ -20,7 +19,7 @@ use Rattle.cli_runs.specs.ProblemCourse.{IsBuilt}
 use Rattle.cli_runs.specs.JudgeCourse.{size_course, IsDistrictsTable, IsTableIfAsked, IsAudited, findings_answer, audit_course}
 use Rattle.cli_runs.specs.Storing.{IsStoredAs, named_file}
 use Rattle.cli_runs.specs.Run.{CommandRun}
-use Rattle.cli_runs.specs.Headline.{AuditTells, SizeTells, Tells}
+use Rattle.cli_runs.specs.Headline.{AuditTells, Tells}
 use Rattle.cli_runs.proofs.Ending.{HasEnded, same_status, not_refused, not_out_of_memory, has_ended}
 use Rattle.cli_runs.proofs.Refusing.{Refuses, bind_refuses, call_refuses, counties_refuse, problem_status, problem_refuses, grouping_refuses, blocks_refuse, assignments_refuse, value_refuses}
 use Rattle.cli_runs.proofs.FilesRead.{went, stored_last}

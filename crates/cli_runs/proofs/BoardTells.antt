@@ -1,6 +1,6 @@
 -- What runs of `share` and of `piece` tell.
-use Rattle.std.proofs.Common.{◌≡◌, ◌≢◌, ◌≤◌, ◌⊎◌, ℕ, zero, suc, List, [], ◌∷◌, ◌++◌, length, Option, Some, None, inl, inr, refl, sym, ap, subst, ◌∙◌, arith}
-use Rattle.std.specs.Prelude.{Ok, Err, codes, option_map}
+use Rattle.std.proofs.Common.{◌≡◌, ◌≤◌, ◌⊎◌, ℕ, List, [], ◌∷◌, ◌++◌, length, Option, Some, None, inl, inr, refl, ap, subst, ◌∙◌}
+use Rattle.std.specs.Prelude.{Ok, Err, option_map}
 use Rattle.std.specs.List.{flat_map}
 use Rattle.std.specs.Borrow.{Bor}
 use Rattle.county_problem.specs.ProblemValue.{ProblemValue, problem_of}
@@ -15,7 +15,7 @@ use Rattle.share_board.specs.declared.fault.BoardFault.TheVariants as board
 use Rattle.share_board.specs.OpenPieces.{AreOpen}
 use Rattle.board_report.specs.BoardOutcome.{IsShared, IsJoinedText, AreJoined, board_end_lines}
 use Rattle.board_report.specs.Rounds.{IsFirstRound}
-use Rattle.board_report.specs.PieceAnswers.{IsAnswered, IsAnswerAt, piece_budget}
+use Rattle.board_report.specs.PieceAnswers.{IsAnswered, piece_budget}
 use Rattle.board_report.specs.declared.board_outcome.Shared.{Shared}
 use Rattle.branch_bound.specs.declared.piece.Piece.{Piece as PieceAnswer}
 use Rattle.branch_bound.specs.declared.piece.Piece.TheVariants.{Proved, Better, Wider, Open}
@@ -27,15 +27,15 @@ use Rattle.cli_file_stores.specs.Files.{NamedFile, Files}
 use Rattle.cli_file_stores.specs.History.{History}
 use Rattle.cli_answers.specs.Answer.{Answered}
 use Rattle.cli_answers.specs.Refusals.{board_answer, events_answer}
-use Rattle.cli_runs.specs.Course.{Course, ◌>>=◌, GoesOn, load_step, value_step}
+use Rattle.cli_runs.specs.Course.{Course, ◌>>=◌, load_step}
 use Rattle.cli_runs.specs.FilesProblem.{IsProblemOfFiles, IsGroupingOfFile}
-use Rattle.cli_runs.specs.ProblemCourse.{problem_course, grouping_of}
-use Rattle.cli_runs.specs.BoardCourse.{format_of, depth_of, limit_of_words, AreEvents, events_in, events_of, named_events_of, AnswersOnBoard}
+use Rattle.cli_runs.specs.ProblemCourse.{grouping_of}
+use Rattle.cli_runs.specs.BoardCourse.{format_of, depth_of, limit_of_words, AreEvents, events_in, events_of, named_events_of}
 use Rattle.cli_runs.specs.ShareCourse.{left_status, share_answer, share_step, share_course, joined_file}
-use Rattle.cli_runs.specs.PieceCourse.{no_such_piece, piece_said, piece_status, piece_step, said_step, piece_course}
+use Rattle.cli_runs.specs.PieceCourse.{no_such_piece, piece_said, said_step, piece_course}
 use Rattle.cli_runs.specs.Storing.{named_file}
 use Rattle.cli_runs.specs.Run.{CommandRun}
-use Rattle.cli_runs.specs.Headline.{AreEventsOfFile, IsFirstRoundOfFiles, TookEvents, ShareTellsBest, ShareTellsOpen, BoardTellsBudget, PieceTells, Tells}
+use Rattle.cli_runs.specs.Headline.{AreEventsOfFile, IsFirstRoundOfFiles, TookEvents, ShareTellsBest, BoardTellsBudget, PieceTells, Tells}
 use Rattle.cli_runs.proofs.Refusing.{IsRefusal, Refuses, as_refused, bind_refuses, load_refuses, call_refuses, value_refuses, problem_refuses, grouping_refuses, events_status}
 use Rattle.cli_runs.proofs.Ending.{HasEnded, same_status, not_refused, not_out_of_memory, stopped_or_ended}
 use Rattle.cli_runs.proofs.FilesRead.{ReadsProblem, went, problem_reads, problem_of_files}
@@ -49,6 +49,24 @@ events_refuse files words counties name =
 named_events_refuse : (files : Files) (words : BoardWords) (counties : ℕ) (name : Option (Bor (List ℕ))) → Refuses (named_events_of (Some files) (format_of words.round) counties name)
 named_events_refuse files words counties None = value_refuses (λ (events : List Event). events ≡ [])
 named_events_refuse files words counties (Some name) = events_refuse files words counties name.now
+
+-- a board at which no piece waits has a certificate, and one at which some wait has none
+pub joined_text : (p : Problem) (b : Content) (text : Option (List ℕ)) → AreJoined p b [] text → (t : List ℕ) × (text ≡ Some t) × IsJoinedText p b t
+joined_text p b (Some text) h = (text, refl, h)
+joined_text p b None h = absurd h
+
+pub none_joined : (p : Problem) (b : Content) (piece : ℕ) (pieces : List ℕ) (text : Option (List ℕ)) → AreJoined p b (piece ∷ pieces) text → text ≡ None
+none_joined p b piece pieces (Some text) h = absurd h
+none_joined p b piece pieces None h = refl
+
+-- no certificate is no file
+pub named_none : (name : Option (Bor (List ℕ))) → named_file name None ≡ []
+named_none None = refl
+named_none (Some name) = refl
+
+-- what `share` says, by its text and by how many pieces wait
+pub said_with : (s : Shared) (text : List ℕ) (left : ℕ) → s.text.items ≡ text → s.left ≡ left → share_answer s ≡ record { text = text; status = left_status left }
+said_with s text left is count = ap (λ (t : List ℕ). record { text = t; status = left_status s.left }) is ∙ ap (λ (n : ℕ). record { text = text; status = left_status n }) count
 
 module _ (files : Files) where
   -- ---- the board
@@ -66,7 +84,7 @@ module _ (files : Files) where
   StopsAtBudget words budget a = IsRefusal a ⊎ BoardTellsBudget files words budget a
 
   module _ (words : BoardWords) (budget : ℕ) (v : ProblemValue) (problem : IsProblemOfFiles files words.problem v) (target : Grouping) (target_is : IsGroupingOfFile files words.grouping.now target) where
-    fault_tells : (round : Round) → IsFirstRound (problem_of v) target (limit_of_words target words.round) (format_of words.round) round
+    pub fault_tells : (round : Round) → IsFirstRound (problem_of v) target (limit_of_words target words.round) (format_of words.round) round
         → (f : BoardFault) → IsBoardFault (problem_of v) (depth_of words.round) budget target round f → (a : Answered) → a ≡ board_answer f → StopsAtBudget words budget a
     fault_tells round first board.Budget below a said = inr (record {
       v = v;
@@ -149,28 +167,12 @@ module _ (files : Files) where
       taken = h.shared.taken;
     }
 
-    -- a board at which no piece waits has a certificate, and one at which some wait has none
-    pub joined_text : (p : Problem) (b : Content) (text : Option (List ℕ)) → AreJoined p b [] text → (t : List ℕ) × (text ≡ Some t) × IsJoinedText p b t
-    joined_text p b (Some text) h = (text, refl, h)
-    joined_text p b None h = absurd h
-
-    pub none_joined : (p : Problem) (b : Content) (piece : ℕ) (pieces : List ℕ) (text : Option (List ℕ)) → AreJoined p b (piece ∷ pieces) text → text ≡ None
-    none_joined p b piece pieces (Some text) h = absurd h
-    none_joined p b piece pieces None h = refl
-
-    named_none : (name : Option (Bor (List ℕ))) → named_file name None ≡ []
-    named_none None = refl
-    named_none (Some name) = refl
-
     abbrev pub certificate_of_run : Shared → Option (List ℕ)
     certificate_of_run s = option_map (λ t. t.items) s.certificate
 
     -- nothing is stored if some piece waits
     pub none_to_store : (s : Shared) → certificate_of_run s ≡ None → joined_file words s ≡ []
     none_to_store s none = ap (named_file words.certificate) none ∙ named_none words.certificate
-
-    said_with : (s : Shared) (text : List ℕ) (left : ℕ) → s.text.items ≡ text → s.left ≡ left → share_answer s ≡ record { text = text; status = left_status left }
-    said_with s text left is count = ap (λ (t : List ℕ). record { text = t; status = left_status s.left }) is ∙ ap (λ (n : ℕ). record { text = text; status = left_status n }) count
 
     -- what is told of a board by the pieces that wait
     module _ (a : Answered) (s : Shared) (h : HasShared s) (said : a ≡ share_answer s) where

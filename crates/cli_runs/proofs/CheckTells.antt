@@ -1,5 +1,5 @@
 -- What a run of `check` tells.
-use Rattle.std.proofs.Common.{◌≡◌, ◌≤◌, ◌⊎◌, ℕ, List, [], Some, inl, inr, ap, ◌∙◌}
+use Rattle.std.proofs.Common.{◌≡◌, ◌≤◌, ℕ, List, [], Some, inl, inr, ap, ◌∙◌}
 use Rattle.county_problem.specs.ProblemValue.{problem_of}
 use Rattle.certificate_checker.specs.Answers.{IsCheckAnswer, CheckIsRight, ShowsImpossible}
 use Rattle.certificate_checker.specs.declared.verdict.Verdict.{Verdict}
@@ -14,7 +14,7 @@ use Rattle.cli_runs.specs.FilesProblem.{IsProblemOfFiles}
 use Rattle.cli_runs.specs.CheckCourse.{IsChecked, check_course, verdict_said, verdict_table}
 use Rattle.cli_runs.specs.Storing.{named_file}
 use Rattle.cli_runs.specs.Run.{CommandRun}
-use Rattle.cli_runs.specs.Headline.{CheckTellsBest, TellsNone, TellsFault, TellsBudget, Tells}
+use Rattle.cli_runs.specs.Headline.{Tells}
 use Rattle.cli_runs.proofs.Ending.{HasEnded, same_status, not_out_of_memory, has_ended}
 use Rattle.cli_runs.proofs.Refusing.{Refuses, bind_refuses, tabled_refuses, given_refuses, value_refuses}
 use Rattle.cli_runs.proofs.Texts.{given_of_told}

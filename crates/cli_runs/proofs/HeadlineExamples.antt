@@ -1,6 +1,6 @@
 -- What the definitions of `specs/Headline.antt` say of a state of one county that is written out, and of files that are
 -- refused. A weakened definition would say more.
-use Rattle.std.proofs.Common.{◌≡◌, ◌≤◌, ◌⊎◌, ℕ, zero, suc, List, [], ◌∷◌, ◌++◌, Option, Some, None, inl, inr, refl, sym, ap, subst, subst₂, ◌∙◌, arith, codes}
+use Rattle.std.proofs.Common.{◌≡◌, ℕ, List, [], ◌∷◌, ◌++◌, Option, Some, None, inl, inr, refl, sym, ap, subst, subst₂, ◌∙◌, arith, codes}
 use Rattle.std.specs.Prelude.{Ok, Err}
 use Rattle.std.specs.List.Sorted.{IsStrictlySortedBy}
 use Rattle.std.specs.Borrow.{Bor}
@@ -34,12 +34,15 @@ use Rattle.cli_words.specs.declared.words.ProblemWords.{ProblemWords}
 use Rattle.cli_words.specs.declared.words.ListWords.{ListWords}
 use Rattle.cli_words.specs.declared.words.JudgeWords.{JudgeWords}
 use Rattle.cli_words.specs.declared.words.ShareWords.{ShareWords}
+use Rattle.cli_words.specs.declared.words.ServeWords.{ServeWords}
+use Rattle.cli_words.specs.declared.words.DeskWords.{DeskWords}
 use Rattle.cli_words.specs.declared.words.CommandWords.TheVariants.{List as ListAll}
 use Rattle.cli_file_stores.specs.Files.{NamedFile, Files}
 use Rattle.cli_answers.specs.Answer.{Answered}
 use Rattle.cli_runs.specs.FilesProblem.{AreCountiesOfFiles, IsReadAsIfNamed, IsProblemOfFiles, IsGroupingIfNamed}
 use Rattle.cli_runs.specs.ListCourse.{listing_answer}
-use Rattle.cli_runs.specs.Headline.{TellsNone, TellsFault, JudgeTellsLawful, ListTellsAll, ShareTellsBest, Tells}
+use Rattle.cli_runs.specs.ServeCourse.{standard_input}
+use Rattle.cli_runs.specs.Headline.{TellsNone, TellsFault, JudgeTellsLawful, ListTellsAll, ShareTellsBest, ServeTellsBest, DeskTells, Tells}
 use Rattle.cli_runs.proofs.FilesRead.{counties_of_files}
 
 -- ---- the counties of files
@@ -178,6 +181,20 @@ told_grouping files words stored a told text g held read =
 told_target : (files : Files) (words : ShareWords) (a : Answered) (told : ShareTellsBest files words a) (g : Grouping) → told.last.round.target ≡ Some g → told.target ≡ g
 told_target files words a told g is =
     let both : Some told.target ≡ Some g = sym told.target_is ∙ is in
+    cc both
+
+-- ---- board: the same
+
+served_target : (files : Files) (words : ServeWords) (a : Answered) (told : ServeTellsBest files words a) (g : Grouping) → told.last.round.target ≡ Some g → told.target ≡ g
+served_target files words a told g is =
+    let both : Some told.target ≡ Some g = sym told.last_target ∙ is in
+    cc both
+
+-- ---- desk: what was read is all of standard input
+
+proved_input : (files : Files) (words : DeskWords) (a : Answered) (told : DeskTells files words a) (text : List ℕ) → files standard_input ≡ Some text → told.bytes ≡ text
+proved_input files words a told text held =
+    let both : Some told.bytes ≡ Some text = sym told.input ∙ held in
     cc both
 
 -- ---- list: a certificate of the files' problem is never refused

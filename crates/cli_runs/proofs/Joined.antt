@@ -1,11 +1,8 @@
 -- Every check of a certificate that `share` stored says that the board's target is best.
-use Rattle.std.proofs.Common.{◌≡◌, ◌≢◌, ◌≤◌, ◌⊎◌, ℕ, List, [], ◌∷◌, ◌++◌, length, Option, Some, None, inl, inr, refl, sym, ap, ap₂, ◌∙◌, arith}
-use Rattle.std.specs.Prelude.{Ok, Err, codes, option_map}
-use Rattle.std.specs.List.{flat_map}
+use Rattle.std.proofs.Common.{◌≡◌, ◌≢◌, ◌⊎◌, ℕ, List, [], ◌∷◌, Option, Some, None, inl, inr, refl, ap₂, ◌∙◌, arith}
+use Rattle.std.specs.Prelude.{Err, option_map}
 use Rattle.std.specs.Borrow.{Bor}
 use Rattle.county_problem.specs.ProblemValue.{problem_of}
-use Rattle.grouping_laws.specs.Grouping.{Grouping}
-use Rattle.board_events.specs.Replies.{reply_line}
 use Rattle.board_report.specs.BoardOutcome.{IsJoinedText, AreJoined}
 use Rattle.board_report.specs.declared.board_outcome.Shared.{Shared}
 use Rattle.certificate_checker.proofs.Agrees as texts
@@ -14,13 +11,12 @@ use Rattle.cli_words.specs.declared.words.CommandWords.TheVariants.{Share}
 use Rattle.cli_file_stores.specs.Files.{NamedFile, Files}
 use Rattle.cli_file_stores.specs.History.{History}
 use Rattle.cli_answers.specs.Answer.{Answered, memory_answer}
-use Rattle.cli_runs.specs.ShareCourse.{left_status, share_answer, share_course, joined_file}
+use Rattle.cli_runs.specs.ShareCourse.{share_answer, share_course, joined_file}
 use Rattle.cli_runs.specs.Storing.{named_file, store_steps, said_after}
 use Rattle.cli_runs.specs.Run.{CommandRun}
-use Rattle.cli_runs.specs.Headline.{ShareTellsBest, ShareTellsOpen}
 use Rattle.cli_runs.specs.Agreement.{ChecksAs, best_said, SharesBest}
 use Rattle.cli_runs.proofs.Ending.{HasEnded, same_status, not_refused, not_out_of_memory, stopped_or_ended}
-use Rattle.cli_runs.proofs.StoreLemmas.{all_stored, refusal_status}
+use Rattle.cli_runs.proofs.StoreLemmas.{all_stored}
 use Rattle.cli_runs.proofs.FilesRead.{reads_again}
 use Rattle.cli_runs.proofs.Checking.{checked_best, check_agrees}
 use Rattle.cli_runs.proofs.BoardTells.{StopsAtBudget, HasShared, shared_of, share_stops, joined_text, none_joined, certificate_of_run, none_to_store, answer_is, best_told}
@@ -52,7 +48,7 @@ module _ (files : Files) (words : ShareWords) (stored : List NamedFile) (a : Ans
   module _ (s : Shared) (h : HasShared files words s) (all : stored ≡ joined_file words s) (said : a ≡ share_answer s) (zero : a.status ≡ 0) where
     pieces_share : (found : List ℕ) → h.shared.ended.found ≡ found → AreJoined (problem_of h.v) h.shared.last found (certificate_of_run files words s) → SharesBest files words stored a
     pieces_share [] is joined =
-        let text = joined_text files words (problem_of h.v) h.shared.last (certificate_of_run files words s) joined in
+        let text = joined_text (problem_of h.v) h.shared.last (certificate_of_run files words s) joined in
         record {
           told = best_told files words a s h said is text.0 text.2;
           proof = λ name named. (
@@ -85,7 +81,7 @@ module _ (files : Files) (words : ShareWords) (stored : List NamedFile) (a : Ans
       → AreJoined (problem_of h.v) h.shared.last found (certificate_of_run files words s) → joined_file words s ≡ []
   pieces_none s h said other [] is joined = absurd (other (same_status a _ (answer_is files words a s h said [] is)))
   pieces_none s h said other (piece ∷ pieces) is joined =
-      none_to_store files words s (none_joined files words (problem_of h.v) h.shared.last piece pieces (certificate_of_run files words s) joined)
+      none_to_store files words s (none_joined (problem_of h.v) h.shared.last piece pieces (certificate_of_run files words s) joined)
 
   -- a file that was refused, or nothing to store
   stored_none : (s : Shared) (h : HasShared files words s) (between after : History) (refusal : Option Answered)

@@ -1,9 +1,8 @@
 -- What a run of `judge` tells.
-use Rattle.std.proofs.Common.{◌≡◌, ◌≤◌, ◌⊎◌, ℕ, List, [], Option, Some, None, inl, inr, sym, ap, ◌∙◌, arith}
-use Rattle.std.specs.Prelude.{Ok, Err}
+use Rattle.std.proofs.Common.{◌≡◌, ◌≤◌, ◌⊎◌, ℕ, List, [], Option, Some, None, inl, inr, ◌∙◌}
+use Rattle.std.specs.Prelude.{Err}
 use Rattle.std.specs.Borrow.{Bor}
 use Rattle.county_problem.specs.ProblemValue.{ProblemValue, problem_of}
-use Rattle.county_problem.specs.Judging.{IsFault}
 use Rattle.county_problem.specs.declared.grouping_fault.GroupingFault.{GroupingFault}
 use Rattle.grouping_laws.specs.Grouping.{Grouping, IsBest}
 use Rattle.cli_words.specs.declared.words.JudgeWords.{JudgeWords}
@@ -12,8 +11,8 @@ use Rattle.cli_file_stores.specs.Files.{NamedFile, Files}
 use Rattle.cli_file_stores.specs.History.{History}
 use Rattle.cli_answers.specs.Answer.{Answered}
 use Rattle.cli_answers.specs.Refusals.{verdict_answer}
-use Rattle.cli_runs.specs.Course.{Course, ◌>>=◌, GoesOn, load_step, value_step}
-use Rattle.cli_runs.specs.TableCourse.{Tabled, Reported, tabled_problem_in}
+use Rattle.cli_runs.specs.Course.{Course, ◌>>=◌, load_step, value_step}
+use Rattle.cli_runs.specs.TableCourse.{Tabled, Reported}
 use Rattle.cli_runs.specs.FilesProblem.{IsGroupingOfFile}
 use Rattle.cli_runs.specs.Storing.{named_file}
 use Rattle.cli_runs.specs.Run.{CommandRun}
@@ -21,7 +20,7 @@ use Rattle.cli_runs.specs.ProblemCourse.{grouping_of}
 use Rattle.cli_runs.specs.JudgeWithCertificate.{lawful_answer, best_answer, SaysBeside, IsSaidOf, certificate_text_of}
 use Rattle.cli_runs.specs.JudgeCourse.{judge_step, judge_course}
 use Rattle.cli_runs.specs.Headline.{JudgeTellsLawful, JudgeTellsFault, Tells}
-use Rattle.cli_runs.proofs.Refusing.{IsRefusal, Refuses, as_refused, bind_refuses, load_refuses, value_refuses, tabled_refuses, grouping_refuses}
+use Rattle.cli_runs.proofs.Refusing.{IsRefusal, Refuses, bind_refuses, load_refuses, value_refuses, tabled_refuses, grouping_refuses}
 use Rattle.cli_runs.proofs.Ending.{HasEnded, same_status, not_refused, not_out_of_memory, stopped_or_ended}
 use Rattle.cli_runs.proofs.AnswerStatus.{verdict_status}
 use Rattle.cli_runs.proofs.FilesRead.{ReadsTabled, went, tabled_reads, problem_of_files, table_stored}

@@ -21,6 +21,7 @@ mod JudgeTells
 mod ListTells
 mod AuditTells
 mod BoardTells
+mod ServeTells
 mod Listings
 mod LaterLists
 mod Joined

@@ -161,7 +161,7 @@ module _ (given : Option Files) (files : Files) where
   lifts_given name g = lifts_same (given_step name g) (given_same name g)
 
   -- what the reader of one file gave, and those of two
-  lifts_read_one : (name : List ℕ) → Lifts (read_one given name) (read_one (Some files) name)
+  pub lifts_read_one : (name : List ℕ) → Lifts (read_one given name) (read_one (Some files) name)
   lifts_read_one name = lifts_bind (lifts_open name) (λ opened. lifts_read name)
 
   pub lifts_given_of : (name : List ℕ) → Lifts (given_of given name) (given_of (Some files) name)

@@ -22,7 +22,7 @@ use Rattle.cli_runs.specs.WhichGrouping.{number_in_list, number_status}
 use Rattle.cli_runs.specs.ListCourse.{Listed, IsListAnswer, asked_by, list_course, listed_files, listed_all, listed_with, listed_by_number, listing_answer, listing_said, grouping_numbered}
 use Rattle.cli_runs.specs.Storing.{IsStoredAs, named_file}
 use Rattle.cli_runs.specs.Run.{CommandRun}
-use Rattle.cli_runs.specs.Headline.{IsNumberedStored, ListTellsAll, ListTellsOpen, TellsNone, TellsFault, TellsBudget, Tells}
+use Rattle.cli_runs.specs.Headline.{IsNumberedStored, ListTellsAll, Tells}
 use Rattle.cli_runs.proofs.Refusing.{Refuses, bind_refuses, load_refuses, tabled_refuses, which_refuses, value_refuses}
 use Rattle.cli_runs.proofs.Ending.{same_status, not_out_of_memory, has_ended}
 use Rattle.cli_runs.proofs.FilesProblemLemmas.{which_told}

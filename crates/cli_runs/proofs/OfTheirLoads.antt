@@ -20,8 +20,10 @@ use Rattle.cli_words.specs.declared.words.CheckWords.{CheckWords}
 use Rattle.cli_words.specs.declared.words.ListWords.{ListWords}
 use Rattle.cli_words.specs.declared.words.ShareWords.{ShareWords}
 use Rattle.cli_words.specs.declared.words.PieceWords.{PieceWords}
+use Rattle.cli_words.specs.declared.words.ServeWords.{ServeWords}
+use Rattle.cli_words.specs.declared.words.DeskWords.{DeskWords}
 use Rattle.cli_words.specs.declared.words.CommandWords.{CommandWords}
-use Rattle.cli_words.specs.declared.words.CommandWords.TheVariants.{Size, Judge, Solve, Check, Audit, List as ListAll, Share, Piece}
+use Rattle.cli_words.specs.declared.words.CommandWords.TheVariants.{Size, Judge, Solve, Check, Audit, List as ListAll, Share, Piece, Board, Desk}
 use Rattle.cli_file_stores.specs.Files.{NamedFile, Files}
 use Rattle.cli_file_stores.specs.History.{FileStoreEvent, History}
 use Rattle.cli_file_stores.specs.History.FileStoreEvent.{Stored}
@@ -46,15 +48,19 @@ use Rattle.board_report.specs.PieceAnswers.{IsAnswered, piece_budget}
 use Rattle.cli_runs.specs.BoardCourse.{format_of, depth_of, AreEvents, events_of, named_events_of, AnswersOnBoard}
 use Rattle.cli_runs.specs.ShareCourse.{share_answer, share_course, joined_file}
 use Rattle.cli_runs.specs.PieceCourse.{piece_said, piece_course}
+use Rattle.cli_runs.specs.Spoken.{behind}
+use Rattle.cli_runs.specs.ServeCourse.{standard_input, ServedRun, IsServedRun, serve_course}
+use Rattle.cli_runs.specs.DeskCourse.{IsDeskRun, desk_course, DeskEnds}
 use Rattle.cli_record.specs.RecordFiles.{record_name_of}
 use Rattle.cli_runs.specs.Course.{Course, CourseEndsIn}
 use Rattle.cli_runs.specs.Reading.{OfTexts}
-use Rattle.cli_runs.specs.Storing.{EndsStoring, named_file, store_steps}
+use Rattle.cli_runs.specs.Storing.{EndsStoring, named_file, said_after, store_steps}
 use Rattle.cli_runs.specs.Recording.{RecordEnds}
 use Rattle.cli_runs.specs.Run.{CommandEnds, CommandRun, IsRunAnswer, RunsAsAsked}
 use Rattle.cli_runs.specs.Loads.{AnsweredBy, RunsAreOfTheirLoads}
 use Rattle.cli_runs.specs.Headline.{IsStoreTaken}
-use Rattle.cli_runs.proofs.Lifting.{Extends, extends_same, extends_twice, answered_split, Lifts, lifts_load, lifts_given_of, lifts_given_of_both, lifts_call, lifts_value, lifts_bind, lifts_optional, ends_lift}
+use Rattle.cli_runs.proofs.StoreLemmas.{StoresAndSays}
+use Rattle.cli_runs.proofs.Lifting.{Extends, extends_same, extends_twice, answered_split, Lifts, lifts_load, lifts_read_one, lifts_given_of, lifts_given_of_both, lifts_call, lifts_value, lifts_bind, lifts_optional, ends_lift}
 
 -- files that are stored add events
 stores_extend : (list : List NamedFile) (before after : History) (stored : List NamedFile) (refusal : Option Answered) → store_steps list before after stored refusal → Extends before after
@@ -65,11 +71,11 @@ stores_extend (f ∷ fs) before after stored refusal (inr h) =
     (_, extends_twice before h.0 after (_, h.2.1) more)
 
 -- a record that is stored adds its event
-pub record_extends : (words : List (List ℕ)) (command : CommandWords) (name : List ℕ) (before between after : History) (last : List NamedFile) (said a : Answered)
-    → RecordEnds words command name before between after last said a → Extends between after
-record_extends words command name before between after last said a (inl h) = extends_same between after h.1.still
-record_extends words command name before between after last said a (inr (is, inl more)) = extends_same between after more.still
-record_extends words command name before between after last said a (inr (is, inr s)) = stores_extend (record { name = name; bytes = s.text } ∷ []) between after last s.refusal s.steps
+pub record_extends : (words : List (List ℕ)) (command : CommandWords) (name : List ℕ) (before between after : History) (last : List NamedFile) (written : List ℕ) (said a : Answered)
+    → RecordEnds words command name before between after last written said a → Extends between after
+record_extends words command name before between after last written said a (inl h) = extends_same between after h.1.still
+record_extends words command name before between after last written said a (inr (is, inl more)) = extends_same between after more.still
+record_extends words command name before between after last written said a (inr (is, inr s)) = stores_extend (record { name = name; bytes = s.text } ∷ []) between after last s.refusal s.steps
 
 module _ (given : Option Files) (files : Files) where
   counties_lift : (words : CommonWords) → Lifts given files (counties_course given words) (counties_course (Some files) words)
@@ -165,13 +171,40 @@ module _ (given : Option Files) (files : Files) where
       lifts_bind given files (lifts_call given files board_answer (AnswersOnBoard v g words.board.round piece_budget (λ round. IsAnswered (problem_of v) (depth_of words.board.round) round events words.number))) (λ piece.
       lifts_value given files (λ a. a ≡ piece_said words.round words.number piece)))))
 
+  serve_lifts : (words : ServeWords) → Lifts given files (serve_course given words) (serve_course (Some files) words)
+  serve_lifts words =
+      lifts_bind given files (problem_lifts words.board.problem) (λ v. lifts_bind given files (grouping_lifts words.board.grouping.now) (λ g.
+      lifts_bind given files (lifts_read_one given files standard_input) (λ back. lifts_value given files (IsServedRun v words g back))))
+
+  desk_lifts : (words : DeskWords) → Lifts given files (desk_course given words) (desk_course (Some files) words)
+  desk_lifts words =
+      lifts_bind given files (problem_lifts words.problem) (λ v. lifts_bind given files (lifts_read_one given files standard_input) (λ back. lifts_value given files (IsDeskRun v back)))
+
+  -- steps after whose files something is said
+  saying_ends : {S : Type 0} (steps told : Course S) (files_of : S → List NamedFile) (say : S → Option Answered → Answered) → Lifts given files steps told
+      → (before after : History) (stored : List NamedFile) (a : Answered) → StoresAndSays steps files_of say before after stored a → AnsweredBy files before after
+      → StoresAndSays told files_of say before after stored a
+  saying_ends steps told files_of say lift before after stored a (inl h) by = inl (lift.lifts before after (Err a) h.0 by, h.1)
+  saying_ends steps told files_of say lift before after stored a (inr h) by =
+      let parts = answered_split given files before h.1 after (lift.extends before h.1 (Ok h.0) h.3) (stores_extend _ h.1 after stored h.2 h.4) by in
+      inr (h.0, h.1, h.2, lift.lifts before h.1 (Ok h.0) h.3 parts.0, h.4, h.5)
+
   storing_ends : {S : Type 0} (steps told : Course S) (files_of : S → List NamedFile) (answer : S → Answered) → Lifts given files steps told
       → (before after : History) (stored : List NamedFile) (a : Answered) → EndsStoring steps files_of answer before after stored a → AnsweredBy files before after
       → EndsStoring told files_of answer before after stored a
-  storing_ends steps told files_of answer lift before after stored a (inl h) by = inl (lift.lifts before after (Err a) h.0 by, h.1)
-  storing_ends steps told files_of answer lift before after stored a (inr h) by =
-      let parts = answered_split given files before h.1 after (lift.extends before h.1 (Ok h.0) h.3) (stores_extend _ h.1 after stored h.2 h.4) by in
-      inr (h.0, h.1, h.2, lift.lifts before h.1 (Ok h.0) h.3 parts.0, h.4, h.5)
+  storing_ends steps told files_of answer lift before after stored a h by = saying_ends steps told files_of (λ s refusal. said_after refusal (answer s)) lift before after stored a h by
+
+  -- what `board` stores, and what it says then
+  abbrev board_files : ServeWords → ServedRun → List NamedFile
+  board_files words s = named_file words.certificate s.certificate
+
+  abbrev board_said : ServedRun → Option Answered → Answered
+  board_said s refusal = behind s.text (said_after refusal s.end)
+
+  desk_ends : (words : DeskWords) (before after : History) (stored : List NamedFile) (a : Answered) → DeskEnds given words before after stored a → AnsweredBy files before after
+      → DeskEnds (Some files) words before after stored a
+  desk_ends words before after stored a (inl stop, none) by = (inl ((desk_lifts words).lifts before after (Err a) stop by), none)
+  desk_ends words before after stored a (inr h, none) by = (inr (h.0, (desk_lifts words).lifts before after (Ok h.0) h.1 by, h.2), none)
 
   command_ends : (command : CommandWords) (before after : History) (stored : List NamedFile) (a : Answered) → CommandEnds given command before after stored a → AnsweredBy files before after
       → CommandEnds (Some files) command before after stored a
@@ -183,19 +216,29 @@ module _ (given : Option Files) (files : Files) where
   command_ends (ListAll words) before after stored a h by = storing_ends _ _ (listed_files words) (λ s. s.answer) (list_lifts words) before after stored a h by
   command_ends (Share words) before after stored a h by = storing_ends _ _ (joined_file words) share_answer (share_lifts words) before after stored a h by
   command_ends (Piece words) before after stored a h by = (ends_lift given files (piece_lifts words) before after a h.0 by, h.1)
+  command_ends (Board words) before after stored a h by = saying_ends _ _ (board_files words) board_said (serve_lifts words) before after stored a h by
+  command_ends (Desk words) before after stored a h by = desk_ends words before after stored a h by
 
   -- a command's steps only add events
   quiet_extends : (steps told : Course Answered) → Lifts given files steps told → (before after : History) (a : Answered) → CourseEndsIn steps before after a → Extends before after
   quiet_extends steps told lift before after a (inl h) = lift.extends before after (Ok a) h
   quiet_extends steps told lift before after a (inr h) = lift.extends before after (Err a) h
 
-  storing_extends : {S : Type 0} (steps told : Course S) (files_of : S → List NamedFile) (answer : S → Answered) → Lifts given files steps told
-      → (before after : History) (stored : List NamedFile) (a : Answered) → EndsStoring steps files_of answer before after stored a → Extends before after
-  storing_extends steps told files_of answer lift before after stored a (inl h) = lift.extends before after (Err a) h.0
-  storing_extends steps told files_of answer lift before after stored a (inr h) =
+  saying_extends : {S : Type 0} (steps told : Course S) (files_of : S → List NamedFile) (say : S → Option Answered → Answered) → Lifts given files steps told
+      → (before after : History) (stored : List NamedFile) (a : Answered) → StoresAndSays steps files_of say before after stored a → Extends before after
+  saying_extends steps told files_of say lift before after stored a (inl h) = lift.extends before after (Err a) h.0
+  saying_extends steps told files_of say lift before after stored a (inr h) =
       let read = lift.extends before h.1 (Ok h.0) h.3 in
       let put = stores_extend (files_of h.0) h.1 after stored h.2 h.4 in
       (read.0 ++ put.0, extends_twice before h.1 after read put)
+
+  storing_extends : {S : Type 0} (steps told : Course S) (files_of : S → List NamedFile) (answer : S → Answered) → Lifts given files steps told
+      → (before after : History) (stored : List NamedFile) (a : Answered) → EndsStoring steps files_of answer before after stored a → Extends before after
+  storing_extends steps told files_of answer lift before after stored a h = saying_extends steps told files_of (λ s refusal. said_after refusal (answer s)) lift before after stored a h
+
+  desk_extends : (words : DeskWords) (before after : History) (stored : List NamedFile) (a : Answered) → DeskEnds given words before after stored a → Extends before after
+  desk_extends words before after stored a (inl stop, none) = (desk_lifts words).extends before after (Err a) stop
+  desk_extends words before after stored a (inr h, none) = (desk_lifts words).extends before after (Ok h.0) h.1
 
   command_extends : (command : CommandWords) (before after : History) (stored : List NamedFile) (a : Answered) → CommandEnds given command before after stored a → Extends before after
   command_extends (Size words) before after stored a h = quiet_extends _ _ (size_lifts words) before after a h.0
@@ -206,6 +249,8 @@ module _ (given : Option Files) (files : Files) where
   command_extends (ListAll words) before after stored a h = storing_extends _ _ (listed_files words) (λ s. s.answer) (list_lifts words) before after stored a h
   command_extends (Share words) before after stored a h = storing_extends _ _ (joined_file words) share_answer (share_lifts words) before after stored a h
   command_extends (Piece words) before after stored a h = quiet_extends _ _ (piece_lifts words) before after a h.0
+  command_extends (Board words) before after stored a h = saying_extends _ _ (board_files words) board_said (serve_lifts words) before after stored a h
+  command_extends (Desk words) before after stored a h = desk_extends words before after stored a h
 
   command_run : (command : CommandWords) (before after : History) (stored : List NamedFile) (a : Answered) → CommandRun given command before after stored a → AnsweredBy files before after
       → CommandRun (Some files) command before after stored a
@@ -213,25 +258,29 @@ module _ (given : Option Files) (files : Files) where
   command_run command before after stored a (inr ends) by = inr (command_ends command before after stored a ends by)
 
   -- a run with its record
-  pub own_run : (words : List (List ℕ)) (command : CommandWords) (name : List ℕ) (before between after : History) (own last : List NamedFile) (said a : Answered)
-      → CommandRun given command before between own said → RecordEnds words command name before between after last said a → AnsweredBy files before after
-      → CommandRun (Some files) command before between own said
-  own_run words command name before between after own last said a (inl none) end by = inl none
-  own_run words command name before between after own last said a (inr ends) end by =
-      let parts = answered_split given files before between after (command_extends command before between own said ends) (record_extends words command name before between after last said a end) by in
-      inr (command_ends command before between own said ends parts.0)
+  pub own_run : (words : List (List ℕ)) (command : CommandWords) (name : List ℕ) (before between after : History) (own last : List NamedFile) (written : List ℕ) (said end : Answered)
+      → CommandRun given command before between own (behind written said) → RecordEnds words command name before between after last written said end → AnsweredBy files before after
+      → CommandRun (Some files) command before between own (behind written said)
+  own_run words command name before between after own last written said end (inl none) ends by = inl none
+  own_run words command name before between after own last written said end (inr run) ends by =
+      let whole = behind written said in
+      let parts = answered_split given files before between after (command_extends command before between own whole run) (record_extends words command name before between after last written said end ends) by in
+      inr (command_ends command before between own whole run parts.0)
 
   pub as_asked : (words : List (List ℕ)) (command : CommandWords) (name : Option (List ℕ)) (before after : History) (stored : List NamedFile) (a : Answered)
       → RunsAsAsked given words command name before after stored a → AnsweredBy files before after → RunsAsAsked (Some files) words command name before after stored a
   as_asked words command None before after stored a run by = command_run command before after stored a run by
   as_asked words command (Some name) before after stored a r by = record {
+    written = r.written;
     said = r.said;
+    end = r.end;
     between = r.between;
     own = r.own;
     last = r.last;
-    run = own_run words command name before r.between after r.own r.last r.said a r.run r.end by;
-    end = r.end;
+    run = own_run words command name before r.between after r.own r.last r.written r.said r.end r.run r.record_ends by;
+    record_ends = r.record_ends;
     all = r.all;
+    answer = r.answer;
   }
 
   -- each file that was stored was taken between both histories
@@ -261,11 +310,15 @@ module _ (given : Option Files) (files : Files) where
           subst (λ (x : NamedFile). IsStoreTaken before after x.name x.bytes) same ([], more.0, extends_twice before h.0 after (_, h.2.1) more)
       by_place rest (inr later) = taken_later before h.0 after f.name f.bytes (_, h.2.1) (rest later)
 
+  saying_taken : {S : Type 0} (steps told : Course S) (files_of : S → List NamedFile) (say : S → Option Answered → Answered) → Lifts given files steps told
+      → (before after : History) (stored : List NamedFile) (a : Answered) → StoresAndSays steps files_of say before after stored a → (f : NamedFile) → Contains stored f → IsStoreTaken before after f.name f.bytes
+  saying_taken steps told files_of say lift before after stored a (inl h) f there = absurd (none_holds stored f h.1 there)
+  saying_taken steps told files_of say lift before after stored a (inr h) f there =
+      taken_later before h.1 after f.name f.bytes (lift.extends before h.1 (Ok h.0) h.3) (stores_taken (files_of h.0) h.1 after stored h.2 h.4 f there)
+
   storing_taken : {S : Type 0} (steps told : Course S) (files_of : S → List NamedFile) (answer : S → Answered) → Lifts given files steps told
       → (before after : History) (stored : List NamedFile) (a : Answered) → EndsStoring steps files_of answer before after stored a → (f : NamedFile) → Contains stored f → IsStoreTaken before after f.name f.bytes
-  storing_taken steps told files_of answer lift before after stored a (inl h) f there = absurd (none_holds stored f h.1 there)
-  storing_taken steps told files_of answer lift before after stored a (inr h) f there =
-      taken_later before h.1 after f.name f.bytes (lift.extends before h.1 (Ok h.0) h.3) (stores_taken (files_of h.0) h.1 after stored h.2 h.4 f there)
+  storing_taken steps told files_of answer lift before after stored a h f there = saying_taken steps told files_of (λ s refusal. said_after refusal (answer s)) lift before after stored a h f there
 
   command_taken : (command : CommandWords) (before after : History) (stored : List NamedFile) (a : Answered) → CommandEnds given command before after stored a → (f : NamedFile) → Contains stored f
       → IsStoreTaken before after f.name f.bytes
@@ -277,6 +330,8 @@ module _ (given : Option Files) (files : Files) where
   command_taken (ListAll words) before after stored a h f there = storing_taken _ _ (listed_files words) (λ s. s.answer) (list_lifts words) before after stored a h f there
   command_taken (Share words) before after stored a h f there = storing_taken _ _ (joined_file words) share_answer (share_lifts words) before after stored a h f there
   command_taken (Piece words) before after stored a h f there = absurd (none_holds stored f h.1 there)
+  command_taken (Board words) before after stored a h f there = saying_taken _ _ (board_files words) board_said (serve_lifts words) before after stored a h f there
+  command_taken (Desk words) before after stored a h f there = absurd (none_holds stored f h.1 there)
 
   pub run_taken : (command : CommandWords) (before after : History) (stored : List NamedFile) (a : Answered) → CommandRun given command before after stored a → (f : NamedFile) → Contains stored f
       → IsStoreTaken before after f.name f.bytes

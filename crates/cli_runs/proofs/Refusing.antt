@@ -31,17 +31,17 @@ use Rattle.baf_auditor.specs.declared.fault.AssignmentKind.{AssignmentKind}
 use Rattle.baf_auditor.specs.declared.fault.AssignmentKind.TheVariants as assigned
 use Rattle.baf_auditor.specs.Assignments.{assignment_list}
 use Rattle.cli_answers.specs.declared.refusal.InputFile.{InputFile}
-use Rattle.cli_answers.specs.declared.refusal.InputFile.TheVariants.{Adjacency, Links, Withdrawn, Grouping}
+use Rattle.cli_answers.specs.declared.refusal.InputFile.TheVariants.{Adjacency, Links, Withdrawn, Grouping, Events, Pieces}
 use Rattle.cli_answers.specs.Answer.{Answered}
-use Rattle.cli_answers.specs.Refusals.{file_store_answer, file_answer, pl94_answer, code_line_answer, code_file_answer, problem_answer, named_answer, assignment_line_answer, assignment_answer, events_line_answer, events_answer, board_answer}
+use Rattle.cli_answers.specs.Refusals.{file_store_answer, file_answer, pl94_answer, code_line_answer, code_file_answer, problem_answer, named_answer, assignment_line_answer, assignment_answer, text_line_answer, events_answer, pieces_answer}
 use Rattle.cli_words.specs.declared.words.CommonWords.{CommonWords}
 use Rattle.cli_words.specs.declared.words.ProblemWords.{ProblemWords}
 use Rattle.cli_runs.specs.Course.{Course, ◌>>=◌, load_step, call_step, value_step, optional_step}
-use Rattle.cli_runs.specs.Reading.{given_of, given_of_both, OfTexts}
+use Rattle.cli_runs.specs.Reading.{read_one, given_of, given_of_both, OfTexts}
 use Rattle.cli_runs.specs.PlanCourse.{blocks_of, plan_assignments}
 use Rattle.cli_runs.specs.ListCourse.{which_of}
 use Rattle.cli_runs.specs.TableCourse.{untabled, tabled_by, named_counties_of, tabled_problem_in}
-use Rattle.cli_runs.proofs.Texts.{file_store_status, given_of_cuts, given_of_both_cuts}
+use Rattle.cli_runs.proofs.Texts.{file_store_status, read_one_cuts, given_of_cuts, given_of_both_cuts}
 use Rattle.cli_runs.specs.ProblemCourse.{counties_course, pairs_of, pairs_in, links_of, links_in, withdrawn_of, withdrawn_in, adjacency_of, IsBuilt, problem_over, problem_course, grouping_in, grouping_of}
 
 -- the status of a refusal: 4 for a file, a problem or a board, and 5 for a file store or for memory
@@ -91,19 +91,22 @@ problem_status problem.WithdrawnSeats = inl refl
 problem_status (problem.UnknownPair a b) = inl refl
 problem_status problem.Memory = inr refl
 
-events_line_status : (kind : TextKind) (line : ℕ) → IsRefusal (events_line_answer kind line)
-events_line_status text.BadHead line = inl refl
-events_line_status text.BadWord line = inl refl
-events_line_status text.BadNumber line = inl refl
-events_line_status text.NotCanonical line = inl refl
-events_line_status text.CutShort line = inl refl
-events_line_status text.AfterEnd line = inl refl
-events_line_status text.TooDeep line = inl refl
-events_line_status text.ReadFault line = inl refl
-events_line_status text.Memory line = inr refl
+text_line_status : (file : InputFile) (kind : TextKind) (line : ℕ) → IsRefusal (text_line_answer file kind line)
+text_line_status file text.BadHead line = inl refl
+text_line_status file text.BadWord line = inl refl
+text_line_status file text.BadNumber line = inl refl
+text_line_status file text.NotCanonical line = inl refl
+text_line_status file text.CutShort line = inl refl
+text_line_status file text.AfterEnd line = inl refl
+text_line_status file text.TooDeep line = inl refl
+text_line_status file text.ReadFault line = inl refl
+text_line_status file text.Memory line = inr refl
 
 pub events_status : (fault : TextFault) → IsRefusal (events_answer fault)
-events_status fault = events_line_status fault.kind fault.line
+events_status fault = text_line_status Events fault.kind fault.line
+
+pub pieces_status : (fault : TextFault) → IsRefusal (pieces_answer fault)
+pieces_status fault = text_line_status Pieces fault.kind fault.line
 
 -- an answer that is a refusal's
 pub as_refused : (a b : Answered) → a ≡ b → IsRefusal b → IsRefusal a
@@ -130,6 +133,10 @@ value_refuses P before after a h = absurd h
 optional_refuses : {X : Type 0} (value : X) (steps : List ℕ → Course X) (name : Option (Bor (List ℕ))) → ((file : List ℕ) → Refuses (steps file)) → Refuses (optional_step value steps name)
 optional_refuses value steps None all = value_refuses (λ x. x ≡ value)
 optional_refuses value steps (Some name) all = all name.now
+
+-- a reader that isn't had
+pub read_one_refuses : (files : Option Files) (name : List ℕ) → Refuses (read_one files name)
+read_one_refuses files name before after a h = inr (read_one_cuts files name before after a h)
 
 -- a file that isn't read
 pub given_refuses : (files : Option Files) (name : List ℕ) → Refuses (given_of files name)

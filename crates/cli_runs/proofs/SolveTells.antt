@@ -1,7 +1,6 @@
 -- What a run of `solve` tells.
-use Rattle.std.proofs.Common.{◌≡◌, ◌≤◌, ◌⊎◌, List, [], ◌++◌, Option, Some, None, inl, inr, refl, sym, ap, subst, ◌∙◌, append_assoc}
-use Rattle.std.specs.Borrow.{Bor}
-use Rattle.county_problem.specs.ProblemValue.{ProblemValue, problem_of}
+use Rattle.std.proofs.Common.{◌≡◌, ◌≤◌, List, ◌++◌, Some, None, inl, inr, refl, sym, ap, subst, ◌∙◌, append_assoc}
+use Rattle.county_problem.specs.ProblemValue.{problem_of}
 use Rattle.grouping_laws.specs.Grouping.{Grouping}
 use Rattle.grouping_report.specs.GroupingText.{grouping_text}
 use Rattle.grouping_report.specs.Outcomes.{outcome_text}
@@ -19,7 +18,7 @@ use Rattle.cli_runs.specs.FilesProblem.{IsProblemOfFiles, IsTableOfFiles}
 use Rattle.cli_runs.specs.SolveCourse.{Solved, SaysSolved}
 use Rattle.cli_runs.specs.Storing.{IsStoredAs, named_file}
 use Rattle.cli_runs.specs.Run.{CommandRun}
-use Rattle.cli_runs.specs.Headline.{SolveTellsBest, TellsNone, SolveTellsOpen, Tells}
+use Rattle.cli_runs.specs.Headline.{Tells}
 use Rattle.cli_runs.proofs.Ending.{same_status}
 use Rattle.cli_runs.proofs.FilesRead.{problem_of_files, stored_between, table_stored}
 use Rattle.cli_runs.proofs.Agrees.{HasSaid, has_said}

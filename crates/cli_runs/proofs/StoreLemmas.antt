@@ -1,12 +1,20 @@
 -- What storing files in turn comes to together.
-use Rattle.std.proofs.Common.{◌≡◌, List, [], ◌∷◌, ◌++◌, Option, Some, None, inl, inr, refl, sym, ap, subst, ◌∙◌}
-use Rattle.std.specs.Prelude.{option_map}
+use Rattle.std.proofs.Common.{◌≡◌, ◌⊎◌, List, [], ◌∷◌, ◌++◌, Option, Some, None, inl, inr, refl, sym, ap, subst, ◌∙◌}
+use Rattle.std.specs.Prelude.{Ok, Err, option_map}
 use Rattle.cli_file_stores.specs.Files.{NamedFile, Files, with_file, with_files, with_bytes, with_all}
 use Rattle.cli_file_stores.specs.History.{History}
 use Rattle.cli_answers.specs.Answer.{Answered, memory_answer}
 use Rattle.cli_answers.specs.Refusals.{file_store_answer}
+use Rattle.cli_runs.specs.Course.{Course}
 use Rattle.cli_runs.specs.Storing.{HasStored, IsAnsweredBy, store_steps}
 use Rattle.cli_runs.proofs.Texts.{file_store_status}
+
+-- Steps come to what is to be stored, and its files are then stored. What is said is said by the answer to the file that
+-- was refused, if one was.
+abbrev pub StoresAndSays : {S : Type 0} → Course S → (S → List NamedFile) → (S → Option Answered → Answered) → History → History → List NamedFile → Answered → Type 0
+StoresAndSays {S} steps files_of say before after stored a =
+    (steps before after (Err a) × (stored ≡ []))
+    ⊎ ((s : S) × (between : History) × (refusal : Option Answered) × steps before between (Ok s) × store_steps (files_of s) between after stored refusal × (a ≡ say s refusal))
 
 -- nothing was stored
 all_none : (files : Option Files) → files ≡ option_map (λ held. with_all held []) files

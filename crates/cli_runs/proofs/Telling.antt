@@ -1,21 +1,22 @@
 -- What an answer with status 0, 1 or 3 tells of the files that a run read.
-use Rattle.std.proofs.Common.{◌≡◌, ◌≤◌, ◌⊎◌, ℕ, List, [], ◌∷◌, ◌++◌, Contains, append_assoc, Option, Some, None, inl, inr, refl, sym, ap, subst, ◌∙◌, arith}
+use Rattle.std.proofs.Common.{◌≡◌, ◌≤◌, ℕ, List, [], ◌∷◌, ◌++◌, append_assoc, Option, Some, None, inl, inr, sym, ap, subst, ◌∙◌, arith}
 use Rattle.std.specs.Prelude.{true}
 use Rattle.cli_words.specs.declared.words.CommandWords.{CommandWords}
-use Rattle.cli_words.specs.declared.words.CommandWords.TheVariants.{Size, Judge, Solve, Check, Audit, List as ListAll, Share, Piece}
+use Rattle.cli_words.specs.declared.words.CommandWords.TheVariants.{Size, Judge, Solve, Check, Audit, List as ListAll, Share, Piece, Board, Desk}
 use Rattle.cli_words.specs.declared.end.WordsEnd.{WordsEnd}
 use Rattle.cli_words.specs.declared.end.WordsEnd.TheVariants.{Help, Version, Usage, Memory}
 use Rattle.cli_words.specs.Words.{EndsTaken}
 use Rattle.cli_file_stores.specs.Files.{NamedFile, Files}
 use Rattle.cli_file_stores.specs.History.{FileStoreEvent, History}
 use Rattle.cli_file_stores.specs.History.FileStoreEvent.{Stored}
-use Rattle.cli_answers.specs.Answer.{Answered, memory_answer}
+use Rattle.cli_answers.specs.Answer.{Answered}
 use Rattle.cli_record.specs.RecordFiles.{record_name_of}
+use Rattle.cli_runs.specs.Spoken.{behind}
 use Rattle.cli_runs.specs.Storing.{said_after, store_steps}
 use Rattle.cli_runs.specs.Recording.{is_recorded, RecordEnds}
 use Rattle.cli_runs.specs.Loads.{AnsweredBy}
 use Rattle.cli_runs.specs.Run.{CommandRun, IsEndAnswer, IsRunAnswer, RunsAsAsked}
-use Rattle.cli_runs.specs.Headline.{IsStoreTaken, AreTaken, Tells, TellsOfFiles, RunsTell, RunTells}
+use Rattle.cli_runs.specs.Headline.{IsStoreTaken, AreTaken, Tells, RunsTell, RunTells}
 use Rattle.cli_runs.proofs.AnswerStatus.{answer_status, at_most_three}
 use Rattle.cli_runs.proofs.SolveTells.{solve_tells}
 use Rattle.cli_runs.proofs.CheckTells.{check_tells}
@@ -23,6 +24,7 @@ use Rattle.cli_runs.proofs.JudgeTells.{judge_tells}
 use Rattle.cli_runs.proofs.ListTells.{list_tells}
 use Rattle.cli_runs.proofs.AuditTells.{audit_tells, size_tells}
 use Rattle.cli_runs.proofs.BoardTells.{share_tells, piece_tells}
+use Rattle.cli_runs.proofs.ServeTells.{serve_tells, desk_tells}
 use Rattle.cli_runs.proofs.Ending.{same_status, not_refused, not_out_of_memory}
 use Rattle.cli_runs.proofs.OfTheirLoads.{as_asked, own_run, record_extends, run_taken}
 use Rattle.cli_runs.proofs.Lifting.{Extends}
@@ -39,6 +41,8 @@ command_tells files (Audit words) before after stored a run low = audit_tells fi
 command_tells files (ListAll words) before after stored a run low = list_tells files words before after stored a run low
 command_tells files (Share words) before after stored a run low = share_tells files words before after stored a run low
 command_tells files (Piece words) before after stored a run low = piece_tells files words before after stored a run low
+command_tells files (Board words) before after stored a run low = serve_tells files words before after stored a run low
+command_tells files (Desk words) before after stored a run low = desk_tells files words before after stored a run low
 
 pub runs_tell : RunsTell
 runs_tell files command before after stored a run recorded = command_tells files command before after stored a run (at_most_three a.status (answer_status a.status recorded))
@@ -62,12 +66,12 @@ unrefused list between after last said a None steps is low = is
 unrefused list between after last said a (Some refused) steps is low =
     absurd (not_refused a low (inr (same_status a refused is ∙ refusal_status list between after last refused steps)))
 
-own_answer : (words : List (List ℕ)) (command : CommandWords) (name : List ℕ) (before between after : History) (last : List NamedFile) (said a : Answered)
-    → RecordEnds words command name before between after last said a → a.status ≤ 3 → a ≡ said
-own_answer words command name before between after last said a (inl h) low = h.1.answer
-own_answer words command name before between after last said a (inr (asked, inl none)) low = absurd (not_out_of_memory a low none.answer)
-own_answer words command name before between after last said a (inr (asked, inr s)) low =
-    unrefused (record { name = name; bytes = s.text } ∷ []) between after last said a s.refusal s.steps s.answer low
+own_answer : (words : List (List ℕ)) (command : CommandWords) (name : List ℕ) (before between after : History) (last : List NamedFile) (written : List ℕ) (said end : Answered)
+    → RecordEnds words command name before between after last written said end → end.status ≤ 3 → end ≡ said
+own_answer words command name before between after last written said end (inl h) low = h.1.answer
+own_answer words command name before between after last written said end (inr (asked, inl none)) low = absurd (not_out_of_memory end low none.answer)
+own_answer words command name before between after last written said end (inr (asked, inr s)) low =
+    unrefused (record { name = name; bytes = s.text } ∷ []) between after last said end s.refusal s.steps s.answer low
 
 -- the files that the command itself stored
 abbrev own_files : (given : Option Files) (words : List (List ℕ)) (command : CommandWords) (name : Option (List ℕ)) (before after : History) (stored : List NamedFile) (a : Answered)
@@ -79,8 +83,8 @@ own_taken : (given : Option Files) (files : Files) (words : List (List ℕ)) (co
     → (run : RunsAsAsked given words command name before after stored a) → AreTaken before after (own_files given words command name before after stored a run)
 own_taken given files words command None before after stored a run f there = run_taken given files command before after stored a run f there
 own_taken given files words command (Some name) before after stored a r f there =
-    taken_on before r.between after f.name f.bytes (run_taken given files command before r.between r.own r.said r.run f there)
-    (record_extends words command name before r.between after r.last r.said a r.end)
+    taken_on before r.between after f.name f.bytes (run_taken given files command before r.between r.own (behind r.written r.said) r.run f there)
+    (record_extends words command name before r.between after r.last r.written r.said r.end r.record_ends)
 
 asked_tells : (given : Option Files) (files : Files) (words : List (List ℕ)) (command : CommandWords) (name : Option (List ℕ)) (before after : History) (stored : List NamedFile) (a : Answered)
     → (run : RunsAsAsked given words command name before after stored a) → AnsweredBy files before after → a.status ≤ 3
@@ -88,10 +92,13 @@ asked_tells : (given : Option Files) (files : Files) (words : List (List ℕ)) (
 asked_tells given files words command None before after stored a run by low =
     command_tells files command before after stored a (as_asked given files words command None before after stored a run by) low
 asked_tells given files words command (Some name) before after stored a r by low =
-    let run = own_run given files words command name before r.between after r.own r.last r.said a r.run r.end by in
-    let is = own_answer words command name before r.between after r.last r.said a r.end low in
-    let same : a.status ≡ r.said.status = same_status a r.said is in
-    subst (Tells files command r.own) (sym is) (command_tells files command before r.between r.own r.said run (omega arith))
+    let run = own_run given files words command name before r.between after r.own r.last r.written r.said r.end r.run r.record_ends by in
+    let whole = behind r.written r.said in
+    let of_end : a.status ≡ r.end.status = same_status a (behind r.written r.end) r.answer in
+    let is = own_answer words command name before r.between after r.last r.written r.said r.end r.record_ends (omega arith) in
+    let of_said : r.end.status ≡ r.said.status = same_status r.end r.said is in
+    let own : a ≡ whole = r.answer ∙ ap (behind r.written) is in
+    subst (Tells files command r.own) (sym own) (command_tells files command before r.between r.own whole run (omega arith))
 
 -- ---- a run
 no_files : Files

@@ -45,7 +45,7 @@ given_cuts name g before after a h = ap (λ (x : Answered). x.status) h.1.2 ∙ 
 value_cuts : {X : Type 0} (P : X → Type 0) → CutsOff (value_step P)
 value_cuts P before after a h = absurd h
 
-read_one_cuts : (files : Option Files) (name : List ℕ) → CutsOff (read_one files name)
+pub read_one_cuts : (files : Option Files) (name : List ℕ) → CutsOff (read_one files name)
 read_one_cuts files name = bind_cuts _ _ (open_cuts files name) (λ opened. read_cuts files name)
 
 pub given_of_cuts : (files : Option Files) (name : List ℕ) → CutsOff (given_of files name)
@@ -71,7 +71,7 @@ module _ (files : Files) where
     pub sees : Foresees given text
 
   -- what the reader of a file gave
-  abbrev IsOf : List ℕ → GivenBack → Type 0
+  abbrev pub IsOf : List ℕ → GivenBack → Type 0
   IsOf name g = ReadsFile files name g.bytes g.answer
 
   begun_by : (name : List ℕ) (bytes : List ℕ) (ended : Bool) → ReadsFile files name bytes (Ok (read_end ended)) → IsBegun name (record { bytes = bytes; ended = ended })
@@ -84,7 +84,7 @@ module _ (files : Files) where
       (subst (λ (bytes : List ℕ). ReadsFile files name bytes (Ok (read_end given.ended))) (sym h.1)
       (subst (λ (answer : Result ReadEnd FileStoreFault). ReadsFile files name g.bytes answer) h.2 reads))
 
-  one_told : (name : List ℕ) (before after : History) (g : GivenBack) → read_one (Some files) name before after (Ok g) → IsOf name g
+  pub one_told : (name : List ℕ) (before after : History) (g : GivenBack) → read_one (Some files) name before after (Ok g) → IsOf name g
   one_told name before after g (inl stop) = absurd stop
   one_told name before after g (inr on) = on.goes_on.0
 

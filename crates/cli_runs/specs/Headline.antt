@@ -1,6 +1,7 @@
 -- What a run says of the machine's files, for each command and each exit status. `files` are the bytes under each name
 -- that the run read, and `stored` are the files that it stored.
-use Rattle.std.specs.Prelude.{◌≡◌, ◌≢◌, ◌⊎◌, ◌++◌, ⊤, ℕ, true, List, [], ◌∷◌, length, Contains, Option, Some, None, codes}
+use Rattle.std.specs.Prelude.{◌≡◌, ◌≢◌, ◌⊎◌, ◌++◌, ⊤, ℕ, true, List, [], ◌∷◌, length, Contains}
+use Rattle.std.specs.Prelude.{Option, Some, None, codes}
 use Rattle.std.specs.List.{flat_map}
 use Rattle.std.specs.Borrow.{Bor}
 use Rattle.county_codes.specs.declared.county.County.{County}
@@ -30,6 +31,8 @@ use Rattle.certificate_data.specs.Round.{Round}
 use Rattle.board_laws.specs.Content.{Content, Event, Reply}
 use Rattle.board_events.specs.Replies.{reply_line}
 use Rattle.board_events.specs.Spelling.{EventsAreSpelled}
+use Rattle.board_events.specs.Coming.{Held}
+use Rattle.board_texts.specs.Coming as texts
 use Rattle.share_board.specs.OpenPieces.{AreOpen}
 use Rattle.share_board.specs.Rounds.{IsBoardFault}
 use Rattle.share_board.specs.declared.fault.BoardFault.TheVariants as fault
@@ -51,9 +54,11 @@ use Rattle.cli_words.specs.declared.words.AuditWords.{AuditWords}
 use Rattle.cli_words.specs.declared.words.ListWords.{ListWords}
 use Rattle.cli_words.specs.declared.words.ShareWords.{ShareWords}
 use Rattle.cli_words.specs.declared.words.PieceWords.{PieceWords}
+use Rattle.cli_words.specs.declared.words.ServeWords.{ServeWords}
+use Rattle.cli_words.specs.declared.words.DeskWords.{DeskWords}
 use Rattle.cli_words.specs.declared.words.CommandWords.{CommandWords}
 use Rattle.cli_words.specs.declared.words.CommandWords.TheVariants.{Size, Judge, Solve, Check, Audit, List as ListAll}
-use Rattle.cli_words.specs.declared.words.CommandWords.TheVariants.{Share, Piece}
+use Rattle.cli_words.specs.declared.words.CommandWords.TheVariants.{Share, Piece, Board, Desk}
 use Rattle.cli_file_stores.specs.Files.{NamedFile, Files}
 use Rattle.cli_file_stores.specs.History.{FileStoreEvent, History}
 use Rattle.cli_file_stores.specs.History.FileStoreEvent.{Stored}
@@ -67,8 +72,9 @@ use Rattle.cli_runs.specs.JudgeWithCertificate.{lawful_answer, best_answer}
 use Rattle.cli_runs.specs.JudgeCourse.{IsDistrictsTable, findings_answer}
 use Rattle.cli_runs.specs.ListCourse.{listing_answer, open_answer, grouping_numbered}
 use Rattle.cli_runs.specs.BoardCourse.{format_of, depth_of, limit_of_words}
-use Rattle.cli_runs.specs.ShareCourse.{left_status}
 use Rattle.cli_runs.specs.PieceCourse.{piece_said}
+use Rattle.cli_runs.specs.ServeCourse.{standard_input, HasServed}
+use Rattle.cli_runs.specs.DeskCourse.{HasProved}
 use Rattle.cli_runs.specs.Recording.{is_recorded}
 use Rattle.cli_runs.specs.Loads.{AnsweredBy}
 use Rattle.cli_runs.specs.Run.{CommandRun}
@@ -281,7 +287,7 @@ pub record ShareTellsOpen (files : Files) (words : ShareWords) (stored : List Na
   pub answer : a ≡ record { text = flat_map reply_line replies ++ board_end_lines last waiting; status = 3 }
   pub none_stored : stored ≡ []
 
--- `share` or `piece` ends with status 3: the budget is below the cost of the opening of the board.
+-- `share`, `piece` or `board` ends with status 3: the budget is below the cost of the opening of the board.
 pub record BoardTellsBudget (files : Files) (words : BoardWords) (budget : ℕ) (a : Answered) : Type 0 where
   pub v : ProblemValue
   pub problem : IsProblemOfFiles files words.problem v
@@ -301,6 +307,64 @@ pub record PieceTells (files : Files) (words : PieceWords) (a : Answered) : Type
   pub piece : PieceAnswer
   pub piece_is : IsAnswerAt (problem_of v) last words.number (Some piece)
   pub answer : a ≡ piece_said words.round words.number (Some piece)
+
+-- ---- board and desk
+
+-- the file begins with these bytes
+abbrev pub BeginsWith : Files → List ℕ → List ℕ → Type 0
+BeginsWith files name bytes = (later : List ℕ) × (files name ≡ Some (bytes ++ later))
+
+-- A board for the problem and the grouping of the files took the events with which standard input begins, and wrote
+-- this text meanwhile. This is then its content.
+pub record ServedEvents (files : Files) (words : ServeWords) (v : ProblemValue) (text : List ℕ) (last : Content)
+    (left : Held) : Type 0 where
+  pub problem : IsProblemOfFiles files words.board.problem v
+  pub target : Grouping
+  pub target_is : IsGroupingOfFile files words.board.grouping.now target
+  pub bytes : List ℕ
+  pub input : BeginsWith files standard_input bytes
+  pub served : HasServed v words target bytes text last left
+
+-- `board` ends with status 0: each event that it read has its reply, and no piece waits. The board's target is then
+-- lawful for the problem of the files, and no lawful grouping has greater counts.
+pub record ServeTellsBest (files : Files) (words : ServeWords) (a : Answered) : Type 0 where
+  pub v : ProblemValue
+  pub text : List ℕ
+  pub last : Content
+  pub left : Held
+  pub board : ServedEvents files words v text last left
+  pub target : Grouping
+  pub last_target : last.round.target ≡ Some target
+  pub best : IsBest (problem_of v) target
+  pub answer : a ≡ success (text ++ codes "joined\n")
+
+-- `board` ends with status 3: each event of standard input has its reply, and these pieces wait. Nothing was stored.
+pub record ServeTellsOpen (files : Files) (words : ServeWords) (stored : List NamedFile) (a : Answered) : Type 0 where
+  pub v : ProblemValue
+  pub text : List ℕ
+  pub last : Content
+  pub left : Held
+  pub board : ServedEvents files words v text last left
+  pub all : files standard_input ≡ Some board.bytes
+  pub none_left : left.bytes ≡ []
+  pub waiting : List ℕ
+  pub waiting_are : AreOpen last.skeleton waiting
+  pub some : waiting ≢ []
+  pub answer : a ≡ record { text = text ++ board_end_lines last waiting; status = 3 }
+  pub none_stored : stored ≡ []
+
+-- `desk` ends with status 0: standard input is the rounds and the open pieces that it read, and the text has the answer
+-- to each piece.
+pub record DeskTells (files : Files) (words : DeskWords) (a : Answered) : Type 0 where
+  pub v : ProblemValue
+  pub problem : IsProblemOfFiles files words.problem v
+  pub bytes : List ℕ
+  pub input : files standard_input ≡ Some bytes
+  pub text : List ℕ
+  pub left : texts.Held
+  pub none_left : left.bytes ≡ []
+  pub proved : HasProved v bytes text left
+  pub answer : a ≡ success text
 
 -- ---- all commands
 
@@ -340,6 +404,12 @@ Tells files (Piece words) stored a =
     (PieceTells files words a)
     ⊥
     (PieceTells files words a ⊎ BoardTellsBudget files words.board piece_budget a)
+Tells files (Board words) stored a =
+    ByStatus a.status
+    (ServeTellsBest files words a)
+    ⊥
+    (ServeTellsOpen files words stored a ⊎ BoardTellsBudget files words.board words.budget a)
+Tells files (Desk words) stored a = ByStatus a.status (DeskTells files words a) ⊥ ⊥
 
 -- what a run of a command tells of files that it was given
 abbrev pub RunsTell : Type 0

@@ -12,7 +12,10 @@ pub mod ListCourse
 pub mod BoardCourse
 pub mod ShareCourse
 pub mod PieceCourse
+pub mod Spoken
 pub mod Storing
+pub mod ServeCourse
+pub mod DeskCourse
 pub mod Recording
 pub mod Run
 pub mod Loads

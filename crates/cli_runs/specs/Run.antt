@@ -3,7 +3,7 @@ use Rattle.std.specs.Prelude.{◌≡◌, ◌⊎◌, ◌≤◌, ◌++◌, ℕ, tr
 use Rattle.cli_words.specs.Words.{Means, EndsFor, EndsTaken, faults_of, takes_words}
 use Rattle.cli_words.specs.declared.words.CommandWords.{CommandWords}
 use Rattle.cli_words.specs.declared.words.CommandWords.TheVariants.{Size, Judge, Solve, Check, Audit, List as ListAll}
-use Rattle.cli_words.specs.declared.words.CommandWords.TheVariants.{Share, Piece}
+use Rattle.cli_words.specs.declared.words.CommandWords.TheVariants.{Share, Piece, Board, Desk}
 use Rattle.cli_words.specs.declared.end.WordsEnd.{WordsEnd}
 use Rattle.cli_words.specs.declared.end.WordsEnd.TheVariants.{Help, Version, Usage, Memory}
 use Rattle.cli_file_stores.specs.Files.{NamedFile, Files}
@@ -16,6 +16,9 @@ use Rattle.cli_runs.specs.CheckCourse.{CheckEnds}
 use Rattle.cli_runs.specs.ListCourse.{ListEnds}
 use Rattle.cli_runs.specs.ShareCourse.{ShareEnds}
 use Rattle.cli_runs.specs.PieceCourse.{piece_course}
+use Rattle.cli_runs.specs.Spoken.{behind}
+use Rattle.cli_runs.specs.ServeCourse.{ServeEnds}
+use Rattle.cli_runs.specs.DeskCourse.{DeskEnds}
 use Rattle.cli_record.specs.RecordFiles.{record_name_of}
 use Rattle.cli_runs.specs.Recording.{RecordEnds}
 
@@ -32,6 +35,8 @@ CommandEnds files (ListAll words) before after stored a = ListEnds files words b
 CommandEnds files (Share words) before after stored a = ShareEnds files words before after stored a
 CommandEnds files (Piece words) before after stored a =
     CourseEndsIn (piece_course files words) before after a × (stored ≡ [])
+CommandEnds files (Board words) before after stored a = ServeEnds files words before after stored a
+CommandEnds files (Desk words) before after stored a = DeskEnds files words before after stored a
 
 -- nothing was stored, since a growth was refused
 abbrev pub IsOutOfMemory : List NamedFile → Answered → Type 0
@@ -43,16 +48,19 @@ CommandRun files command before after stored a =
     IsOutOfMemory stored a ⊎ CommandEnds files command before after stored a
 
 -- a run of a command whose words name a file for its record: the command's own files are stored first, and the record
--- is the last
+-- is the last; what the command wrote before its answer stands in front of it
 pub record RunsWithRecord (files : Option Files) (words : List (List ℕ)) (command : CommandWords) (name : List ℕ)
     (before after : History) (stored : List NamedFile) (a : Answered) : Type 0 where
+  pub written : List ℕ
   pub said : Answered
+  pub end : Answered
   pub between : History
   pub own : List NamedFile
   pub last : List NamedFile
-  pub run : CommandRun files command before between own said
-  pub end : RecordEnds words command name before between after last said a
+  pub run : CommandRun files command before between own (behind written said)
+  pub record_ends : RecordEnds words command name before between after last written said end
   pub all : stored ≡ own ++ last
+  pub answer : a ≡ behind written end
 
 -- a run of a command, with its record if the words name a file for it
 abbrev pub RunsAsAsked : Option Files → List (List ℕ) → CommandWords → Option (List ℕ) → History → History
@@ -103,3 +111,5 @@ HasState (Audit words) = words.problem.common.state ≤ 99
 HasState (ListAll words) = words.check.problem.common.state ≤ 99
 HasState (Share words) = words.board.problem.common.state ≤ 99
 HasState (Piece words) = words.board.problem.common.state ≤ 99
+HasState (Board words) = words.board.problem.common.state ≤ 99
+HasState (Desk words) = words.problem.common.state ≤ 99

@@ -3,10 +3,11 @@
 //!
 //! The definitions stand in `specs/`. `Course` has steps up to the first fault. `ProblemCourse`, `TableCourse` and
 //! `PlanCourse` lead from files to values. The commands are in `JudgeCourse`, `JudgeWithCertificate`, `SolveCourse`,
-//! `CheckCourse`, `ListCourse`, `BoardCourse`, `ShareCourse` and `PieceCourse`. `Storing` is about files that are
-//! stored. `Run` has the runs, and `Loads` has those over files that aren't told. `Headline` has what a run of each
-//! command tells of its files, and `Agreement` what later runs say of a stored certificate. `WhichGrouping` has the
-//! number of a grouping in a list.
+//! `CheckCourse`, `ListCourse`, `BoardCourse`, `ShareCourse` and `PieceCourse`. `ServeCourse` and `DeskCourse` have the
+//! commands `board` and `desk`, which write as they go on. `Spoken` puts an answer behind what was written before it.
+//! `Storing` is about files that are stored. `Run` has the runs, and `Loads` has those over files that aren't told.
+//! `Headline` has what a run of each command tells of its files, and `Agreement` what later runs say of a stored
+//! certificate. `WhichGrouping` has the number of a grouping in a list.
 #![tactic(auto)]
 
 mod audit_report;

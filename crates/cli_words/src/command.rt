@@ -4,8 +4,8 @@ ghost use Rattle.clap.specs.Words.{app_of, rule_of};
 ghost use Rattle.cli_words.specs.Command.{AddsCommand, AddsOption, HasMore, HasShape, countygroups, countygroups_alone};
 ghost use Rattle.cli_words.specs.Command.{subcommand, of_number, common_options, problem_options, judge_options};
 ghost use Rattle.cli_words.specs.Command.{solve_options, check_options, audit_options, list_options, board_options};
-ghost use Rattle.cli_words.specs.Command.{certificate_options, share_options, piece_options, of_steps, required};
-ghost use Rattle.cli_words.specs.Command.{text_option, with_default};
+ghost use Rattle.cli_words.specs.Command.{certificate_options, share_options, piece_options, serve_options, desk_options};
+ghost use Rattle.cli_words.specs.Command.{of_steps, required, text_option, with_default};
 
 use crate::version::VERSION;
 use clap::{Arg, ArgAction, Command, value_parser};
@@ -24,9 +24,10 @@ Exit status:
   0  an answer, help or the version
   1  a fault of the grouping, a finding, no lawful grouping, or a text that is no certificate
   2  the words are no command
-  3  the steps of `solve` or `piece` or the budget of `check`, `list` or `share` ran out, `list`
-     stays open, or `share` has pieces left
-  4  a file, the problem, the board, or the number of a grouping or of a piece was refused
+  3  the steps of `solve` or `piece` or the budget of `check`, `list`, `share` or `board` ran out,
+     `list` stays open, or `share` or `board` has pieces left
+  4  a file, the problem, the board, an event of `board`, a text that `desk` reads, or the number of
+     a grouping or of a piece was refused
   5  a file could not be read or stored, memory was refused, or the answer could not be written
 
 With --record FILE a run with status 0, 1 or 3 stores its record, the last of its files: the words,
@@ -172,6 +173,41 @@ Exit status:
   2  the words are no command
   3  the steps ran out, or opening the board would take more than 10,000,000
   4  a file, the problem or the board was refused, or no piece waits under the number
+  5  a file could not be read or stored, memory was refused, or the answer could not be written";
+
+/// What `board --help` ends with.
+const AFTER_BOARD: &str = "\
+A board as that of `share` reads events from /dev/stdin as they come, and writes each reply at once.
+In between it tells desks what is to be proved: `round` with the target at its start and at each new
+round, and `open` with the state of each piece that is opened. It ends when no piece is left, or when
+the events end.
+
+Example:
+  countygroups board --geo nc2020geo.pl --segment nc000012020.pl --chamber 50 \\
+      --adjacency county_adjacency2023.txt --grouping senate.grouping \\
+      --certificate senate.certificate
+
+Exit status:
+  0  the proofs are joined; if --certificate names a file, the certificate is stored
+  2  the words are no command
+  3  pieces are left, or the budget is too small to open the board
+  4  a file, the problem, the board or an event was refused
+  5  a file could not be read or stored, memory was refused, or the answer could not be written";
+
+/// What `desk --help` ends with.
+const AFTER_DESK: &str = "\
+It reads the texts that `board` writes from /dev/stdin: `round` with its target, and `open` with the
+state of a piece. For each piece it prints what `piece` prints, at once. It keeps its lists of groups
+from piece to piece. The pieces are those of wide rounds.
+
+Example:
+  countygroups desk --geo nc2020geo.pl --segment nc000012020.pl --chamber 50 \\
+      --adjacency county_adjacency2023.txt
+
+Exit status:
+  0  the texts ended
+  2  the words are no command
+  4  a file, the problem or a text was refused
   5  a file could not be read or stored, memory was refused, or the answer could not be written";
 
 /// Creates an option `--name VALUE`, where VALUE is `value_name`.
@@ -539,6 +575,32 @@ fn piece_command<'a>(alloc: Global) -> Result<Command<'a>, AllocError>
     with_option(made, steps)
 }
 
+/// Builds the subcommand `board`.
+fn board_command<'a>(alloc: Global) -> Result<Command<'a>, AllocError>
+    ensures { IfOk result (λ c. HasShape c (subcommand (codes "board") serve_options)) }
+{
+    let board = Command::new(alloc, "board")
+        .about("Takes what solvers prove as it comes, and tells what is to be proved")
+        .after_help(AFTER_BOARD);
+    let made = with_board_options(alloc, board);
+    let help = "The most steps of the test of an event";
+    let made = with_option(made, steps_option(alloc, "budget", help));
+    let help = "The file to write the certificate to";
+    with_option(made, text_option(alloc, "certificate", "FILE", help))
+}
+
+/// Builds the subcommand `desk`.
+fn desk_command<'a>(alloc: Global) -> Result<Command<'a>, AllocError>
+    ensures { IfOk result (λ c. HasShape c (subcommand (codes "desk") desk_options)) }
+{
+    let desk = Command::new(alloc, "desk")
+        .about("Proves the pieces that a board tells, one after the other")
+        .after_help(AFTER_DESK);
+    let made = with_problem_options(alloc, desk);
+    let help = "The most steps of the search of one piece";
+    with_option(made, steps_option(alloc, "steps", help))
+}
+
 /// Builds the command of the program without its subcommands.
 fn program_alone<'a>(alloc: Global) -> Result<Command<'a>, AllocError>
     ensures { IfOk result (λ c. app_of c ≡ countygroups_alone) }
@@ -575,5 +637,7 @@ pub(crate) fn program<'a>(alloc: Global) -> Result<Command<'a>, AllocError>
     let program = with_command(program, audit_command(alloc));
     let program = with_command(program, list_command(alloc));
     let program = with_command(program, share_command(alloc));
-    with_command(program, piece_command(alloc))
+    let program = with_command(program, piece_command(alloc));
+    let program = with_command(program, board_command(alloc));
+    with_command(program, desk_command(alloc))
 }

@@ -5,13 +5,13 @@ ghost use Rattle.clap.specs.Takes.{is_given};
 ghost use Rattle.clap.specs.Walk.{texts};
 ghost use Rattle.clap.specs.Words.{FailsBy, first_of, found_of, kind_of, rows_of, subcommand_rows_of};
 ghost use Rattle.cli_words.specs.Command.{audit_options, board_options, certificate_options, check_options};
-ghost use Rattle.cli_words.specs.Command.{common_options, grouping_options, judge_options, list_options, piece_options};
-ghost use Rattle.cli_words.specs.Command.{problem_options, share_options, solve_options};
+ghost use Rattle.cli_words.specs.Command.{common_options, desk_options, grouping_options, judge_options, list_options};
+ghost use Rattle.cli_words.specs.Command.{piece_options, problem_options, serve_options, share_options, solve_options};
 ghost use Rattle.cli_words.specs.Options.{HasCommand, HasValues};
 ghost use Rattle.cli_words.specs.Words.{AreUnpaired, EndsFor, EndsTaken, GivesRoundWords, GivesStored, GivesText, IsOptionsFault};
 ghost use Rattle.cli_words.specs.Words.{LacksLimit, Means, SaysAudit, SaysBoard, SaysCertificate, SaysCheck};
-ghost use Rattle.cli_words.specs.Words.{SaysCommand, SaysCommon, SaysJudge, SaysList, SaysPiece, SaysProblem};
-ghost use Rattle.cli_words.specs.Words.{SaysShare, SaysSolve, SaysWindow, faults_of, subcommand_in, takes_words};
+ghost use Rattle.cli_words.specs.Words.{SaysCommand, SaysCommon, SaysDesk, SaysJudge, SaysList, SaysPiece, SaysProblem};
+ghost use Rattle.cli_words.specs.Words.{SaysServe, SaysShare, SaysSolve, SaysWindow, faults_of, subcommand_in, takes_words};
 ghost use Rattle.cli_words.specs.declared.end.OptionsFault.TheVariants.{Depth, NumberOrOut};
 
 use crate::command::program;
@@ -20,6 +20,9 @@ use clap::error::ErrorKind;
 use clap::{ArgMatches, Error};
 use county_codes::Window;
 use std::alloc::Global;
+
+/// The name of the file that `board` and `desk` read as it comes: standard input.
+pub const STANDARD_INPUT: &str = "/dev/stdin";
 
 /// The words of the command line: a subcommand, with the values of its options.
 #[derive(Clone, Copy, Debug)]
@@ -40,6 +43,10 @@ pub enum CommandWords<'a> {
     Share(ShareWords<'a>),
     /// The proof of one piece of a board.
     Piece(PieceWords<'a>),
+    /// The board that takes proofs as they come.
+    Board(ServeWords<'a>),
+    /// The proofs of the pieces that a board tells.
+    Desk(DeskWords<'a>),
 }
 
 /// The options that each subcommand has.
@@ -213,6 +220,26 @@ pub struct PieceWords<'a> {
     /// The number of the piece.
     pub number: u32,
     /// The most steps of the search; 10,000,000 where the words give none.
+    pub steps: u64,
+}
+
+/// The options of `board`.
+#[derive(Clone, Copy, Debug)]
+pub struct ServeWords<'a> {
+    /// The options that give the board.
+    pub board: BoardWords<'a>,
+    /// The most steps of the test of one event; 10,000,000 where the words give none.
+    pub budget: u64,
+    /// The name of the file that the certificate is written to, where the words give one.
+    pub certificate: Option<&'a str>,
+}
+
+/// The options of `desk`.
+#[derive(Clone, Copy, Debug)]
+pub struct DeskWords<'a> {
+    /// The options that give the problem.
+    pub problem: ProblemWords<'a>,
+    /// The most steps of the search of one piece; 10,000,000 where the words give none.
     pub steps: u64,
 }
 
@@ -470,6 +497,34 @@ fn piece_words<'a>(found: &ArgMatches<'a>) -> Result<PieceWords<'a>, OptionsFaul
     })
 }
 
+/// Reads the values of the options of `board`. Returns the fault `Depth` if `--depth` is given without `--limit`.
+fn serve_words<'a>(found: &ArgMatches<'a>) -> Result<ServeWords<'a>, OptionsFault>
+    requires { HasValues serve_options (rows_of (found_of found.now)) }
+    ensures { MatchResult
+        result
+        (SaysServe (rows_of (found_of found.now)))
+        (λ fault. (fault ≡ Depth) × LacksLimit (rows_of (found_of found.now))) }
+{
+    let board = board_words(found)?;
+    let file = found.get_str("certificate");
+    Ok(ServeWords {
+        board,
+        budget: found.get_one::<u64>("budget").unwrap(),
+        certificate: file,
+    })
+}
+
+/// Reads the values of the options of `desk`.
+fn desk_words<'a>(found: &ArgMatches<'a>) -> DeskWords<'a>
+    requires { HasValues desk_options (rows_of (found_of found.now)) }
+    ensures { SaysDesk (rows_of (found_of found.now)) result }
+{
+    DeskWords {
+        problem: problem_words(found),
+        steps: found.get_one::<u64>("steps").unwrap(),
+    }
+}
+
 /// Reads the command of the subcommand called `name` from the values of its options. Returns a fault if they don't go
 /// together.
 fn command_words<'a>(name: &str, found: &ArgMatches<'a>) -> Result<CommandWords<'a>, OptionsFault>
@@ -485,6 +540,8 @@ fn command_words<'a>(name: &str, found: &ArgMatches<'a>) -> Result<CommandWords<
         "list" => Ok(CommandWords::List(list_words(found)?)),
         "share" => Ok(CommandWords::Share(share_words(found)?)),
         "piece" => Ok(CommandWords::Piece(piece_words(found)?)),
+        "board" => Ok(CommandWords::Board(serve_words(found)?)),
+        "desk" => Ok(CommandWords::Desk(desk_words(found))),
         _ => unreachable!(),
     }
 }
@@ -517,8 +574,8 @@ fn matches_in<'a>(alloc: Global, words: &'a [&'a str]) -> Result<ArgMatches<'a>,
 ///
 /// Words that `clap` doesn't take end in `Help` or `Version` if they ask for that before anything is wrong, and else in
 /// `Usage`. Words of `list` end in `Usage` too if they give one of `--number` and `--out` without the other, or
-/// `--which` beside both. So do words of `share` and `piece` that give `--depth` without `--limit`. `Memory` may come
-/// for any words.
+/// `--which` beside both. So do words of `share`, `piece` and `board` that give `--depth` without `--limit`. `Memory`
+/// may come for any words.
 pub fn parse<'a>(alloc: Global, words: &'a [&'a str]) -> Result<CommandWords<'a>, WordsEnd>
     // The command is what the words mean.
     ensures said { IfOk result (Means (texts words.now)) }

@@ -1,5 +1,5 @@
 use Rattle.std.proofs.Common.{codes}
-use Rattle.cli_words.specs.Command.{audit_options, check_options, common_options, countygroups, judge_options, list_options, piece_options, share_options, solve_options, subcommand}
+use Rattle.cli_words.specs.Command.{audit_options, check_options, common_options, countygroups, desk_options, judge_options, list_options, piece_options, serve_options, share_options, solve_options, subcommand}
 use Rattle.cli_words.proofs.command.program.Goals as goal
 
 pub returns : goal.returns
@@ -12,4 +12,6 @@ returns c =
     let audit = c.with_command-program-5.ensures _ (subcommand (codes "audit") audit_options) check c.audit_command.ensures in
     let list = c.with_command-program-6.ensures _ (subcommand (codes "list") list_options) audit c.list_command.ensures in
     let share = c.with_command-program-7.ensures _ (subcommand (codes "share") share_options) list c.share_command.ensures in
-    c.with_command.ensures _ (subcommand (codes "piece") piece_options) share c.piece_command.ensures
+    let piece = c.with_command-program-8.ensures _ (subcommand (codes "piece") piece_options) share c.piece_command.ensures in
+    let board = c.with_command-program-9.ensures _ (subcommand (codes "board") serve_options) piece c.board_command.ensures in
+    c.with_command.ensures _ (subcommand (codes "desk") desk_options) board c.desk_command.ensures

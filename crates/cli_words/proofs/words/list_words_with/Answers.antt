@@ -1,6 +1,5 @@
-use Rattle.std.proofs.Common.{◌∷◌, ◌⊎◌, [], refl, codes, lit<}
-use Rattle.clap.specs.Words.{found_of, new_rule, rows_of}
-use Rattle.clap.specs.Simple.{filled}
+use Rattle.std.proofs.Common.{◌∷◌, [], refl, codes, lit<}
+use Rattle.clap.specs.Words.{found_of, new_rule}
 use Rattle.cli_words.specs.Command.{certificate_options, of_number, text_option}
 use Rattle.cli_words.proofs.ReadLemmas.{front_values, text_given}
 use Rattle.cli_words.proofs.words.list_words_with.Goals as goal

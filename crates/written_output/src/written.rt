@@ -1,0 +1,61 @@
+//! Texts that are written one after the other.
+
+ghost use Rattle.std.specs.Prelude.{◌≡◌, false, OnOk, OnErr};
+ghost use Rattle.std.specs.Option.{option_map};
+ghost use Rattle.written_output.specs.Writing.{HasWritten, kept_with};
+
+use cli_file_stores::Sink;
+use std::alloc::AllocError;
+
+/// What a run has written so far.
+#[derive(Drop)]
+pub struct Written {
+    /// The text that was written, if it is kept.
+    pub kept: Option<Vec<u8>>,
+    /// Whether a write failed. Nothing is written behind it.
+    pub is_cut: bool,
+}
+
+impl Written {
+    /// Creates the record of a run that has written nothing. What it writes is kept behind `kept`, if that is given.
+    pub fn new(kept: Option<Vec<u8>>) -> Self
+        ensures kept { result.kept ≡ kept }
+        ensures whole { result.is_cut ≡ false }
+    {
+        Written {
+            kept,
+            is_cut: false,
+        }
+    }
+}
+
+/// Appends a `text` to what is kept, if anything is.
+fn keep(kept: &mut Option<Vec<u8>>, text: &[u8]) -> Result<(), AllocError>
+    ensures { OnOk result (option_map (λ v. v.items) kept.new ≡ kept_with (option_map (λ v. v.items) kept.old) text.now) }
+{
+    if let Some(kept) = kept {
+        kept.extend_from_slice(text)?;
+    }
+    Ok(())
+}
+
+/// Writes a `text` to `out`, unless an earlier write failed. The text is kept if `written` keeps what was written.
+///
+/// # Errors
+///
+/// Returns an error if memory for what is kept was refused. Nothing is then written.
+pub fn write_next<W: Sink>(
+    out: &mut W,
+    written: &mut Written,
+    text: &[u8],
+) -> Result<(), AllocError>
+    ensures written { OnOk result (HasWritten W.contents W.is_failed out.old written.old out.new written.new text.now) }
+    ensures same { OnErr result (out.new ≡ out.old) }
+    ensures uncut { OnErr result (written.new.is_cut ≡ written.old.is_cut) }
+{
+    keep(&mut written.kept, text)?;
+    if !written.is_cut {
+        written.is_cut = out.put(text).is_err();
+    }
+    Ok(())
+}
