@@ -2,15 +2,7 @@
 use Rattle.std.proofs.Common.{◌≡◌, ◌⊎◌, ℕ, Bool, true, List, [], ◌++◌, Option, Some, None, inl, inr, refl, sym, ap, ◌∙◌, append_assoc, append-nil}
 use Rattle.std.specs.Io.KnownBytes.{Appends}
 use Rattle.written_output.specs.declared.written.Written.{Written}
-use Rattle.written_output.specs.Writing.{kept_of, kept_with, HasWritten}
-
-kept_none : (kept : Option (List ℕ)) → kept ≡ kept_with kept []
-kept_none None = refl
-kept_none (Some old) = ap (λ (t : List ℕ). Some t) (sym (append-nil old))
-
-kept_both : (kept : Option (List ℕ)) (first next : List ℕ) → kept_with (kept_with kept first) next ≡ kept_with kept (first ++ next)
-kept_both None first next = refl
-kept_both (Some old) first next = ap (λ (t : List ℕ). Some t) (append_assoc old first next)
+use Rattle.written_output.specs.Writing.{kept_of, HasWritten}
 
 appends_none : (held : Option (List ℕ)) → Appends held held []
 appends_none None = tt
@@ -26,7 +18,7 @@ module _ {W : Type 0} (contents : W → Option (List ℕ)) (is_failed : W → Bo
   -- nothing was written
   pub written_none : (out : W) (written : Written) → HasWritten contents is_failed out written out written []
   written_none out written = record {
-    kept = kept_none (kept_of written);
+    kept = λ old is. is ∙ ap (λ (t : List ℕ). Some t) (sym (append-nil old));
     whole = λ uncut. (uncut, appends_none (contents out));
     cut = λ is. inl (is, refl);
   }
@@ -35,7 +27,7 @@ module _ {W : Type 0} (contents : W → Option (List ℕ)) (is_failed : W → Bo
   pub written_both : (out mid new : W) (before between after : Written) (first next : List ℕ) → HasWritten contents is_failed out before mid between first → HasWritten contents is_failed mid between new after next
       → HasWritten contents is_failed out before new after (first ++ next)
   written_both out mid new before between after first next a b = record {
-    kept = b.kept ∙ ap (λ (kept : Option (List ℕ)). kept_with kept next) a.kept ∙ kept_both (kept_of before) first next;
+    kept = λ old is. b.kept (old ++ first) (a.kept old is) ∙ ap (λ (t : List ℕ). Some t) (append_assoc old first next);
     whole = λ uncut.
         let last = b.whole uncut in
         let one = a.whole last.0 in
