@@ -1,0 +1,26 @@
+-- The round that a desk holds.
+use Rattle.std.specs.Prelude.{◌≡◌, ◌≤◌, Option, Some, None, ⊤}
+use Rattle.grouping_laws.specs.Problem.{Problem}
+use Rattle.certificate_lines.specs.Lines.{most}
+use Rattle.certificate_data.specs.declared.format.Format.TheVariants.{Wide}
+use Rattle.certificate_data.specs.Round.{Round}
+use Rattle.certificate_data.specs.RoundValue.{round_of}
+use Rattle.board_report.specs.Rounds.{round_by_code}
+use Rattle.board_texts.specs.RoundText.{RoundTold}
+use Rattle.desk_server.specs.declared.desk.NumberedRound.{NumberedRound}
+
+-- the round that is told: its order is that of ascending codes, and it is wide
+abbrev pub round_told : Problem → RoundTold → Round
+round_told p told = round_by_code p told.target told.limit Wide
+
+-- the numbers agree, and the round is the one that is told
+pub record IsRoundHeld (p : Problem) (told : RoundTold) (held : NumberedRound) : Type 0 where
+  pub number : held.number ≡ told.number
+  pub round : round_of held.round ≡ round_told p told
+  pub small : told.limit ≤ most
+
+-- a desk holds the round that was told last, if one was told
+abbrev pub HoldsRound : Problem → Option RoundTold → Option NumberedRound → Type 0
+HoldsRound p None None = ⊤
+HoldsRound p (Some told) (Some held) = IsRoundHeld p told held
+HoldsRound p last held = ⊥

@@ -1,0 +1,118 @@
+//! What is said of an open piece.
+
+ghost use Rattle.std.specs.Prelude.{◌≡◌, ◌≤◌, Option, IfOk};
+ghost use Rattle.county_codes.specs.Limits.{most_counties};
+ghost use Rattle.connected_sets.specs.Graphs.{graph_order, graph_places, graph_problem, place_problem, IsGraph};
+ghost use Rattle.certificate_data.specs.RoundValue.{round_of};
+ghost use Rattle.certificate_laws.specs.State.{IsState};
+ghost use Rattle.state_groups.specs.PlacedValues.{state_at, IsPlaced};
+ghost use Rattle.search_groups.specs.PartLists.{AreListsOf};
+ghost use Rattle.piece_states.specs.PieceValue.{piece_of};
+ghost use Rattle.board_texts.specs.RoundText.{RoundTold};
+ghost use Rattle.desk_server.specs.Rounds.{HoldsRound};
+ghost use Rattle.desk_server.specs.Answers.{IsAnswer, IsAnswerIn, IsAnswerAt};
+
+use crate::desk::{Desk, NumberedRound};
+use board_report::piece_text;
+use branch_bound::prove_piece_over;
+use certificate_data::Round;
+use connected_sets::CountyGraph;
+use county_problem::Steps;
+use piece_states::{OpenPiece, told_state};
+use place_sets::CountySet;
+use search_groups::PartLists;
+use state_groups::State;
+use std::alloc::{AllocError, Global};
+
+/// Returns what is said of an open `piece` of the `round`, whose state is `state`.
+fn answer_state<C: CountySet>(
+    alloc: Global,
+    graph: &CountyGraph<C>,
+    round: &Round,
+    piece: &OpenPiece,
+    state: &State<C>,
+    lists: &mut PartLists<C>,
+    steps: u64,
+) -> Result<Vec<u8>, AllocError>
+    requires graph { IsGraph C.test C.PLACES graph.now }
+    requires order { graph_order graph.now ≡ round.now.order }
+    requires small { round.now.limit ≤ most_counties }
+    requires placed { IsPlaced (graph_places graph.now) C.test state.now }
+    requires state { IsState (graph_problem graph.now) (round_of round.now) (state_at (graph_order graph.now) C.test state.now) }
+    requires lists { AreListsOf C.test (place_problem graph.now) (graph_places graph.now) lists.old }
+    ensures lists { AreListsOf C.test (place_problem graph.now) (graph_places graph.now) lists.new }
+    ensures answer { IfOk result (λ text. IsAnswerAt (graph_problem graph.now) (round_of round.now) (state_at (graph_order graph.now) C.test state.now)
+        piece.now.round piece.now.piece text.items) }
+{
+    let mut steps = Steps::new(steps);
+    let _order = graph.ordered.codes(alloc)?;
+    let counties = graph.ordered.places();
+    let answer = prove_piece_over(graph, round, state, lists, &mut steps)?;
+    piece_text(
+        alloc,
+        answer,
+        piece.round,
+        piece.piece,
+        round.format,
+        counties,
+    )
+}
+
+/// Returns what is said of an open `piece` of the `round`, or `None` if it isn't one of the round.
+fn answer_in<C: CountySet>(
+    alloc: Global,
+    graph: &CountyGraph<C>,
+    round: &Round,
+    piece: &OpenPiece,
+    lists: &mut PartLists<C>,
+    steps: u64,
+) -> Result<Option<Vec<u8>>, AllocError>
+    requires graph { IsGraph C.test C.PLACES graph.now }
+    requires order { graph_order graph.now ≡ round.now.order }
+    requires small { round.now.limit ≤ most_counties }
+    requires lists { AreListsOf C.test (place_problem graph.now) (graph_places graph.now) lists.old }
+    ensures lists { AreListsOf C.test (place_problem graph.now) (graph_places graph.now) lists.new }
+    ensures answer { IfOk result (IsAnswerIn (λ text. text.items) (graph_problem graph.now) (round_of round.now) (piece_of piece.now)) }
+{
+    let Some(state) = told_state(graph, round, piece)? else {
+        return Ok(None);
+    };
+    let text = answer_state(alloc, graph, round, piece, &state, lists, steps)?;
+    Ok(Some(text))
+}
+
+/// Returns what is said of an open `piece`. It is the solver's answer within `steps` steps at the state that is told, or
+/// `no such piece` if the piece isn't one of the round that was told last.
+///
+/// The `graph` has its counties by ascending codes. It is the same at each call.
+///
+/// # Errors
+///
+/// Returns `AllocError` if memory was refused. The desk may then be used on.
+pub fn answer_piece<C: CountySet>(
+    alloc: Global,
+    graph: &CountyGraph<C>,
+    desk: &mut Desk<C>,
+    piece: &OpenPiece,
+    steps: u64,
+) -> Result<Vec<u8>, AllocError>
+    requires graph { IsGraph C.test C.PLACES graph.now }
+    requires order { graph_order graph.now ≡ (graph_problem graph.now).counties }
+    requires lists { AreListsOf C.test (place_problem graph.now) (graph_places graph.now) desk.old.lists }
+    requires round { (last : Option RoundTold) × HoldsRound (graph_problem graph.now) last desk.old.last }
+    ensures lists { AreListsOf C.test (place_problem graph.now) (graph_places graph.now) desk.new.lists }
+    ensures last { desk.new.last ≡ desk.old.last }
+    ensures answer { (last : Option RoundTold) → HoldsRound (graph_problem graph.now) last desk.old.last
+        → IfOk result (λ text. IsAnswer (graph_problem graph.now) last (piece_of piece.now) text.items) }
+{
+    let found = match &desk.last {
+        Some(last) if last.number == piece.round => {
+            answer_in(alloc, graph, &last.round, piece, &mut desk.lists, steps)?
+        }
+        _ => None,
+    };
+    match found {
+        Some(text) => Ok(text),
+        None => Vec::from_slice(alloc, b"no such piece\n"),
+    }
+}

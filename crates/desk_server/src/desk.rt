@@ -1,0 +1,41 @@
+//! What a desk keeps from piece to piece.
+
+ghost use Rattle.std.specs.Prelude.{◌≡◌, ℕ, None};
+ghost use Rattle.grouping_laws.specs.Problem.{Problem};
+ghost use Rattle.search_groups.specs.PartLists.{AreListsOf};
+
+use certificate_data::Round;
+use place_sets::CountySet;
+use search_groups::PartLists;
+use std::alloc::Global;
+
+/// A round with its number.
+#[derive(Drop)]
+pub(crate) struct NumberedRound {
+    /// The number of the round.
+    pub(crate) number: u32,
+    /// The round.
+    pub(crate) round: Round,
+}
+
+/// A desk that proves pieces: the lists of groups that it keeps, and the round that was told last.
+#[derive(Drop)]
+pub struct Desk<C> {
+    /// The lists of groups, kept from piece to piece.
+    pub(crate) lists: PartLists<C>,
+    /// The round that was told last, if one was told.
+    pub(crate) last: Option<NumberedRound>,
+}
+
+impl<C: CountySet> Desk<C> {
+    /// Creates a desk to which nothing was told. It keeps no list.
+    pub fn new(alloc: Global) -> Self
+        ensures last { result.last ≡ None }
+        ensures lists { (p : Problem) (n : ℕ) → AreListsOf C.test p n result.lists }
+    {
+        Desk {
+            lists: PartLists::new(alloc),
+            last: None,
+        }
+    }
+}
