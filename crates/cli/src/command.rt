@@ -133,7 +133,9 @@ pub(crate) fn words_answer<H: FileStore, W: Sink, V: Watcher>(
 {
     match parse(alloc, words) {
         Ok(command) => {
-            answer_as_asked(alloc, words, command, file_store, out, written, end, watcher)
+            answer_as_asked(
+                alloc, words, command, file_store, out, written, end, watcher,
+            )
         }
         Err(words_end) => words_end_answer(alloc, words_end, end),
     }
@@ -203,7 +205,15 @@ pub fn run_with_end<H: FileStore, W: Sink, V: Watcher>(
 {
     let mut end = End::new(alloc);
     let mut written = Written::new(None);
-    let said = words_answer(alloc, words, file_store, out, &mut written, &mut end, watcher);
+    let said = words_answer(
+        alloc,
+        words,
+        file_store,
+        out,
+        &mut written,
+        &mut end,
+        watcher,
+    );
     let status = deliver_said(out, &written, said, &mut end);
     (status, end)
 }

@@ -113,7 +113,15 @@ fn composed<H: FileStore>(
         → IfSome result (λ v. IsRecord (texts words.now) command.now (sums_between before (H.history file_store.now)) answer.now.status (front ++ answer.now.text.items) v.items) }
 {
     let text = whole_text(alloc, written, answer)?;
-    record_since(alloc, words, command, file_store, first, answer.status, &text)
+    record_since(
+        alloc,
+        words,
+        command,
+        file_store,
+        first,
+        answer.status,
+        &text,
+    )
 }
 
 /// Stores the record of a run whose status asks for it. The file store had `first` events before the run.

@@ -5,6 +5,7 @@ use Rattle.certificate_lines.specs.Lines.{most}
 use Rattle.certificate_data.specs.declared.format.Format.TheVariants.{Wide}
 use Rattle.certificate_data.specs.Round.{Round}
 use Rattle.certificate_data.specs.RoundValue.{round_of}
+use Rattle.share_board.specs.Spelling.{HasFiveDigits}
 use Rattle.board_report.specs.Rounds.{round_by_code}
 use Rattle.board_texts.specs.RoundText.{RoundTold}
 use Rattle.desk_server.specs.declared.desk.NumberedRound.{NumberedRound}
@@ -13,11 +14,13 @@ use Rattle.desk_server.specs.declared.desk.NumberedRound.{NumberedRound}
 abbrev pub round_told : Problem → RoundTold → Round
 round_told p told = round_by_code p told.target told.limit Wide
 
--- the numbers agree, and the round is the one that is told
+-- The numbers agree, and the round is the one that is told. Its limit and the codes of its counties are in the ranges of
+-- their lines.
 pub record IsRoundHeld (p : Problem) (told : RoundTold) (held : NumberedRound) : Type 0 where
   pub number : held.number ≡ told.number
   pub round : round_of held.round ≡ round_told p told
   pub small : told.limit ≤ most
+  pub codes : HasFiveDigits p
 
 -- a desk holds the round that was told last, if one was told
 abbrev pub HoldsRound : Problem → Option RoundTold → Option NumberedRound → Type 0

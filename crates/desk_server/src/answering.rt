@@ -7,6 +7,7 @@ ghost use Rattle.certificate_data.specs.RoundValue.{round_of};
 ghost use Rattle.certificate_laws.specs.State.{IsState};
 ghost use Rattle.state_groups.specs.PlacedValues.{state_at, IsPlaced};
 ghost use Rattle.search_groups.specs.PartLists.{AreListsOf};
+ghost use Rattle.share_board.specs.Spelling.{HasFiveDigits};
 ghost use Rattle.piece_states.specs.PieceValue.{piece_of};
 ghost use Rattle.board_texts.specs.RoundText.{RoundTold};
 ghost use Rattle.desk_server.specs.Rounds.{HoldsRound};
@@ -37,6 +38,7 @@ fn answer_state<C: CountySet>(
     requires graph { IsGraph C.test C.PLACES graph.now }
     requires order { graph_order graph.now ≡ round.now.order }
     requires small { round.now.limit ≤ most_counties }
+    requires codes { HasFiveDigits (graph_problem graph.now) }
     requires placed { IsPlaced (graph_places graph.now) C.test state.now }
     requires state { IsState (graph_problem graph.now) (round_of round.now) (state_at (graph_order graph.now) C.test state.now) }
     requires lists { AreListsOf C.test (place_problem graph.now) (graph_places graph.now) lists.old }
@@ -45,7 +47,6 @@ fn answer_state<C: CountySet>(
         piece.now.round piece.now.piece text.items) }
 {
     let mut steps = Steps::new(steps);
-    let _order = graph.ordered.codes(alloc)?;
     let counties = graph.ordered.places();
     let answer = prove_piece_over(graph, round, state, lists, &mut steps)?;
     piece_text(
@@ -70,6 +71,7 @@ fn answer_in<C: CountySet>(
     requires graph { IsGraph C.test C.PLACES graph.now }
     requires order { graph_order graph.now ≡ round.now.order }
     requires small { round.now.limit ≤ most_counties }
+    requires codes { HasFiveDigits (graph_problem graph.now) }
     requires lists { AreListsOf C.test (place_problem graph.now) (graph_places graph.now) lists.old }
     ensures lists { AreListsOf C.test (place_problem graph.now) (graph_places graph.now) lists.new }
     ensures answer { IfOk result (IsAnswerIn (λ text. text.items) (graph_problem graph.now) (round_of round.now) (piece_of piece.now)) }

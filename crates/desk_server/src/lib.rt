@@ -12,6 +12,8 @@
 mod answering;
 mod desk;
 mod rounds;
+mod runs;
 
 pub use answering::answer_piece;
 pub use desk::Desk;
+pub use runs::prove_pieces;

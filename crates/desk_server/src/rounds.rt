@@ -1,36 +1,37 @@
 //! The round that is told.
 
-ghost use Rattle.std.specs.Prelude.{◌≤◌, Some, IfOk};
+ghost use Rattle.std.specs.Prelude.{◌≡◌, ◌≤◌, Some, IfOk};
 ghost use Rattle.certificate_lines.specs.Lines.{most};
-ghost use Rattle.county_problem.specs.ProblemValue.{problem_of};
+ghost use Rattle.connected_sets.specs.Graphs.{graph_order, graph_problem, IsGraph};
 ghost use Rattle.board_texts.specs.TextValue.{round_told};
 ghost use Rattle.desk_server.specs.Rounds.{HoldsRound};
 
 use crate::desk::NumberedRound;
 use board_texts::RoundTold;
 use certificate_data::{Format, Round};
-use county_codes::{Codes, listed_codes};
-use county_problem::Problem;
+use connected_sets::CountyGraph;
+use place_sets::CountySet;
 use std::alloc::{AllocError, Global};
 
-/// Returns the round that is `told`: a wide one, whose order is that of ascending codes.
-pub(crate) fn numbered_round(
+/// Returns the round that is `told`: a wide one, in the order of the `graph`, which is that of ascending codes.
+pub(crate) fn numbered_round<C: CountySet>(
     alloc: Global,
-    problem: &Problem,
+    graph: &CountyGraph<C>,
     told: RoundTold,
 ) -> Result<NumberedRound, AllocError>
-    requires { told.limit ≤ most }
-    ensures { IfOk result (λ round. HoldsRound (problem_of problem.now) (Some (round_told told)) (Some round)) }
+    requires graph { IsGraph C.test C.PLACES graph.now }
+    requires order { graph_order graph.now ≡ (graph_problem graph.now).counties }
+    requires small { told.limit ≤ most }
+    ensures { IfOk result (λ round. HoldsRound (graph_problem graph.now) (Some (round_told told)) (Some round)) }
 {
-    let order = Codes::new(listed_codes(alloc, problem.counties())?);
     Ok(NumberedRound {
         number: told.number,
         round: Round {
-            order,
+            order: graph.ordered.codes(alloc)?,
             limit: told.limit,
             target: Some(told.target),
             format: Format::Wide,
-            window: problem.named_window(),
+            window: graph.ordered.problem().named_window(),
         },
     })
 }

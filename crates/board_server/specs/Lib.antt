@@ -1,0 +1,5 @@
+pub mod Telling
+pub mod Saying
+pub mod Served
+pub mod Serving
+pub mod Laws

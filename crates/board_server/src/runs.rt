@@ -1,0 +1,107 @@
+//! A board from its opening to its end.
+
+use crate::served_board::ServedBoard;
+use crate::serving::serve;
+use crate::telling::push_round_and_pieces;
+use board_report::{BoardShape, Shared, ended, opened_board};
+use certificate_lines::TextFault;
+use cli_file_stores::Sink;
+use county_codes::{Grouping, listed_codes};
+use county_problem::{OrderFault, Ordered, Problem};
+use field_lines::Source;
+use place_sets::{CountySet, MaskSet, Places, fits_mask};
+use share_board::{Board, BoardFault};
+use std::alloc::{AllocError, Global};
+use written_output::{Written, write_next};
+
+/// Why a board stopped before its end.
+#[derive(Clone, Copy, Debug)]
+pub enum ServeStop {
+    /// There is no such board.
+    Board(BoardFault),
+    /// The source failed, a line is no event, or memory was refused.
+    Events(TextFault),
+}
+
+impl From<AllocError> for ServeStop {
+    fn from(_e: AllocError) -> ServeStop {
+        ServeStop::Board(BoardFault::Memory)
+    }
+}
+
+/// Builds the order of ascending codes.
+fn ordered_by_code(alloc: Global, problem: &Problem) -> Result<Ordered, AllocError> {
+    let order = listed_codes(alloc, problem.counties())?;
+    match Ordered::build(alloc, problem, &order) {
+        Ok(ordered) => Ok(ordered),
+        Err(OrderFault::Memory) => Err(AllocError),
+        Err(OrderFault::WrongOrder) => unreachable!(),
+    }
+}
+
+/// Writes the text of the board's round and of its pieces.
+fn tell_round<C: CountySet, W: Sink>(
+    alloc: Global,
+    ordered: &Ordered,
+    board: &Board<C>,
+    out: &mut W,
+    written: &mut Written,
+) -> Result<(), AllocError> {
+    let mut text = Vec::new(alloc);
+    push_round_and_pieces(alloc, ordered, board, &mut text)?;
+    write_next(out, written, &text)
+}
+
+/// Returns what `serve_events` returns, with any form of sets of places that has room for the counties.
+fn serve_over<C: CountySet, S: Source, W: Sink>(
+    alloc: Global,
+    problem: &Problem,
+    grouping: &Grouping,
+    shape: BoardShape,
+    budget: u64,
+    source: &mut S,
+    out: &mut W,
+    written: &mut Written,
+) -> Result<Shared, ServeStop> {
+    let board: Board<C> = match opened_board(alloc, problem, grouping, shape, budget) {
+        Ok(board) => board,
+        Err(fault) => return Err(ServeStop::Board(fault)),
+    };
+    let ordered = ordered_by_code(alloc, problem)?;
+    tell_round(alloc, &ordered, &board, out, written)?;
+    let counties = problem.counties().len() as u16;
+    let mut served = ServedBoard::new(alloc, board, shape.format, counties);
+    match serve(alloc, &ordered, &mut served, source, out, written) {
+        Ok(()) => Ok(ended(alloc, served.board(), Vec::new(alloc))?),
+        Err(fault) => Err(ServeStop::Events(fault)),
+    }
+}
+
+/// Opens a board, whose first target is `grouping`, and takes the events of the `source` as they come. What the board
+/// says is written to `out` at once: its round and its pieces first, then each reply and what is said behind it.
+/// Returns how the board stands once no piece waits, or at the end of the source.
+///
+/// # Errors
+///
+/// - Returns the first fault that applies if there is no board.
+/// - Returns the fault of the events, or `ReadFault` if the source failed.
+/// - Returns `Memory` if memory was refused.
+pub fn serve_events<S: Source, W: Sink>(
+    alloc: Global,
+    problem: &Problem,
+    grouping: &Grouping,
+    shape: BoardShape,
+    budget: u64,
+    source: &mut S,
+    out: &mut W,
+    written: &mut Written,
+) -> Result<Shared, ServeStop> {
+    if fits_mask(problem.counties().len()) {
+        return serve_over::<MaskSet, S, W>(
+            alloc, problem, grouping, shape, budget, source, out, written,
+        );
+    }
+    serve_over::<Places, S, W>(
+        alloc, problem, grouping, shape, budget, source, out, written,
+    )
+}

@@ -1,0 +1,90 @@
+//! A desk from its first text to its last.
+
+use crate::answering::answer_piece;
+use crate::desk::Desk;
+use crate::rounds::numbered_round;
+use board_texts::{BoardText, BoardTextReader};
+use certificate_lines::{TextFault, TextKind};
+use cli_file_stores::Sink;
+use connected_sets::CountyGraph;
+use county_codes::listed_codes;
+use county_problem::{OrderFault, Ordered, Problem};
+use field_lines::Source;
+use place_sets::{CountySet, MaskSet, Places, fits_mask};
+use std::alloc::{AllocError, Global};
+use written_output::{Written, write_next};
+
+fn memory_fault() -> TextFault {
+    TextFault {
+        kind: TextKind::Memory,
+        line: 1,
+    }
+}
+
+fn answer_text<C: CountySet, W: Sink>(
+    alloc: Global,
+    graph: &CountyGraph<C>,
+    steps: u64,
+    desk: &mut Desk<C>,
+    text: BoardText,
+    out: &mut W,
+    written: &mut Written,
+) -> Result<(), AllocError> {
+    match text {
+        BoardText::Round(told) => {
+            desk.last = Some(numbered_round(alloc, graph, told)?);
+            Ok(())
+        }
+        BoardText::Open(piece) => {
+            let text = answer_piece(alloc, graph, desk, &piece, steps)?;
+            write_next(out, written, &text)
+        }
+    }
+}
+
+fn prove_over<C: CountySet, S: Source, W: Sink>(
+    alloc: Global,
+    problem: &Problem,
+    steps: u64,
+    source: &mut S,
+    out: &mut W,
+    written: &mut Written,
+) -> Result<(), TextFault> {
+    let Ok(order) = listed_codes(alloc, problem.counties()) else {
+        return Err(memory_fault());
+    };
+    let ordered = match Ordered::build(alloc, problem, &order) {
+        Ok(ordered) => ordered,
+        Err(OrderFault::Memory) => return Err(memory_fault()),
+        Err(OrderFault::WrongOrder) => unreachable!(),
+    };
+    let Ok(graph) = CountyGraph::build(alloc, &ordered) else {
+        return Err(memory_fault());
+    };
+    let mut desk: Desk<C> = Desk::new(alloc);
+    let mut reader = BoardTextReader::new(alloc);
+    for _ in 0..u64::MAX {
+        let Some(text) = reader.next_text(alloc, source)? else {
+            return Ok(());
+        };
+        if answer_text(alloc, &graph, steps, &mut desk, text, out, written).is_err() {
+            return Err(memory_fault());
+        }
+    }
+    Ok(())
+}
+
+/// Proves the pieces that the `source` tells, one after the other, and writes what is said of each to `out` at once.
+pub fn prove_pieces<S: Source, W: Sink>(
+    alloc: Global,
+    problem: &Problem,
+    steps: u64,
+    source: &mut S,
+    out: &mut W,
+    written: &mut Written,
+) -> Result<(), TextFault> {
+    if fits_mask(problem.counties().len()) {
+        return prove_over::<MaskSet, S, W>(alloc, problem, steps, source, out, written);
+    }
+    prove_over::<Places, S, W>(alloc, problem, steps, source, out, written)
+}
