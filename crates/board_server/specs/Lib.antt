@@ -3,3 +3,4 @@ pub mod Saying
 pub mod Served
 pub mod Serving
 pub mod Laws
+pub mod Runs

@@ -1,5 +1,17 @@
 //! A board from its opening to its end.
 
+ghost use Rattle.std.specs.Prelude.{◌≡◌, ◌≤◌, ℕ, List, length, IfOk, OnOk};
+ghost use Rattle.county_problem.specs.ProblemValue.{problem_of};
+ghost use Rattle.certificate_data.specs.Round.{Round as RoundValue};
+ghost use Rattle.board_laws.specs.Content.{Content};
+ghost use Rattle.share_board.specs.BoardValue.{IsOf};
+ghost use Rattle.share_board.specs.declared.fault.BoardFault.TheVariants.{Memory};
+ghost use Rattle.board_report.specs.Rounds.{IsFirstRound};
+ghost use Rattle.written_output.specs.Writing.{HasWritten};
+ghost use Rattle.board_server.specs.Telling.{IsRoundTold};
+ghost use Rattle.board_server.specs.Runs.{IsBoardRun};
+ghost use Rattle.board_server.specs.declared.runs.ServeStop.TheVariants.{Board as BoardStop};
+
 use crate::served_board::ServedBoard;
 use crate::serving::serve;
 use crate::telling::push_round_and_pieces;
@@ -24,13 +36,17 @@ pub enum ServeStop {
 }
 
 impl From<AllocError> for ServeStop {
+    ghost from_gives = { λ _ stop. stop ≡ BoardStop Memory };
+
     fn from(_e: AllocError) -> ServeStop {
         ServeStop::Board(BoardFault::Memory)
     }
 }
 
 /// Builds the order of ascending codes.
-fn ordered_by_code(alloc: Global, problem: &Problem) -> Result<Ordered, AllocError> {
+fn ordered_by_code(alloc: Global, problem: &Problem) -> Result<Ordered, AllocError>
+    ensures { IfOk result (λ o. o ≡ record { problem = problem.now; order = (problem_of problem.now).counties }) }
+{
     let order = listed_codes(alloc, problem.counties())?;
     match Ordered::build(alloc, problem, &order) {
         Ok(ordered) => Ok(ordered),
@@ -46,7 +62,13 @@ fn tell_round<C: CountySet, W: Sink>(
     board: &Board<C>,
     out: &mut W,
     written: &mut Written,
-) -> Result<(), AllocError> {
+) -> Result<(), AllocError>
+    requires board { (b : Content) × IsOf C.test board.now b }
+    requires ordered { ordered.now ≡ record { problem = board.now.problem; order = board.now.round.order } }
+    ensures { (b : Content) → IsOf C.test board.now b → OnOk result ((text : List ℕ)
+        × IsRoundTold (problem_of board.now.problem) b text
+        × HasWritten W.contents W.is_failed out.old written.old out.new written.new text) }
+{
     let mut text = Vec::new(alloc);
     push_round_and_pieces(alloc, ordered, board, &mut text)?;
     write_next(out, written, &text)
@@ -62,7 +84,13 @@ fn serve_over<C: CountySet, S: Source, W: Sink>(
     source: &mut S,
     out: &mut W,
     written: &mut Written,
-) -> Result<Shared, ServeStop> {
+) -> Result<Shared, ServeStop>
+    requires { length problem.now.counties ≤ C.PLACES }
+    ensures run { (text : List ℕ) × (round : RoundValue)
+        × IsFirstRound (problem_of problem.now) grouping.now.groups.items shape.limit shape.format round
+        × HasWritten W.contents W.is_failed out.old written.old out.new written.new text
+        × IsBoardRun (problem_of problem.now) shape.depth budget shape.format (length problem.now.counties) grouping.now.groups.items round (S.given source.old) (S.given source.new) text result }
+{
     let board: Board<C> = match opened_board(alloc, problem, grouping, shape, budget) {
         Ok(board) => board,
         Err(fault) => return Err(ServeStop::Board(fault)),
@@ -95,7 +123,12 @@ pub fn serve_events<S: Source, W: Sink>(
     source: &mut S,
     out: &mut W,
     written: &mut Written,
-) -> Result<Shared, ServeStop> {
+) -> Result<Shared, ServeStop>
+    ensures run { (text : List ℕ) × (round : RoundValue)
+        × IsFirstRound (problem_of problem.now) grouping.now.groups.items shape.limit shape.format round
+        × HasWritten W.contents W.is_failed out.old written.old out.new written.new text
+        × IsBoardRun (problem_of problem.now) shape.depth budget shape.format (length problem.now.counties) grouping.now.groups.items round (S.given source.old) (S.given source.new) text result }
+{
     if fits_mask(problem.counties().len()) {
         return serve_over::<MaskSet, S, W>(
             alloc, problem, grouping, shape, budget, source, out, written,

@@ -40,8 +40,9 @@ impl Written {
 
 /// Appends a `text` to what is kept, if anything is.
 fn keep(kept: &mut Option<Vec<u8>>, text: &[u8]) -> Result<(), AllocError>
-    ensures { OnOk result ((old : List ℕ) → option_map (λ v. v.items) kept.old ≡ Some old
+    ensures kept { OnOk result ((old : List ℕ) → option_map (λ v. v.items) kept.old ≡ Some old
         → option_map (λ v. v.items) kept.new ≡ Some (old ++ text.now)) }
+    ensures same { OnErr result (option_map (λ v. v.items) kept.new ≡ option_map (λ v. v.items) kept.old) }
 {
     if let Some(kept) = kept {
         kept.extend_from_slice(text)?;
@@ -60,8 +61,7 @@ pub fn write_next<W: Sink>(
     text: &[u8],
 ) -> Result<(), AllocError>
     ensures written { OnOk result (HasWritten W.contents W.is_failed out.old written.old out.new written.new text.now) }
-    ensures same { OnErr result (out.new ≡ out.old) }
-    ensures uncut { OnErr result (written.new.is_cut ≡ written.old.is_cut) }
+    ensures none { OnErr result (HasWritten W.contents W.is_failed out.old written.old out.new written.new []) }
 {
     keep(&mut written.kept, text)?;
     if !written.is_cut {
