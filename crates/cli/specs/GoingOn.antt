@@ -1,0 +1,36 @@
+-- What calls came to that write as they go on.
+use Rattle.std.specs.Prelude.{◌≡◌, ◌⊎◌, ℕ, List, [], Option, None, option_map, Result, Ok, Err}
+use Rattle.board_report.specs.declared.board_outcome.Shared.{Shared}
+use Rattle.cli_file_stores.specs.History.{History}
+use Rattle.cli_answers.specs.declared.answer.RunAnswer.{RunAnswer}
+use Rattle.cli_answers.specs.declared.answer.Refusal.{Refusal}
+use Rattle.cli_answers.specs.Answers.{AnswerMeets, said_by}
+use Rattle.cli_runs.specs.Course.{Course}
+use Rattle.cli_runs.specs.ShareCourse.{share_answer}
+use Rattle.cli_runs.specs.ServeCourse.{ServedRun}
+use Rattle.cli_runs.specs.DeskCourse.{DeskRun}
+
+-- the steps stopped before anything was written, unless memory was refused
+abbrev pub StopsSilently : {X : Type 0} → Course X → History → History → List ℕ → Refusal → Type 0
+StopsSilently course before after text refusal =
+    (text ≡ []) × AnswerMeets refusal (λ a. course before after (Err a))
+
+-- The steps of `board` came to this, and this text was written meanwhile: how the board stands, or a refusal.
+abbrev pub ServesBy : Course ServedRun → History → History → List ℕ → Result Shared Refusal → Type 0
+ServesBy course before after text (Ok shared) =
+    (s : ServedRun) × course before after (Ok s) × (s.text ≡ text) × (s.end ≡ share_answer shared)
+    × (s.certificate ≡ option_map (λ t. t.items) shared.certificate)
+ServesBy course before after text (Err refusal) =
+    StopsSilently course before after text refusal
+    ⊎ ((s : ServedRun) × course before after (Ok s) × (s.text ≡ text) × (s.end ≡ said_by (Err refusal))
+    × (s.certificate ≡ None))
+
+-- the steps of `desk` came to this answer, and this text was written meanwhile
+abbrev pub DeskDone : Course DeskRun → History → History → List ℕ → Result RunAnswer Refusal → Type 0
+DeskDone course before after text result =
+    (s : DeskRun) × course before after (Ok s) × (s.text ≡ text) × (s.end ≡ said_by result)
+
+abbrev pub ProvesBy : Course DeskRun → History → History → List ℕ → Result RunAnswer Refusal → Type 0
+ProvesBy course before after text (Ok answer) = DeskDone course before after text (Ok answer)
+ProvesBy course before after text (Err refusal) =
+    StopsSilently course before after text refusal ⊎ DeskDone course before after text (Err refusal)
