@@ -1,5 +1,11 @@
 //! A desk from its first text to its last.
 
+ghost use Rattle.std.specs.Prelude.{◌≤◌, ℕ, List, length};
+ghost use Rattle.county_problem.specs.ProblemValue.{problem_of};
+ghost use Rattle.board_texts.specs.Coming.{Held};
+ghost use Rattle.written_output.specs.Writing.{HasWritten};
+ghost use Rattle.desk_server.specs.Runs.{IsDeskRun};
+
 use crate::answering::answer_piece;
 use crate::desk::Desk;
 use crate::rounds::numbered_round;
@@ -49,7 +55,12 @@ fn prove_over<C: CountySet, S: Source, W: Sink>(
     source: &mut S,
     out: &mut W,
     written: &mut Written,
-) -> Result<(), TextFault> {
+) -> Result<(), TextFault>
+    requires { length problem.now.counties ≤ C.PLACES }
+    ensures run { (written_text : List ℕ) × (left : Held)
+        × HasWritten W.contents W.is_failed out.old written.old out.new written.new written_text
+        × IsDeskRun (problem_of problem.now) (S.given source.old) (S.given source.new) written_text left result }
+{
     let Ok(order) = listed_codes(alloc, problem.counties()) else {
         return Err(memory_fault());
     };
@@ -82,7 +93,11 @@ pub fn prove_pieces<S: Source, W: Sink>(
     source: &mut S,
     out: &mut W,
     written: &mut Written,
-) -> Result<(), TextFault> {
+) -> Result<(), TextFault>
+    ensures run { (written_text : List ℕ) × (left : Held)
+        × HasWritten W.contents W.is_failed out.old written.old out.new written.new written_text
+        × IsDeskRun (problem_of problem.now) (S.given source.old) (S.given source.new) written_text left result }
+{
     if fits_mask(problem.counties().len()) {
         return prove_over::<MaskSet, S, W>(alloc, problem, steps, source, out, written);
     }
