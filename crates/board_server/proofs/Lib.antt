@@ -1,1 +1,4 @@
 pub mod Tellings
+pub mod Calls
+pub mod Servings
+pub mod Prefixes

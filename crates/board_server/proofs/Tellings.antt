@@ -1,8 +1,8 @@
 -- Texts of pieces, one more of them.
-use Rattle.std.proofs.Common.{◌≡◌, ◌≢◌, ◌+◌, ◌-◌, ◌≤◌, arith, Result, OnOk, ℕ, Bool, List, [], ◌∷◌, ◌++◌, refl, sym, ap, ◌∙◌, subst, append_assoc, append-nil, inl, inr, Contains, Option, Some}
+use Rattle.std.proofs.Common.{◌≡◌, ◌≢◌, ◌+◌, ◌-◌, ◌≤◌, ◌<◌, take, get_or, length, arith, Result, OnOk, ℕ, Bool, List, [], ◌∷◌, ◌++◌, refl, sym, ap, ◌∙◌, subst, append_assoc, append-nil, inl, inr, Contains, Option, Some}
 use Rattle.std.specs.List.{range_with_len}
 use Rattle.std.specs.declared.alloc.AllocError.{AllocError}
-use Rattle.std.proofs.lemmas.List.{map-id}
+use Rattle.std.proofs.lemmas.List.{map-id, take_more}
 use Rattle.std.proofs.lemmas.List.FromFn.{map-range_with_len_more}
 use Rattle.grouping_laws.specs.Problem.{Problem}
 use Rattle.grouping_laws.specs.Grouping.{Grouping}
@@ -53,6 +53,12 @@ pub pieces_more : (p : Problem) (b : Content) (pieces : List ℕ) (piece : ℕ) 
 pieces_more p b [] piece text more told one = (more, [], one, refl, ap (λ (t : List ℕ). t ++ more) told ∙ sym (append-nil more))
 pieces_more p b (x ∷ pieces) piece text more told one =
     (told.0, told.1 ++ more, told.2, pieces_more p b pieces piece told.1 more told.3 one, ap (λ (t : List ℕ). t ++ more) told.4 ∙ append_assoc told.0 told.1 more)
+
+-- the texts of the first pieces of a list, one more of them
+pub told_more : (p : Problem) (b : Content) (pieces : List ℕ) (i : ℕ) (start before after : List ℕ) → i < length pieces → (text : List ℕ) × ArePiecesTold p b (take i pieces) text × (before ≡ start ++ text)
+    → (text : List ℕ) × IsToldIfWaiting p b (get_or pieces i 0) text × (after ≡ before ++ text) → (text : List ℕ) × ArePiecesTold p b (take (i + 1) pieces) text × (after ≡ start ++ text)
+told_more p b pieces i start before after inside (text, all, was) (more, one, is) =
+    (text ++ more, subst (λ z. ArePiecesTold p b z (text ++ more)) (sym (take_more pieces i 0 inside)) (pieces_more p b (take i pieces) (get_or pieces i 0) text more all one), is ∙ ap (λ (t : List ℕ). t ++ more) was ∙ append_assoc start text more)
 
 -- behind other replies nothing is said
 pub nothing_said : {C : Type 0} (p : Problem) (b : Content) (order : List ℕ) (test : C → ℕ → Bool) (r : ReplyHeld C) → ((first many : ℕ) → r ≢ held.Split first many) → ((number : ℕ) → r ≢ held.NewRound number) → IsSaidBehind p b (reply_of order test r) []

@@ -1,5 +1,4 @@
 pub mod Telling
-pub mod Saying
 pub mod Served
 pub mod Serving
 pub mod Laws

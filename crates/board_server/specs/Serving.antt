@@ -15,7 +15,7 @@ use Rattle.board_events.specs.Coming.{Held, PullsOnto, TakesEvent, TellsFault, l
 use Rattle.board_events.specs.Replies.{reply_line}
 use Rattle.board_events.specs.Spelling.{text_of_events, HasSpelling}
 use Rattle.board_server.specs.Telling.{IsSaidBehind}
-use Rattle.board_server.specs.Saying.{IsWritten}
+use Rattle.written_output.specs.Writing.{IsWritten}
 use Rattle.board_server.specs.Served.{Moment}
 
 -- a piece waits
@@ -47,40 +47,35 @@ pub record ServesFrom (format : Format) (counties : ℕ) (p : Problem) (depth bu
   pub lines : held.lines + lines_in (text_of_events events) < 2 ^ 64
       → left.lines ≡ held.lines + lines_in (text_of_events events)
 
--- one call takes at most this many events
-abbrev pub most_events : ℕ
-most_events = 18446744073709551615
-
--- no piece waits, or the source has ended and all of it was read, or so many events were taken
-abbrev pub IsDone : Content → Bool → List ℕ → ℕ → Type 0
-IsDone last ended left count =
-    (waiting last.skeleton ≡ []) ⊎ (((ended ≡ true) × (left ≡ [])) ⊎ (count ≡ most_events))
+-- no piece waits, or the source has ended and all of it was read while some piece waits
+abbrev pub IsDone : Content → Bool → List ℕ → Type 0
+IsDone last ended left = (waiting last.skeleton ≡ []) ⊎ (SomeWaits last × (ended ≡ true) × (left ≡ []))
 
 -- memory was refused to the telling of the event behind those that were told: it was read, and the board has taken it
-pub record IsUntold {C : Type 0} (test : C → ℕ → Bool) (p : Problem) (depth budget : ℕ) (last : Content) (left : Held)
-    (new : Moment C) : Type 0 where
+pub record IsUntold {C : Type 0} (test : C → ℕ → Bool) (format : Format) (counties : ℕ) (p : Problem)
+    (depth budget : ℕ) (last : Content) (left : Held) (new : Moment C) : Type 0 where
   pub event : Event
-  pub takes : TakesEvent new.served.format new.served.counties left event new.served.reader
+  pub takes : TakesEvent format counties left event new.served.reader
   pub reply : Reply
   pub says : IsReply p depth budget last event reply
   pub next : Content
   pub leads : Leads p depth last event reply next
   pub is : IsOf test new.served.board next
 
--- the board stands where the events led, and nothing more was read
+-- the board stands where the events led, and nothing more was taken from what is held
 pub record IsThere {C : Type 0} (test : C → ℕ → Bool) (last : Content) (left : Held) (new : Moment C) : Type 0 where
   pub is : IsOf test new.served.board last
   pub reader : new.served.reader ≡ left
 
--- how it ends, when so many events were told
-abbrev pub EndsBy : {C : Type 0} → (C → ℕ → Bool) → Problem → (depth budget : ℕ) → Content → Held → ℕ → Moment C
-    → Result (Unit {0}) TextFault → Type 0
-EndsBy test p depth budget last left count new (Ok done) =
-    IsThere test last left new × IsDone last new.given.ended left.bytes count
-EndsBy test p depth budget last left count new (Err fault) =
-    (IsThere test last left new
-    × TellsFault new.served.format new.served.counties left new.given.ended fault new.served.reader)
-    ⊎ (IsTextMemory fault × IsUntold test p depth budget last left new)
+-- How it ends. A fault comes only while a piece waits.
+abbrev pub EndsBy : {C : Type 0} → (C → ℕ → Bool) → Format → (counties : ℕ) → Problem → (depth budget : ℕ) → Content
+    → Held → Moment C → Result (Unit {0}) TextFault → Type 0
+EndsBy test format counties p depth budget last left new (Ok done) =
+    IsThere test last left new × IsDone last new.given.ended left.bytes
+EndsBy test format counties p depth budget last left new (Err fault) =
+    SomeWaits last
+    × ((IsThere test last left new × TellsFault format counties left new.given.ended fault new.served.reader)
+    ⊎ (IsTextMemory fault × IsUntold test format counties p depth budget last left new))
 
 -- Events were read, taken and told, until it ended so.
 pub record HasServed {C : Type 0} (test : C → ℕ → Bool) (b : Content) (old new : Moment C)
@@ -90,6 +85,6 @@ pub record HasServed {C : Type 0} (test : C → ℕ → Bool) (b : Content) (old
   pub left : Held
   pub serves : ServesFrom old.served.format old.served.counties (problem_of old.served.board.problem)
       old.served.board.depth old.served.board.budget b old.served.reader old.given new.given text last left
-  pub written : IsWritten old.cut new.cut old.contents new.contents old.failed new.failed text
-  pub ends : EndsBy test (problem_of old.served.board.problem) old.served.board.depth old.served.board.budget last left
-      (length serves.events) new result
+  pub written : IsWritten old.contents new.contents old.failed new.failed old.written new.written text
+  pub ends : EndsBy test old.served.format old.served.counties (problem_of old.served.board.problem)
+      old.served.board.depth old.served.board.budget last left new result

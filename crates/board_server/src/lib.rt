@@ -6,9 +6,9 @@
 //! serve(alloc, &ordered, &mut served, &mut source, &mut out, &mut written)?;
 //! ```
 //!
-//! The definitions stand in `specs/`. `Telling` says what is told of a board, and `Saying` what comes of a write.
-//! `Served` says what one call does, and `Serving` what all calls do. `Laws` has what follows for each prefix of the
-//! events.
+//! The definitions stand in `specs/`. `Telling` says what is told of a board. `Served` says what one call does,
+//! `Serving` what all calls do, and `Runs` what a board comes to from its opening to its end. `Laws` has what follows
+//! for each prefix of the events.
 #![tactic(auto)]
 
 mod laws;

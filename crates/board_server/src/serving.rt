@@ -3,6 +3,7 @@
 ghost use Rattle.std.specs.Prelude.{◌≡◌, ◌≤◌, ◌++◌, ℕ, List, false, length, IfOk};
 ghost use Rattle.county_problem.specs.ProblemValue.{problem_of};
 ghost use Rattle.certificate_lines.specs.Lines.{most};
+ghost use Rattle.certificate_lines.specs.Rest.{IsTextMemory};
 ghost use Rattle.board_laws.specs.Content.{Content};
 ghost use Rattle.share_board.specs.BoardValue.{IsOf, AreBoardLists, reply_of};
 ghost use Rattle.board_events.specs.Coming.{is_read_fault};
@@ -22,9 +23,6 @@ use place_sets::CountySet;
 use share_board::{Board, Reply};
 use std::alloc::{AllocError, Global};
 use written_output::{Written, write_next};
-
-/// The greatest number of events that one call takes.
-const MOST_EVENTS: u64 = u64::MAX;
 
 /// Returns the fault that memory was refused.
 fn memory_fault() -> TextFault
@@ -58,7 +56,7 @@ fn text_behind<C: CountySet>(
 
 /// Reads the next event from the `source`, takes it, and writes its reply to `out`. What is said behind the reply is
 /// written with it: the text of each new piece of a split, or of a new round with its pieces. Each call is lent the
-/// same `source`. Nothing is written once `is_cut` is set, and it is set if the write fails.
+/// same `source`. Nothing is written behind a write that failed.
 ///
 /// # Errors
 ///
@@ -106,13 +104,13 @@ pub fn serve_next<C: CountySet, S: Source, W: Sink>(
 /// Takes the events of the `source` in turn, each as soon as it has come, and writes its reply to `out` with what is
 /// said behind it. Returns once no piece waits, or at the end of the source. Each call is lent the same `source`.
 ///
-/// Nothing is written once `is_cut` is set, and it is set if a write fails. The events are taken all the same.
+/// Nothing is written behind a write that failed. The events are taken all the same.
 ///
 /// # Errors
 ///
 /// - Returns the fault of the text, or `ReadFault`, as `EventReader::next_event` does.
 /// - Returns `Memory` if memory was refused. If it was refused behind an event, the board has taken the event, and
-///   nothing is written of it.
+///   nothing is written of it. It also returns `Memory` behind 2^64 - 1 events.
 pub fn serve<C: CountySet, S: Source, W: Sink>(
     alloc: Global,
     ordered: &Ordered,
@@ -135,13 +133,17 @@ pub fn serve<C: CountySet, S: Source, W: Sink>(
     // `ReadFault` comes exactly if the source fails, unless it had failed before.
     ensures failed { S.is_failed source.old ≡ false → S.is_failed source.new ≡ is_read_fault result }
 {
-    for _ in 0..MOST_EVENTS {
+    for _taken in 0..u64::MAX {
         if served.board.left() == 0 {
             return Ok(());
         }
-        if let Served::Ended = serve_next(alloc, ordered, served, source, out, written)? {
-            return Ok(());
+        match serve_next(alloc, ordered, served, source, out, written)? {
+            Served::Taken => {}
+            Served::Ended => return Ok(()),
         }
     }
-    Ok(())
+    match served.board.left() {
+        0 => Ok(()),
+        _ => Err(memory_fault()),
+    }
 }

@@ -1,0 +1,3 @@
+pub mod RoundsHeld
+pub mod Tellings
+pub mod Underway

@@ -1,12 +1,13 @@
 -- What is said of open pieces.
-use Rattle.std.specs.Prelude.{ℕ, ◌≡◌, ◌⊎◌, List, codes, Option, Some, None}
+use Rattle.std.specs.Prelude.{ℕ, ◌≡◌, ◌⊎◌, List, [], ◌∷◌, ◌++◌, codes, Option, Some, None}
 use Rattle.grouping_laws.specs.Problem.{Problem}
-use Rattle.certificate_data.specs.Round.{Round}
+use Rattle.certificate_data.specs.Round.{Round as RoundValue}
 use Rattle.certificate_laws.specs.State.{State}
 use Rattle.piece_states.specs.Told.{state_told}
 use Rattle.piece_states.specs.PieceValue.{PieceTold}
 use Rattle.piece_states.specs.RoundStates.{IsTold}
 use Rattle.board_texts.specs.RoundText.{RoundTold}
+use Rattle.board_texts.specs.BoardText.{BoardTextTold, Round, Open}
 use Rattle.branch_bound.specs.Pieces.{IsPiece}
 use Rattle.branch_bound.specs.declared.piece.Piece.{Piece}
 use Rattle.board_report.specs.PieceText.{piece_text_of}
@@ -20,9 +21,23 @@ pub record CanProve (p : Problem) (last : Option RoundTold) (piece : PieceTold) 
   pub state : IsTold p p.counties (round_told p told) piece.told
 
 -- the text of an answer of the solver at a state of a round
-abbrev pub IsAnswerAt : Problem → Round → State → (number piece : ℕ) → List ℕ → Type 0
+abbrev pub IsAnswerAt : Problem → RoundValue → State → (number piece : ℕ) → List ℕ → Type 0
 IsAnswerAt p round s number piece text =
     (answer : Piece) × IsPiece p round s answer × (text ≡ piece_text_of number piece answer)
+
+-- the text for a piece of a round, exactly where what is told of the piece is a state of the round
+abbrev pub IsAnswerIn : Problem → RoundValue → PieceTold → Option (List ℕ) → Type 0
+IsAnswerIn p round piece None = ¬ IsTold p round.order round piece.told
+IsAnswerIn p round piece (Some text) =
+    IsTold p round.order round piece.told
+    × IsAnswerAt p round (state_told p piece.told) piece.round piece.piece text
+
+-- the text for a piece, exactly where it can be proved
+abbrev pub IsAnswerIfAny : Problem → Option RoundTold → PieceTold → Option (List ℕ) → Type 0
+IsAnswerIfAny p last piece None = ¬ CanProve p last piece
+IsAnswerIfAny p last piece (Some text) =
+    (can : CanProve p last piece)
+    × IsAnswerAt p (round_told p can.told) (state_told p piece.told) piece.round piece.piece text
 
 -- what is said of a piece: the solver's answer at the state that is told, or that there is no such piece
 abbrev pub IsAnswer : Problem → Option RoundTold → PieceTold → List ℕ → Type 0
@@ -31,10 +46,10 @@ IsAnswer p last piece text =
     × IsAnswerAt p (round_told p can.told) (state_told p piece.told) piece.round piece.piece text)
     ⊎ ((¬ CanProve p last piece) × (text ≡ codes "no such piece\n"))
 
--- what is said of a piece of a round: the solver's answer at the state that is told, if what is told is a state of the
--- round
-abbrev pub IsAnswerIn : {T : Type 0} → (T → List ℕ) → Problem → Round → PieceTold → Option T → Type 0
-IsAnswerIn bytes p round piece None = ¬ IsTold p round.order round piece.told
-IsAnswerIn bytes p round piece (Some text) =
-    IsTold p round.order round piece.told
-    × IsAnswerAt p round (state_told p piece.told) piece.round piece.piece (bytes text)
+-- what is said of texts in turn: a round is told, or a piece is answered
+abbrev pub AnswersTexts : Problem → Option RoundTold → List BoardTextTold → List ℕ → Option RoundTold → Type 0
+AnswersTexts p last [] text end = (text ≡ []) × (end ≡ last)
+AnswersTexts p last (Round told ∷ texts) text end = AnswersTexts p (Some told) texts text end
+AnswersTexts p last (Open piece ∷ texts) text end =
+    (first : List ℕ) × (later : List ℕ) × IsAnswer p last piece first × AnswersTexts p last texts later end
+    × (text ≡ first ++ later)

@@ -1,3 +1,5 @@
 pub mod Rounds
 pub mod Answers
+pub mod Taking
+pub mod Serving
 pub mod Runs

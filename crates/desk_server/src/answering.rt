@@ -1,6 +1,6 @@
 //! What is said of an open piece.
 
-ghost use Rattle.std.specs.Prelude.{◌≡◌, ◌≤◌, Option, IfOk};
+ghost use Rattle.std.specs.Prelude.{◌≡◌, ◌≤◌, Option, IfOk, option_map};
 ghost use Rattle.county_codes.specs.Limits.{most_counties};
 ghost use Rattle.connected_sets.specs.Graphs.{graph_order, graph_places, graph_problem, place_problem, IsGraph};
 ghost use Rattle.certificate_data.specs.RoundValue.{round_of};
@@ -11,7 +11,7 @@ ghost use Rattle.share_board.specs.Spelling.{HasFiveDigits};
 ghost use Rattle.piece_states.specs.PieceValue.{piece_of};
 ghost use Rattle.board_texts.specs.RoundText.{RoundTold};
 ghost use Rattle.desk_server.specs.Rounds.{HoldsRound};
-ghost use Rattle.desk_server.specs.Answers.{IsAnswer, IsAnswerIn, IsAnswerAt};
+ghost use Rattle.desk_server.specs.Answers.{IsAnswer, IsAnswerIn, IsAnswerIfAny, IsAnswerAt};
 
 use crate::desk::{Desk, NumberedRound};
 use board_report::piece_text;
@@ -74,13 +74,38 @@ fn answer_in<C: CountySet>(
     requires codes { HasFiveDigits (graph_problem graph.now) }
     requires lists { AreListsOf C.test (place_problem graph.now) (graph_places graph.now) lists.old }
     ensures lists { AreListsOf C.test (place_problem graph.now) (graph_places graph.now) lists.new }
-    ensures answer { IfOk result (IsAnswerIn (λ text. text.items) (graph_problem graph.now) (round_of round.now) (piece_of piece.now)) }
+    ensures answer { IfOk result (λ found. IsAnswerIn (graph_problem graph.now) (round_of round.now) (piece_of piece.now) (option_map (λ t. t.items) found)) }
 {
     let Some(state) = told_state(graph, round, piece)? else {
         return Ok(None);
     };
     let text = answer_state(alloc, graph, round, piece, &state, lists, steps)?;
     Ok(Some(text))
+}
+
+/// Returns what is said of an open `piece`, or `None` if it isn't one of the round that was told `last`.
+fn answer_if_any<C: CountySet>(
+    alloc: Global,
+    graph: &CountyGraph<C>,
+    last: &Option<NumberedRound>,
+    piece: &OpenPiece,
+    lists: &mut PartLists<C>,
+    steps: u64,
+) -> Result<Option<Vec<u8>>, AllocError>
+    requires graph { IsGraph C.test C.PLACES graph.now }
+    requires order { graph_order graph.now ≡ (graph_problem graph.now).counties }
+    requires lists { AreListsOf C.test (place_problem graph.now) (graph_places graph.now) lists.old }
+    requires round { (told : Option RoundTold) × HoldsRound (graph_problem graph.now) told last.now }
+    ensures lists { AreListsOf C.test (place_problem graph.now) (graph_places graph.now) lists.new }
+    ensures answer { (told : Option RoundTold) → HoldsRound (graph_problem graph.now) told last.now
+        → IfOk result (λ found. IsAnswerIfAny (graph_problem graph.now) told (piece_of piece.now) (option_map (λ t. t.items) found)) }
+{
+    match last {
+        Some(last) if last.number == piece.round => {
+            answer_in(alloc, graph, &last.round, piece, lists, steps)
+        }
+        _ => Ok(None),
+    }
 }
 
 /// Returns what is said of an open `piece`. It is the solver's answer within `steps` steps at the state that is told, or
@@ -104,16 +129,11 @@ pub fn answer_piece<C: CountySet>(
     requires round { (last : Option RoundTold) × HoldsRound (graph_problem graph.now) last desk.old.last }
     ensures lists { AreListsOf C.test (place_problem graph.now) (graph_places graph.now) desk.new.lists }
     ensures last { desk.new.last ≡ desk.old.last }
+    ensures reader { desk.new.reader ≡ desk.old.reader }
     ensures answer { (last : Option RoundTold) → HoldsRound (graph_problem graph.now) last desk.old.last
         → IfOk result (λ text. IsAnswer (graph_problem graph.now) last (piece_of piece.now) text.items) }
 {
-    let found = match &desk.last {
-        Some(last) if last.number == piece.round => {
-            answer_in(alloc, graph, &last.round, piece, &mut desk.lists, steps)?
-        }
-        _ => None,
-    };
-    match found {
+    match answer_if_any(alloc, graph, &desk.last, piece, &mut desk.lists, steps)? {
         Some(text) => Ok(text),
         None => Vec::from_slice(alloc, b"no such piece\n"),
     }

@@ -2,8 +2,10 @@
 
 ghost use Rattle.std.specs.Prelude.{◌≡◌, ℕ, None};
 ghost use Rattle.grouping_laws.specs.Problem.{Problem};
+ghost use Rattle.board_texts.specs.Coming.{nothing_held};
 ghost use Rattle.search_groups.specs.PartLists.{AreListsOf};
 
+use board_texts::BoardTextReader;
 use certificate_data::Round;
 use place_sets::CountySet;
 use search_groups::PartLists;
@@ -18,24 +20,28 @@ pub(crate) struct NumberedRound {
     pub(crate) round: Round,
 }
 
-/// A desk that proves pieces: the lists of groups that it keeps, and the round that was told last.
+/// A desk that proves pieces: the lists of groups that it keeps, the round that was told last, and its reader.
 #[derive(Drop)]
 pub struct Desk<C> {
     /// The lists of groups, kept from piece to piece.
     pub(crate) lists: PartLists<C>,
     /// The round that was told last, if one was told.
     pub(crate) last: Option<NumberedRound>,
+    /// The reader of the board's texts.
+    pub(crate) reader: BoardTextReader,
 }
 
 impl<C: CountySet> Desk<C> {
-    /// Creates a desk to which nothing was told. It keeps no list.
+    /// Creates a desk to which nothing was told. It has read nothing and keeps no list.
     pub fn new(alloc: Global) -> Self
         ensures last { result.last ≡ None }
+        ensures reader { result.reader ≡ nothing_held }
         ensures lists { (p : Problem) (n : ℕ) → AreListsOf C.test p n result.lists }
     {
         Desk {
             lists: PartLists::new(alloc),
             last: None,
+            reader: BoardTextReader::new(alloc),
         }
     }
 }

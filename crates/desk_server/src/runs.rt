@@ -6,48 +6,19 @@ ghost use Rattle.board_texts.specs.Coming.{Held};
 ghost use Rattle.written_output.specs.Writing.{HasWritten};
 ghost use Rattle.desk_server.specs.Runs.{IsDeskRun};
 
-use crate::answering::answer_piece;
 use crate::desk::Desk;
-use crate::rounds::numbered_round;
-use board_texts::{BoardText, BoardTextReader};
-use certificate_lines::{TextFault, TextKind};
+use crate::serving::{answer_all, memory_fault};
+use certificate_lines::TextFault;
 use cli_file_stores::Sink;
 use connected_sets::CountyGraph;
 use county_codes::listed_codes;
 use county_problem::{OrderFault, Ordered, Problem};
 use field_lines::Source;
 use place_sets::{CountySet, MaskSet, Places, fits_mask};
-use std::alloc::{AllocError, Global};
-use written_output::{Written, write_next};
+use std::alloc::Global;
+use written_output::Written;
 
-fn memory_fault() -> TextFault {
-    TextFault {
-        kind: TextKind::Memory,
-        line: 1,
-    }
-}
-
-fn answer_text<C: CountySet, W: Sink>(
-    alloc: Global,
-    graph: &CountyGraph<C>,
-    steps: u64,
-    desk: &mut Desk<C>,
-    text: BoardText,
-    out: &mut W,
-    written: &mut Written,
-) -> Result<(), AllocError> {
-    match text {
-        BoardText::Round(told) => {
-            desk.last = Some(numbered_round(alloc, graph, told)?);
-            Ok(())
-        }
-        BoardText::Open(piece) => {
-            let text = answer_piece(alloc, graph, desk, &piece, steps)?;
-            write_next(out, written, &text)
-        }
-    }
-}
-
+/// Returns what `prove_pieces` returns, with any form of sets of places that has room for the counties.
 fn prove_over<C: CountySet, S: Source, W: Sink>(
     alloc: Global,
     problem: &Problem,
@@ -73,16 +44,7 @@ fn prove_over<C: CountySet, S: Source, W: Sink>(
         return Err(memory_fault());
     };
     let mut desk: Desk<C> = Desk::new(alloc);
-    let mut reader = BoardTextReader::new(alloc);
-    for _ in 0..u64::MAX {
-        let Some(text) = reader.next_text(alloc, source)? else {
-            return Ok(());
-        };
-        if answer_text(alloc, &graph, steps, &mut desk, text, out, written).is_err() {
-            return Err(memory_fault());
-        }
-    }
-    Ok(())
+    answer_all(alloc, &graph, steps, &mut desk, source, out, written)
 }
 
 /// Proves the pieces that the `source` tells, one after the other, and writes what is said of each to `out` at once.

@@ -1,0 +1,20 @@
+use Rattle.std.proofs.Common.{◌≡◌, false, Option}
+use Rattle.connected_sets.specs.Graphs.{graph_places, graph_problem, place_problem}
+use Rattle.search_groups.specs.PartLists.{AreListsOf}
+use Rattle.board_texts.specs.RoundText.{RoundTold}
+use Rattle.desk_server.specs.Rounds.{HoldsRound}
+use Rattle.desk_server.proofs.Underway.{IsUnderway}
+use Rattle.desk_server.proofs.serving.answer_all.Given as goal
+
+-- so many texts were answered, and no pull has failed
+abbrev pub invariant-loop : goal.invariant-loop
+invariant-loop g l = record {
+  lists : AreListsOf g.C.CountySet.test (place_problem l.graph) (graph_places l.graph) l.desk.lists;
+  holds : (last : Option RoundTold) × HoldsRound (graph_problem l.graph) last l.desk.last;
+  underway : (last : Option RoundTold) → HoldsRound (graph_problem l.graph) last l.fn.desk.last
+      → IsUnderway (graph_problem l.graph) last
+      (record { desk = l.fn.desk; given = g.S.Source.given l.fn.source; contents = g.W.Sink.contents l.fn.out; failed = g.W.Sink.is_failed l.fn.out; written = l.fn.written })
+      (record { desk = l.desk; given = g.S.Source.given l.source; contents = g.W.Sink.contents l.out; failed = g.W.Sink.is_failed l.out; written = l.written })
+      l.counter;
+  sound : g.S.Source.is_failed l.fn.source ≡ false → g.S.Source.is_failed l.source ≡ false;
+}
