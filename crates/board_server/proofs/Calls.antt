@@ -13,7 +13,7 @@ use Rattle.share_board.specs.Replies.{IsReply}
 use Rattle.board_events.specs.Coming.{IsPrompt}
 use Rattle.board_events.specs.Replies.{reply_line}
 use Rattle.board_server.specs.Telling.{IsSaidBehind, HasSmallNumbers}
-use Rattle.board_server.specs.Saying.{IsWritten}
+use Rattle.written_output.specs.Writing.{IsWritten}
 use Rattle.board_server.specs.Served.{Moment, Reads, TakesOne, TellsOne}
 
 -- the numbers of the pieces of a split that a board has taken are small
@@ -63,7 +63,7 @@ module _ {C : Type 0} (test : C → ℕ → Bool) (b : Content) (old new : Momen
       → Follows test old.served.board.depth old.served.board.problem b (event_of event) (reply_of old.served.board.round.order test reply) new.served.board → Keeps old.served.board new.served.board
       → (text written : List ℕ)
       → ((c : Content) → IsOf test new.served.board c → (said : List ℕ) × IsSaidBehind (problem_of new.served.board.problem) c (reply_of new.served.board.round.order test reply) said × (text ≡ reply_line (reply_of new.served.board.round.order test reply) ++ said))
-      → written ≡ text → IsWritten old.cut new.cut old.contents new.contents old.failed new.failed written → TellsOne test b old new
+      → written ≡ text → IsWritten old.contents new.contents old.failed new.failed old.written new.written written → TellsOne test b old new
   unfolding takes_one
   tells_one some reads prompt says follows keeps text written behind same w =
       let said = behind follows.0 follows.2 in
@@ -72,5 +72,5 @@ module _ {C : Type 0} (test : C → ℕ → Bool) (b : Content) (old new : Momen
         said.0,
         subst (λ z. IsSaidBehind (problem_of z) follows.0 (reply_of old.served.board.round.order test reply) said.0) keeps.problem
             (subst (λ z. IsSaidBehind (problem_of new.served.board.problem) follows.0 z said.0) replies said.1),
-        subst (IsWritten old.cut new.cut old.contents new.contents old.failed new.failed) (same ∙ said.2 ∙ ap (λ z. reply_line z ++ said.0) replies) w,
+        subst (IsWritten old.contents new.contents old.failed new.failed old.written new.written) (same ∙ said.2 ∙ ap (λ z. reply_line z ++ said.0) replies) w,
       )

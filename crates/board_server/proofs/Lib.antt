@@ -1,5 +1,4 @@
 pub mod Tellings
-pub mod Writings
 pub mod Calls
 pub mod Servings
 pub mod Prefixes

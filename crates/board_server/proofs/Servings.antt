@@ -21,13 +21,13 @@ use Rattle.board_events.specs.Replies.{reply_line}
 use Rattle.board_events.specs.Spelling.{text_of_event, text_of_events, HasSpelling}
 use Rattle.board_events.proofs.ComingLaws.{pulls_none, pulls_more}
 use Rattle.board_server.specs.Telling.{IsSaidBehind}
-use Rattle.board_server.specs.Saying.{IsWritten}
+use Rattle.written_output.specs.Writing.{IsWritten}
 use Rattle.board_server.specs.declared.served_board.ServedBoard.{ServedBoard}
 use Rattle.board_server.specs.declared.served_board.Served.{Served}
 use Rattle.board_server.specs.declared.served_board.Served.TheVariants.{Taken, Ended}
 use Rattle.board_server.specs.Served.{Moment, KeepsServed, IsQuiet, TakesNone, TakesOne, TellsOne, ServesNext}
 use Rattle.board_server.specs.Serving.{SomeWaits, TakesAndTells, ServesFrom, IsDone, IsThere, HasServed, HasFewBehind}
-use Rattle.board_server.proofs.Writings.{written_none, written_then}
+use Rattle.written_output.proofs.Texts.{written_none, written_both}
 
 -- no piece waits where the number of those that wait is 0
 pub none_waits : (xs : List ℕ) → length xs ≡ 0 → xs ≡ []
@@ -146,29 +146,27 @@ few_more held before after old new bytes one pulls text (inl same) was = go was
     go (inl few) = inl (omega (arith, few, fewer))
     go (inr few) = inr (omega (arith, few, fewer))
 
--- so many events were read, taken and told
-pub record HasCome {C : Type 0} (test : C → ℕ → Bool) (b : Content) (old now : Moment C) (count : ℕ) : Type 0 where
+-- events were read, taken and told
+pub record HasCome {C : Type 0} (test : C → ℕ → Bool) (b : Content) (old now : Moment C) : Type 0 where
   pub text : List ℕ
   pub last : Content
   pub serves : ServesFrom old.served.format old.served.counties (problem_of old.served.board.problem) old.served.board.depth old.served.board.budget b old.served.reader old.given now.given text last now.served.reader
-  pub written : IsWritten old.cut now.cut old.contents now.contents old.failed now.failed text
+  pub written : IsWritten old.contents now.contents old.failed now.failed old.written now.written text
   pub is : IsOf test now.served.board last
-  pub many : length serves.events ≡ count
   pub few : HasFewBehind old.served.reader.bytes now.served.reader.bytes
 
-pub come_first : {C : Type 0} (test : C → ℕ → Bool) (b : Content) (old : Moment C) → IsOf test old.served.board b → HasCome test b old old 0
+pub come_first : {C : Type 0} (test : C → ℕ → Bool) (b : Content) (old : Moment C) → IsOf test old.served.board b → HasCome test b old old
 unfolding serves_none
 come_first test b old is = record {
   text = [];
   last = b;
   serves = serves_none old.served.format old.served.counties (problem_of old.served.board.problem) old.served.board.depth old.served.board.budget b old.served.reader old.given;
-  written = written_none old.cut old.contents old.failed;
+  written = written_none old.contents old.failed old.written;
   is = is;
-  many = refl;
   few = inr (few_first old.served.reader.bytes);
 }
 
-module _ {C : Type 0} (test : C → ℕ → Bool) (b : Content) (old now : Moment C) (count : ℕ) (keeps : KeepsServed old.served now.served) (come : HasCome test b old now count) where
+module _ {C : Type 0} (test : C → ℕ → Bool) (b : Content) (old now : Moment C) (keeps : KeepsServed old.served now.served) (come : HasCome test b old now) where
   abbrev board : Board C
   board = old.served.board
 
@@ -203,14 +201,13 @@ module _ {C : Type 0} (test : C → ℕ → Bool) (b : Content) (old now : Momen
   pulled_events to bytes pulls =
       same_events old.served.format old.served.counties (problem_of board.problem) board.depth board.budget b old.served.reader old.given now.given to come.text come.last now.served.reader come.serves bytes pulls
 
-  quiet_there : (new : Moment C) → IsQuiet now new → IsWritten old.cut new.cut old.contents new.contents old.failed new.failed come.text
+  quiet_there : (new : Moment C) → IsQuiet now new → IsWritten old.contents new.contents old.failed new.failed old.written new.written come.text
   quiet_there new quiet =
-      subst (λ z. IsWritten old.cut z old.contents new.contents old.failed new.failed come.text) (sym quiet.cut)
-      (subst (λ z. IsWritten old.cut now.cut old.contents z old.failed new.failed come.text) (sym quiet.contents)
-      (subst (λ z. IsWritten old.cut now.cut old.contents now.contents old.failed z come.text) (sym quiet.failed) come.written))
+      subst (λ z. IsWritten old.contents new.contents old.failed new.failed old.written new.written z) (append-nil come.text)
+      (written_both old.contents now.contents new.contents old.failed now.failed new.failed old.written now.written new.written come.text [] come.written quiet)
 
   -- one event more
-  pub come_more : (new : Moment C) → SomeWaits come.last → TellsOne test come.last now new → HasCome test b old new (count + 1)
+  pub come_more : (new : Moment C) → SomeWaits come.last → TellsOne test come.last now new → HasCome test b old new
   come_more new some one =
       let took = one.0 in
       let event = event_of took.event in
@@ -227,14 +224,8 @@ module _ {C : Type 0} (test : C → ℕ → Bool) (b : Content) (old now : Momen
         last = took.next;
         serves =
             serves_more old.served.format old.served.counties (problem_of board.problem) board.depth board.budget b old.served.reader old.given new.given come.text come.last left pulled event took.reply took.next one.1 new.served.reader some says leads behind taken;
-        written = written_then old.cut now.cut new.cut old.contents now.contents new.contents old.failed now.failed new.failed come.text (reply_line took.reply ++ one.1) come.written one.3;
+        written = written_both old.contents now.contents new.contents old.failed now.failed new.failed old.written now.written new.written come.text (reply_line took.reply ++ one.1) come.written one.3;
         is = took.is;
-        many =
-            ap (λ (z : List Event). length z)
-            (more_events old.served.format old.served.counties (problem_of board.problem) board.depth board.budget b old.served.reader old.given new.given come.text come.last left pulled event took.reply took.next one.1 new.served.reader some says leads behind taken)
-            ∙ length-append pulled.events (event ∷ [])
-            ∙ ap (λ (z : List Event). length z + 1) (pulled_events new.given bytes pulls)
-            ∙ ap (λ (z : ℕ). z + 1) come.many;
         few = few_more old.served.reader.bytes now.given new.given now.served.reader.bytes new.served.reader.bytes bytes (text_of_event event) pulls taken.text_is took.prompt come.few;
       }
 
@@ -242,15 +233,27 @@ module _ {C : Type 0} (test : C → ℕ → Bool) (b : Content) (old now : Momen
   there : IsThere test come.last now.served.reader now
   there = record { is = come.is; reader = refl }
 
-  pub done_here : IsDone come.last now.given.ended now.served.reader.bytes count → HasServed test b old now (Ok tt)
+  pub done_here : IsDone come.last now.given.ended now.served.reader.bytes → HasServed test b old now (Ok tt)
   done_here done = record {
     text = come.text;
     last = come.last;
     left = now.served.reader;
     serves = come.serves;
     written = come.written;
-    ends = (there, subst (IsDone come.last now.given.ended now.served.reader.bytes) (sym come.many) done);
+    ends = (there, done);
     prompt = λ none. come.few;
+  }
+
+  -- where memory is refused behind the last event that one call takes
+  pub done_full : (fault : TextFault) → IsTextMemory fault → SomeWaits come.last → HasServed test b old now (Err fault)
+  done_full fault memory some = record {
+    text = come.text;
+    last = come.last;
+    left = now.served.reader;
+    serves = come.serves;
+    written = come.written;
+    ends = (some, inl (there, record { stays = refl; only = λ has. inl memory; found = λ unread. absurd (unread (inl memory)) }));
+    prompt = λ gone. absurd (some gone);
   }
 
   -- at the end of the source
@@ -263,7 +266,7 @@ module _ {C : Type 0} (test : C → ℕ → Bool) (b : Content) (old now : Momen
         left = left;
         serves = pulled_there new.given none.reads.bytes none.reads.pulls;
         written = quiet_there new none.quiet;
-        ends = (record { is = subst (λ (z : Board C). IsOf test z come.last) (sym none.board) come.is; reader = none.reads.next.2 }, inr (inl (some, none.reads.next.0, none.reads.next.1)));
+        ends = (record { is = subst (λ (z : Board C). IsOf test z come.last) (sym none.board) come.is; reader = none.reads.next.2 }, inr (some, none.reads.next.0, none.reads.next.1));
         prompt = λ gone. absurd (some gone);
       }
 
@@ -329,17 +332,17 @@ keeps_then before mid later p q = record {
   counties = q.counties ∙ p.counties;
 }
 
-module _ {C : Type 0} (test : C → ℕ → Bool) (b : Content) (old now new : Moment C) (count : ℕ) (keeps : KeepsServed old.served now.served) (come : HasCome test b old now count) where
+module _ {C : Type 0} (test : C → ℕ → Bool) (b : Content) (old now new : Moment C) (keeps : KeepsServed old.served now.served) (come : HasCome test b old now) where
   -- what a call answers, while a piece waits
-  pub come_taken : (answer : Served) → answer ≡ Taken → SomeWaits come.last → ServesNext test come.last now new (Ok answer) → HasCome test b old new (count + 1)
-  come_taken answer is some next = come_more test b old now count keeps come new some (subst (λ z. ServesNext test come.last now new (Ok z)) is next)
+  pub come_taken : (answer : Served) → answer ≡ Taken → SomeWaits come.last → ServesNext test come.last now new (Ok answer) → HasCome test b old new
+  come_taken answer is some next = come_more test b old now keeps come new some (subst (λ z. ServesNext test come.last now new (Ok z)) is next)
 
   pub done_answer : (answer : Served) → answer ≡ Ended → SomeWaits come.last → ServesNext test come.last now new (Ok answer) → HasServed test b old new (Ok tt)
-  done_answer answer is some next = done_ended test b old now count keeps come new some (subst (λ z. ServesNext test come.last now new (Ok z)) is next)
+  done_answer answer is some next = done_ended test b old now keeps come new some (subst (λ z. ServesNext test come.last now new (Ok z)) is next)
 
   pub done_err : (fault : TextFault) → SomeWaits come.last → ServesNext test come.last now new (Err fault) → HasServed test b old new (Err fault)
-  done_err fault some (inl none) = done_fault test b old now count keeps come new fault some none
-  done_err fault some (inr (memory, took, quiet)) = done_untold test b old now count keeps come new fault some memory took quiet
+  done_err fault some (inl none) = done_fault test b old now keeps come new fault some none
+  done_err fault some (inr (memory, took, quiet)) = done_untold test b old now keeps come new fault some memory took quiet
 
 -- the same order of the same problem
 pub ordered_there : {C : Type 0} (ordered : OrderedValue) (before later : ServedBoard C) → ordered ≡ record { problem = before.board.problem; order = before.board.round.order } → KeepsServed before later

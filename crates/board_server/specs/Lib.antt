@@ -1,5 +1,5 @@
 pub mod Telling
-pub mod Saying
 pub mod Served
 pub mod Serving
 pub mod Laws
+pub mod Runs

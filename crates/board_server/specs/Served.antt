@@ -1,5 +1,5 @@
 -- What one call does to a board that reads its events from a source.
-use Rattle.std.specs.Prelude.{ℕ, ◌≡◌, ◌⊎◌, Bool, List, ◌++◌, Option, Some, None, Result, Ok, Err}
+use Rattle.std.specs.Prelude.{ℕ, ◌≡◌, ◌⊎◌, Bool, List, [], ◌++◌, Option, Some, None, Result, Ok, Err}
 use Rattle.county_problem.specs.ProblemValue.{problem_of}
 use Rattle.field_lines.specs.Source.{Given}
 use Rattle.certificate_lines.specs.Rest.{IsTextMemory}
@@ -12,19 +12,20 @@ use Rattle.share_board.specs.Replies.{IsReply}
 use Rattle.board_events.specs.Coming.{ReadsNext, IsPrompt}
 use Rattle.board_events.specs.Replies.{reply_line}
 use Rattle.board_server.specs.Telling.{IsSaidBehind}
-use Rattle.board_server.specs.Saying.{IsWritten}
+use Rattle.written_output.specs.Writing.{IsWritten}
+use Rattle.written_output.specs.declared.written.Written.{Written}
 use Rattle.board_server.specs.declared.served_board.ServedBoard.{ServedBoard}
 use Rattle.board_server.specs.declared.served_board.Served.{Served}
 use Rattle.board_server.specs.declared.served_board.Served.TheVariants.{Taken, Ended}
 
--- a moment: the board with its reader, what the source gave so far, what the sink holds, and whether its last write
--- failed, and whether it is cut
+-- a moment: the board with its reader, what the source gave so far, what the sink holds, whether its last write
+-- failed, and what was written
 pub record Moment (C : Type 0) : Type 0 where
   pub served : ServedBoard C
   pub given : Given
   pub contents : Option (List ℕ)
   pub failed : Bool
-  pub cut : Bool
+  pub written : Written
 
 -- what no call changes
 pub record KeepsServed {C : Type 0} (before later : ServedBoard C) : Type 0 where
@@ -32,11 +33,9 @@ pub record KeepsServed {C : Type 0} (before later : ServedBoard C) : Type 0 wher
   pub format : later.format ≡ before.format
   pub counties : later.counties ≡ before.counties
 
--- nothing was written, and no write failed
-pub record IsQuiet {C : Type 0} (old new : Moment C) : Type 0 where
-  pub contents : new.contents ≡ old.contents
-  pub failed : new.failed ≡ old.failed
-  pub cut : new.cut ≡ old.cut
+-- nothing was written
+abbrev pub IsQuiet : {C : Type 0} → Moment C → Moment C → Type 0
+IsQuiet old new = IsWritten old.contents new.contents old.failed new.failed old.written new.written []
 
 -- this was read, an event, the end or a fault
 abbrev pub Reads : {C : Type 0} → Moment C → Moment C → Result (Option EventHeld) TextFault → Type 0
@@ -66,7 +65,7 @@ abbrev pub TellsOne : {C : Type 0} → (C → ℕ → Bool) → Content → Mome
 TellsOne test b old new =
     (one : TakesOne test b old new) × (said : List ℕ)
     × IsSaidBehind (problem_of old.served.board.problem) one.next one.reply said
-    × IsWritten old.cut new.cut old.contents new.contents old.failed new.failed (reply_line one.reply ++ said)
+    × IsWritten old.contents new.contents old.failed new.failed old.written new.written (reply_line one.reply ++ said)
 
 -- The next event was taken and told, or the source has ended, or a fault came. Memory may be refused to the telling of
 -- an event that was taken, and then nothing of it is written.

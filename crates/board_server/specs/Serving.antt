@@ -15,7 +15,7 @@ use Rattle.board_events.specs.Coming.{Held, PullsOnto, TakesEvent, TellsFault, l
 use Rattle.board_events.specs.Replies.{reply_line}
 use Rattle.board_events.specs.Spelling.{text_of_events, HasSpelling}
 use Rattle.board_server.specs.Telling.{IsSaidBehind}
-use Rattle.board_server.specs.Saying.{IsWritten}
+use Rattle.written_output.specs.Writing.{IsWritten}
 use Rattle.board_server.specs.Served.{Moment}
 
 -- a piece waits
@@ -47,14 +47,9 @@ pub record ServesFrom (format : Format) (counties : ℕ) (p : Problem) (depth bu
   pub lines : held.lines + lines_in (text_of_events events) < 2 ^ 64
       → left.lines ≡ held.lines + lines_in (text_of_events events)
 
--- one call takes at most this many events
-abbrev pub most_events : ℕ
-most_events = 18446744073709551615
-
--- no piece waits; or one waits, but the source has ended and all of it was read; or so many events were taken
-abbrev pub IsDone : Content → Bool → List ℕ → ℕ → Type 0
-IsDone last ended left count =
-    (waiting last.skeleton ≡ []) ⊎ ((SomeWaits last × (ended ≡ true) × (left ≡ [])) ⊎ (count ≡ most_events))
+-- no piece waits, or the source has ended and all of it was read while some piece waits
+abbrev pub IsDone : Content → Bool → List ℕ → Type 0
+IsDone last ended left = (waiting last.skeleton ≡ []) ⊎ (SomeWaits last × (ended ≡ true) × (left ≡ []))
 
 -- memory was refused to the telling of the event behind those that were told: it was read, and the board has taken it
 pub record IsUntold {C : Type 0} (test : C → ℕ → Bool) (format : Format) (counties : ℕ) (p : Problem)
@@ -72,12 +67,12 @@ pub record IsThere {C : Type 0} (test : C → ℕ → Bool) (last : Content) (le
   pub is : IsOf test new.served.board last
   pub reader : new.served.reader ≡ left
 
--- How it ends, when so many events were told. A fault comes only while a piece waits.
+-- How it ends. A fault comes only while a piece waits.
 abbrev pub EndsBy : {C : Type 0} → (C → ℕ → Bool) → Format → (counties : ℕ) → Problem → (depth budget : ℕ) → Content
-    → Held → (count : ℕ) → Moment C → Result (Unit {0}) TextFault → Type 0
-EndsBy test format counties p depth budget last left count new (Ok done) =
-    IsThere test last left new × IsDone last new.given.ended left.bytes count
-EndsBy test format counties p depth budget last left count new (Err fault) =
+    → Held → Moment C → Result (Unit {0}) TextFault → Type 0
+EndsBy test format counties p depth budget last left new (Ok done) =
+    IsThere test last left new × IsDone last new.given.ended left.bytes
+EndsBy test format counties p depth budget last left new (Err fault) =
     SomeWaits last
     × ((IsThere test last left new × TellsFault format counties left new.given.ended fault new.served.reader)
     ⊎ (IsTextMemory fault × IsUntold test format counties p depth budget last left new))
@@ -94,7 +89,7 @@ pub record HasServed {C : Type 0} (test : C → ℕ → Bool) (b : Content) (old
   pub left : Held
   pub serves : ServesFrom old.served.format old.served.counties (problem_of old.served.board.problem)
       old.served.board.depth old.served.board.budget b old.served.reader old.given new.given text last left
-  pub written : IsWritten old.cut new.cut old.contents new.contents old.failed new.failed text
+  pub written : IsWritten old.contents new.contents old.failed new.failed old.written new.written text
   pub ends : EndsBy test old.served.format old.served.counties (problem_of old.served.board.problem)
-      old.served.board.depth old.served.board.budget last left (length serves.events) new result
+      old.served.board.depth old.served.board.budget last left new result
   pub prompt : waiting last.skeleton ≡ [] → HasFewBehind old.served.reader.bytes left.bytes

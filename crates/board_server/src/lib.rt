@@ -3,22 +3,22 @@
 //! ```
 //! push_round_and_pieces(alloc, &ordered, &board, &mut text)?;          // round 1 .., open 1 1 .., open 1 2 ..
 //! let mut served = ServedBoard::new(alloc, board, format, counties);
-//! serve(alloc, &ordered, &mut served, &mut source, &mut out, &mut is_cut)?;
+//! serve(alloc, &ordered, &mut served, &mut source, &mut out, &mut written)?;
 //! ```
 //!
-//! The definitions stand in `specs/`. `Telling` says what is told of a board, and `Saying` what comes of a write.
+//! The definitions stand in `specs/`. `Telling` says what is told of a board.
 //! `Served` says what one call does, and `Serving` what all calls do. `Laws` has what follows for each prefix of the
 //! events.
 #![tactic(auto)]
 
 mod laws;
-mod saying;
+mod runs;
 mod served_board;
 mod serving;
 mod telling;
 
 pub use laws::{replies_are_shared, texts_of_prefixes};
-pub use saying::say;
+pub use runs::{ServeStop, serve_events};
 pub use served_board::{Served, ServedBoard};
 pub use serving::{serve, serve_next};
 pub use telling::push_round_and_pieces;

@@ -3,6 +3,7 @@
 ghost use Rattle.std.specs.Prelude.{◌≡◌, ◌≤◌, ◌++◌, ℕ, List, false, length, IfOk};
 ghost use Rattle.county_problem.specs.ProblemValue.{problem_of};
 ghost use Rattle.certificate_lines.specs.Lines.{most};
+ghost use Rattle.certificate_lines.specs.Rest.{IsTextMemory};
 ghost use Rattle.board_laws.specs.Content.{Content};
 ghost use Rattle.share_board.specs.BoardValue.{IsOf, AreBoardLists, reply_of};
 ghost use Rattle.board_events.specs.Coming.{is_read_fault};
@@ -11,7 +12,6 @@ ghost use Rattle.board_server.specs.Telling.{IsSaidBehind, HasSmallNumbers};
 ghost use Rattle.board_server.specs.Served.{KeepsServed, ServesNext};
 ghost use Rattle.board_server.specs.Serving.{HasServed};
 
-use crate::saying::say;
 use crate::served_board::{Served, ServedBoard};
 use crate::telling::push_said;
 use board_events::push_reply;
@@ -22,9 +22,17 @@ use field_lines::Source;
 use place_sets::CountySet;
 use share_board::{Board, Reply};
 use std::alloc::{AllocError, Global};
+use written_output::{Written, write_next};
 
-/// The greatest number of events that one call takes.
-const MOST_EVENTS: u64 = u64::MAX;
+/// Returns the fault that memory was refused.
+fn memory_fault() -> TextFault
+    ensures { IsTextMemory result }
+{
+    TextFault {
+        kind: TextKind::Memory,
+        line: 1,
+    }
+}
 
 /// Returns the line of a `reply` and what is said behind it. The board stands as the reply left it.
 fn text_behind<C: CountySet>(
@@ -50,7 +58,7 @@ fn text_behind<C: CountySet>(
 /// `source`.
 ///
 /// The texts of the new pieces of a split are written behind its reply, and those of a new round and of its pieces
-/// behind that reply. Nothing is written once `is_cut` is set, and it is set if the write fails.
+/// behind that reply. Nothing is written behind a write that failed.
 ///
 /// # Errors
 ///
@@ -63,7 +71,7 @@ pub fn serve_next<C: CountySet, S: Source, W: Sink>(
     served: &mut ServedBoard<C>,
     source: &mut S,
     out: &mut W,
-    is_cut: &mut bool,
+    written: &mut Written,
 ) -> Result<Served, TextFault>
     requires board { (b : Content) × IsOf C.test served.old.board b }
     requires fits { length served.old.board.round.order ≤ C.PLACES }
@@ -77,14 +85,14 @@ pub fn serve_next<C: CountySet, S: Source, W: Sink>(
           given = S.given source.old;
           contents = W.contents out.old;
           failed = W.is_failed out.old;
-          cut = is_cut.old;
+          written = written.old;
         })
         (record {
           served = served.new;
           given = S.given source.new;
           contents = W.contents out.new;
           failed = W.is_failed out.new;
-          cut = is_cut.new;
+          written = written.new;
         })
         result }
     ensures keeps { KeepsServed served.old served.new }
@@ -100,35 +108,33 @@ pub fn serve_next<C: CountySet, S: Source, W: Sink>(
     };
     let reply = served.board.step(alloc, &mut served.lists, event);
     let Ok(text) = text_behind(alloc, ordered, &served.board, &reply) else {
-        return Err(TextFault {
-            kind: TextKind::Memory,
-            line: 1,
-        });
+        return Err(memory_fault());
     };
-    say(out, is_cut, &text);
-    Ok(Served::Taken)
+    match write_next(out, written, &text) {
+        Ok(()) => Ok(Served::Taken),
+        Err(AllocError) => Err(memory_fault()),
+    }
 }
 
 /// Takes the events of the `source` in turn, each as soon as it has come, and writes its reply to `out` with what is
 /// said behind it. Each call is lent the same `source`.
 ///
-/// Returns once no piece waits, and pulls nothing more then. Also returns at the end of the source, and behind
-/// 18,446,744,073,709,551,615 events.
+/// Returns once no piece waits, and pulls nothing more then. Also returns at the end of the source.
 ///
-/// Nothing is written once `is_cut` is set, and it is set if a write fails. The events are taken all the same.
+/// Nothing is written behind a write that failed. The events are taken all the same.
 ///
 /// # Errors
 ///
 /// - Returns the fault of the text, or `ReadFault`, as `EventReader::next_event` does.
 /// - Returns `Memory` if memory was refused. If it was refused behind an event, the board has taken the event, and
-///   nothing is written of it.
+///   nothing is written of it. It also returns `Memory` behind 2^64 - 1 events.
 pub fn serve<C: CountySet, S: Source, W: Sink>(
     alloc: Global,
     ordered: &Ordered,
     served: &mut ServedBoard<C>,
     source: &mut S,
     out: &mut W,
-    is_cut: &mut bool,
+    written: &mut Written,
 ) -> Result<(), TextFault>
     requires board { (b : Content) × IsOf C.test served.old.board b }
     requires fits { length served.old.board.round.order ≤ C.PLACES }
@@ -142,14 +148,14 @@ pub fn serve<C: CountySet, S: Source, W: Sink>(
           given = S.given source.old;
           contents = W.contents out.old;
           failed = W.is_failed out.old;
-          cut = is_cut.old;
+          written = written.old;
         })
         (record {
           served = served.new;
           given = S.given source.new;
           contents = W.contents out.new;
           failed = W.is_failed out.new;
-          cut = is_cut.new;
+          written = written.new;
         })
         result }
     ensures keeps { KeepsServed served.old served.new }
@@ -157,14 +163,17 @@ pub fn serve<C: CountySet, S: Source, W: Sink>(
     // `ReadFault` comes exactly if the source fails, unless it had failed before.
     ensures failed { S.is_failed source.old ≡ false → S.is_failed source.new ≡ is_read_fault result }
 {
-    for _taken in 0..MOST_EVENTS {
+    for _taken in 0..u64::MAX {
         if served.board.left() == 0 {
             return Ok(());
         }
-        match serve_next(alloc, ordered, served, source, out, is_cut)? {
+        match serve_next(alloc, ordered, served, source, out, written)? {
             Served::Taken => {}
             Served::Ended => return Ok(()),
         }
     }
-    Ok(())
+    match served.board.left() {
+        0 => Ok(()),
+        _ => Err(memory_fault()),
+    }
 }

@@ -14,6 +14,8 @@ ghost use Rattle.cli.specs.Case.{parts_of};
 ghost use Rattle.cli_file_stores.specs.declared.whole_source.WholeFault.{WholeFault};
 ghost use Rattle.cli_answers.specs.Answer.{Answered};
 ghost use Rattle.cli_answers.specs.Answers.{answer_of};
+ghost use Rattle.written_output.specs.Writing.{kept_of};
+ghost use Rattle.cli_runs.specs.Spoken.{behind};
 ghost use Rattle.cli.specs.Delivery.{texts};
 ghost use Rattle.cli.specs.CaseRun.{stored_text, WordsOver, IsCaseAnswer, IsWholeSource, IsReadAnswer, DeliversCase};
 
@@ -24,6 +26,7 @@ use cli_answers::{MEMORY, RunAnswer};
 use cli_file_stores::{MemoryFile, MemoryFileStore, Sink, WholeFault, read_whole};
 use field_lines::{Piece, RawLines, Source};
 use std::alloc::{AllocError, Global};
+use written_output::{NoSink, Written};
 
 /// How many bytes a case may have at most.
 pub const MAX_CASE: usize = 16_777_216;
@@ -153,6 +156,22 @@ fn parts_in<'a>(
     }
 }
 
+/// Returns an `answer` behind what was `written` before it.
+fn whole_answer(written: Written, answer: RunAnswer) -> Result<RunAnswer, AllocError>
+    ensures { IfOk result (λ a. (front : List ℕ) → kept_of written ≡ Some front → answer_of a ≡ behind front (answer_of answer)) }
+{
+    match written.kept {
+        Some(mut text) => {
+            text.extend_from_slice(&answer.text)?;
+            Ok(RunAnswer {
+                text,
+                status: answer.status,
+            })
+        }
+        None => Ok(answer),
+    }
+}
+
 /// Returns the answer to a `line` of words over `files`, followed by the files that were stored. If two files have the
 /// same name, the later one counts.
 fn words_over_files(
@@ -166,7 +185,17 @@ fn words_over_files(
     files.reverse();
     let mut file_store = MemoryFileStore::new(alloc, files);
     let words = words_in(alloc, line)?;
-    let mut answer = words_answer(alloc, &words, &mut file_store, end, &mut NoWatcher)?;
+    let mut written = Written::new(Some(Vec::new(alloc)));
+    let answer = words_answer(
+        alloc,
+        &words,
+        &mut file_store,
+        &mut NoSink,
+        &mut written,
+        end,
+        &mut NoWatcher,
+    )?;
+    let mut answer = whole_answer(written, answer)?;
     push_stored(&mut answer.text, file_store.stored_files())?;
     Ok(answer)
 }

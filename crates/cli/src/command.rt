@@ -1,10 +1,12 @@
 //! A run of one command. Its words are parsed, and the command is run. Its record is stored if the words ask for it.
 //! Then the answer is written.
 
-ghost use Rattle.std.specs.Prelude.{◌≡◌, List, IfOk};
+ghost use Rattle.std.specs.Prelude.{◌≡◌, ◌++◌, ℕ, List, IfOk};
 ghost use Rattle.cli_file_stores.specs.Files.{NamedFile};
 ghost use Rattle.cli_answers.specs.Answer.{Answered};
 ghost use Rattle.cli_answers.specs.Answers.{answer_of, said_by};
+ghost use Rattle.written_output.specs.Writing.{HasWritten, IsFresh};
+ghost use Rattle.cli_runs.specs.Spoken.{behind};
 ghost use Rattle.cli_runs.specs.Storing.{HasStored};
 ghost use Rattle.cli_runs.specs.Run.{CommandRun, IsEndAnswer, IsRunAnswer, HasState};
 ghost use Rattle.cli_runs.specs.Headline.{RunTells};
@@ -12,7 +14,9 @@ ghost use Rattle.cli.specs.Delivery.{Delivers, texts};
 ghost use Rattle.cli.specs.Ends.{said_of};
 
 use crate::audit::audit;
+use crate::board::board;
 use crate::check::check;
+use crate::desk::desk;
 use crate::end::{End, Ending};
 use crate::judge::judge;
 use crate::list::list;
@@ -26,19 +30,24 @@ use cli_answers::{MEMORY, Refusal, RunAnswer};
 use cli_file_stores::{FileStore, Sink};
 use cli_words::{CommandWords, WordsEnd, parse};
 use std::alloc::{AllocError, Global};
+use written_output::Written;
 
-/// Runs a command. Returns its answer, or the refusal with which it ends before that.
-fn command_end<H: FileStore, V: Watcher>(
+/// Runs a command. Returns its answer, or the refusal with which it ends before that. What `board` and `desk` have to
+/// say before it is written to `out` at once.
+fn command_end<H: FileStore, W: Sink, V: Watcher>(
     alloc: Global,
     command: CommandWords<'_>,
     file_store: &mut H,
+    out: &mut W,
+    written: &mut Written,
     end: &mut End,
     watcher: &mut V,
 ) -> Result<RunAnswer, Refusal>
     requires { HasState command }
-    ensures { (stored : List NamedFile)
+    ensures { (stored : List NamedFile) × (text : List ℕ)
         × HasStored (H.contents file_store.old) (H.contents file_store.new) (H.stored file_store.old) (H.stored file_store.new) stored
-        × CommandRun (H.contents file_store.old) command.entry (H.history file_store.old) (H.history file_store.new) stored (said_by result) }
+        × HasWritten W.contents W.is_failed out.old written.old out.new written.new text
+        × CommandRun (H.contents file_store.old) command.entry (H.history file_store.old) (H.history file_store.new) stored (behind text (said_by result)) }
 {
     match command {
         CommandWords::Size(words) => size(alloc, words, file_store, end),
@@ -49,23 +58,29 @@ fn command_end<H: FileStore, V: Watcher>(
         CommandWords::List(words) => list(alloc, words, file_store, end),
         CommandWords::Share(words) => share(alloc, words, file_store, end),
         CommandWords::Piece(words) => piece(alloc, words, file_store, end),
+        CommandWords::Board(words) => board(alloc, words, file_store, out, written, end),
+        CommandWords::Desk(words) => desk(alloc, words, file_store, out, written, end),
     }
 }
 
-/// Runs a command and returns its answer. Returns `AllocError` if memory was refused.
-pub(crate) fn command_answer<H: FileStore, V: Watcher>(
+/// Runs a command and returns its answer. Returns `AllocError` if memory was refused. What `board` and `desk` have to
+/// say before it is written to `out` at once.
+pub(crate) fn command_answer<H: FileStore, W: Sink, V: Watcher>(
     alloc: Global,
     command: CommandWords<'_>,
     file_store: &mut H,
+    out: &mut W,
+    written: &mut Written,
     end: &mut End,
     watcher: &mut V,
 ) -> Result<RunAnswer, AllocError>
     requires { HasState command }
-    ensures { (stored : List NamedFile)
+    ensures { (stored : List NamedFile) × (text : List ℕ)
         × HasStored (H.contents file_store.old) (H.contents file_store.new) (H.stored file_store.old) (H.stored file_store.new) stored
-        × CommandRun (H.contents file_store.old) command.entry (H.history file_store.old) (H.history file_store.new) stored (said_of result) }
+        × HasWritten W.contents W.is_failed out.old written.old out.new written.new text
+        × CommandRun (H.contents file_store.old) command.entry (H.history file_store.old) (H.history file_store.new) stored (behind text (said_of result)) }
 {
-    match command_end(alloc, command, file_store, end, watcher) {
+    match command_end(alloc, command, file_store, out, written, end, watcher) {
         Ok(answer) => Ok(answer),
         Err(Refusal::Shown(answer)) => Ok(answer),
         Err(Refusal::Memory) => {
@@ -99,20 +114,29 @@ fn words_end_answer(
     Ok(answer)
 }
 
-/// Parses `words`, runs their command and returns the answer. Returns `AllocError` if memory was refused.
-pub(crate) fn words_answer<H: FileStore, V: Watcher>(
+/// Parses `words`, runs their command and returns the answer. Returns `AllocError` if memory was refused. What `board`
+/// and `desk` have to say before it is written to `out` at once.
+pub(crate) fn words_answer<H: FileStore, W: Sink, V: Watcher>(
     alloc: Global,
     words: &[&str],
     file_store: &mut H,
+    out: &mut W,
+    written: &mut Written,
     end: &mut End,
     watcher: &mut V,
 ) -> Result<RunAnswer, AllocError>
-    ensures { (stored : List NamedFile)
+    requires { IsFresh written.old }
+    ensures { (stored : List NamedFile) × (text : List ℕ)
         × HasStored (H.contents file_store.old) (H.contents file_store.new) (H.stored file_store.old) (H.stored file_store.new) stored
-        × IsRunAnswer (H.contents file_store.old) (texts words.now) (H.history file_store.old) (H.history file_store.new) stored (said_of result) }
+        × HasWritten W.contents W.is_failed out.old written.old out.new written.new text
+        × IsRunAnswer (H.contents file_store.old) (texts words.now) (H.history file_store.old) (H.history file_store.new) stored (behind text (said_of result)) }
 {
     match parse(alloc, words) {
-        Ok(command) => answer_as_asked(alloc, words, command, file_store, end, watcher),
+        Ok(command) => {
+            answer_as_asked(
+                alloc, words, command, file_store, out, written, end, watcher,
+            )
+        }
         Err(words_end) => words_end_answer(alloc, words_end, end),
     }
 }
@@ -127,17 +151,37 @@ pub(crate) fn deliver<W: Sink>(out: &mut W, text: &[u8], status: u8) -> u8
     }
 }
 
-/// Writes an answer, or the line that says that memory was refused. Returns the status, or 5 if the writing failed.
-fn deliver_said<W: Sink>(out: &mut W, said: Result<RunAnswer, AllocError>, end: &mut End) -> u8
-    ensures { Delivers (W.is_failed out.new) (W.contents out.old) (W.contents out.new) (said_of said) result }
+/// Writes `text` behind what was `written`, and returns `status`, or 5 if a write failed.
+fn deliver_rest<W: Sink>(out: &mut W, written: &Written, text: &[u8], status: u8) -> u8
+    ensures { (begun : W) (fresh : Written) (front : List ℕ) → IsFresh fresh
+        → HasWritten W.contents W.is_failed begun fresh out.old written.now front
+        → Delivers (W.is_failed out.new) (W.contents begun) (W.contents out.new) (record { text = front ++ text.now; status = status }) result }
+{
+    if written.is_cut {
+        return 5;
+    }
+    deliver(out, text, status)
+}
+
+/// Writes an answer behind what was `written`, or the line that says that memory was refused. Returns the status, or 5
+/// if a write failed.
+fn deliver_said<W: Sink>(
+    out: &mut W,
+    written: &Written,
+    said: Result<RunAnswer, AllocError>,
+    end: &mut End,
+) -> u8
+    ensures { (begun : W) (fresh : Written) (front : List ℕ) → IsFresh fresh
+        → HasWritten W.contents W.is_failed begun fresh out.old written.now front
+        → Delivers (W.is_failed out.new) (W.contents begun) (W.contents out.new) (behind front (said_of said)) result }
 {
     match said {
         Ok(answer) => {
-            let status = deliver(out, &answer.text, answer.status);
+            let status = deliver_rest(out, written, &answer.text, answer.status);
             end.note_answer(answer.text);
             status
         }
-        Err(AllocError) => deliver(out, MEMORY, 5),
+        Err(AllocError) => deliver_rest(out, written, MEMORY, 5),
     }
 }
 
@@ -160,8 +204,17 @@ pub fn run_with_end<H: FileStore, W: Sink, V: Watcher>(
         × Delivers (W.is_failed out.new) (W.contents out.old) (W.contents out.new) a result.0 }
 {
     let mut end = End::new(alloc);
-    let said = words_answer(alloc, words, file_store, &mut end, watcher);
-    let status = deliver_said(out, said, &mut end);
+    let mut written = Written::new(None);
+    let said = words_answer(
+        alloc,
+        words,
+        file_store,
+        out,
+        &mut written,
+        &mut end,
+        watcher,
+    );
+    let status = deliver_said(out, &written, said, &mut end);
     (status, end)
 }
 

@@ -40,6 +40,8 @@ pub enum FileOption {
     Assignments,
     /// The events of a board.
     Events,
+    /// Standard input: the events of a board that goes on, or what a board tells a desk.
+    Input,
     /// The certificate that is stored.
     CertificateOut,
     /// The grouping that is stored.
@@ -68,6 +70,7 @@ impl fmt::Display for FileOption {
             FileOption::Certificate | FileOption::CertificateOut => "--certificate",
             FileOption::Assignments => "--assignments",
             FileOption::Events => "--events",
+            FileOption::Input => "standard input",
             FileOption::Out => "--out",
             FileOption::Table => "--table",
             FileOption::Groupings => "--groupings",
@@ -90,6 +93,8 @@ pub enum FileFault {
     Assignments(AssignmentFault),
     /// A fault of the events of a board.
     Events(TextFault),
+    /// A fault of the rounds and the open pieces that a board tells.
+    Pieces(TextFault),
 }
 
 impl FileFault {
@@ -100,7 +105,7 @@ impl FileFault {
             FileFault::BadName(line) => u64::from(*line),
             FileFault::Codes(fault) => u64::from(fault.line),
             FileFault::Assignments(fault) => u64::from(fault.line),
-            FileFault::Events(fault) => fault.line,
+            FileFault::Events(fault) | FileFault::Pieces(fault) => fault.line,
         }
     }
 }
@@ -113,7 +118,7 @@ impl fmt::Display for FileFault {
             FileFault::BadName(_) => f.write_str("the name of the county isn't UTF-8"),
             FileFault::Codes(fault) => write!(f, "{}", fault.kind),
             FileFault::Assignments(fault) => write!(f, "{}", fault.kind),
-            FileFault::Events(fault) => write!(f, "{}", fault.kind),
+            FileFault::Events(fault) | FileFault::Pieces(fault) => write!(f, "{}", fault.kind),
         }
     }
 }

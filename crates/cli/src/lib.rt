@@ -2,12 +2,14 @@
 #![tactic(auto)]
 
 mod audit;
+mod board;
 mod board_files;
 mod border_warnings;
 mod case;
 mod census_files;
 mod check;
 mod command;
+mod desk;
 mod end;
 mod fault_text;
 mod files;

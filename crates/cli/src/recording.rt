@@ -1,11 +1,14 @@
 //! The record of a run, which is stored after the files of its command.
 
-ghost use Rattle.std.specs.Prelude.{◌≡◌, ◌-◌, ◌^◌, ◌∷◌, [], true, List, Option, length, min};
+ghost use Rattle.std.specs.Prelude.{◌≡◌, ◌-◌, ◌^◌, ◌∷◌, ◌++◌, [], ℕ, true, List, Option, Some, IfSome, length, min};
 ghost use Rattle.cli_file_stores.specs.Files.{NamedFile};
 ghost use Rattle.cli_file_stores.specs.History.{History};
 ghost use Rattle.cli_record.specs.RecordFiles.{record_name_of};
 ghost use Rattle.cli_answers.specs.Answer.{Answered, memory_answer};
 ghost use Rattle.cli_answers.specs.Answers.{answer_of};
+ghost use Rattle.written_output.specs.Writing.{HasWritten, IsFresh, kept_of};
+ghost use Rattle.cli_record.specs.RunRecord.{IsRecord, sums_between};
+ghost use Rattle.cli_runs.specs.Spoken.{behind};
 ghost use Rattle.cli_runs.specs.Storing.{HasStored, said_after, store_steps};
 ghost use Rattle.cli_runs.specs.Recording.{RecordEnds, is_recorded as must_be_recorded};
 ghost use Rattle.cli_runs.specs.Run.{HasState, RunsAsAsked, RunsWithRecord};
@@ -17,10 +20,11 @@ use crate::end::{End, Ending, FileOption};
 use crate::storing::store_named;
 use branch_bound::Watcher;
 use cli_answers::{Refusal, RunAnswer};
-use cli_file_stores::FileStore;
+use cli_file_stores::{FileStore, Sink};
 use cli_record::{record_file, record_since};
 use cli_words::CommandWords;
 use std::alloc::{AllocError, Global};
+use written_output::Written;
 
 /// Returns whether a run that ends with `status` stores its record.
 fn is_recorded(status: u8) -> bool
@@ -81,6 +85,45 @@ fn uncomposed(answer: RunAnswer, end: &mut End) -> Result<RunAnswer, AllocError>
     Err(AllocError)
 }
 
+/// Returns the text of an `answer` behind what was `written` before it, or `None` if memory was refused.
+fn whole_text(alloc: Global, written: &Written, answer: &RunAnswer) -> Option<Vec<u8>>
+    ensures { IfSome result (λ v. (front : List ℕ) → kept_of written.now ≡ Some front → v.items ≡ front ++ answer.now.text.items) }
+{
+    let mut text = Vec::new(alloc);
+    if let Some(kept) = &written.kept {
+        text.extend_from_slice(kept).ok()?;
+    }
+    text.extend_from_slice(&answer.text).ok()?;
+    Some(text)
+}
+
+/// Returns the record of a run that ends with an `answer` behind what was `written` before it, or `None` if memory was
+/// refused. The file store had `first` events before the run.
+fn composed<H: FileStore>(
+    alloc: Global,
+    words: &[&str],
+    command: &CommandWords<'_>,
+    first: u64,
+    written: &Written,
+    answer: &RunAnswer,
+    file_store: &H,
+) -> Option<Vec<u8>>
+    ensures { (before : History) (front : List ℕ) → first ≡ min (length before.events) (2 ^ 64 - 1)
+        → kept_of written.now ≡ Some front
+        → IfSome result (λ v. IsRecord (texts words.now) command.now (sums_between before (H.history file_store.now)) answer.now.status (front ++ answer.now.text.items) v.items) }
+{
+    let text = whole_text(alloc, written, answer)?;
+    record_since(
+        alloc,
+        words,
+        command,
+        file_store,
+        first,
+        answer.status,
+        &text,
+    )
+}
+
 /// Stores the record of a run whose status asks for it. The file store had `first` events before the run.
 fn store_composed<H: FileStore>(
     alloc: Global,
@@ -88,24 +131,18 @@ fn store_composed<H: FileStore>(
     command: &CommandWords<'_>,
     name: &str,
     first: u64,
+    written: &Written,
     answer: RunAnswer,
     file_store: &mut H,
     end: &mut End,
 ) -> Result<RunAnswer, AllocError>
     requires { must_be_recorded answer.status ≡ true }
-    ensures { (before : History) → first ≡ min (length before.events) (2 ^ 64 - 1) → (last : List NamedFile)
+    ensures { (before : History) (front : List ℕ) → first ≡ min (length before.events) (2 ^ 64 - 1)
+        → kept_of written.now ≡ Some front → (last : List NamedFile)
         × HasStored (H.contents file_store.old) (H.contents file_store.new) (H.stored file_store.old) (H.stored file_store.new) last
-        × RecordEnds (texts words.now) command.now name.now before (H.history file_store.old) (H.history file_store.new) last (answer_of answer) (said_of result) }
+        × RecordEnds (texts words.now) command.now name.now before (H.history file_store.old) (H.history file_store.new) last front (answer_of answer) (said_of result) }
 {
-    match record_since(
-        alloc,
-        words,
-        command,
-        file_store,
-        first,
-        answer.status,
-        &answer.text,
-    ) {
+    match composed(alloc, words, command, first, written, &answer, file_store) {
         Some(bytes) => store_bytes(alloc, name, bytes, answer, file_store, end),
         None => uncomposed(answer, end),
     }
@@ -118,61 +155,78 @@ fn store_record<H: FileStore>(
     command: &CommandWords<'_>,
     name: &str,
     first: u64,
+    written: &Written,
     answer: RunAnswer,
     file_store: &mut H,
     end: &mut End,
 ) -> Result<RunAnswer, AllocError>
-    ensures { (before : History) → first ≡ min (length before.events) (2 ^ 64 - 1) → (last : List NamedFile)
+    ensures { (before : History) (front : List ℕ) → first ≡ min (length before.events) (2 ^ 64 - 1)
+        → kept_of written.now ≡ Some front → (last : List NamedFile)
         × HasStored (H.contents file_store.old) (H.contents file_store.new) (H.stored file_store.old) (H.stored file_store.new) last
-        × RecordEnds (texts words.now) command.now name.now before (H.history file_store.old) (H.history file_store.new) last (answer_of answer) (said_of result) }
+        × RecordEnds (texts words.now) command.now name.now before (H.history file_store.old) (H.history file_store.new) last front (answer_of answer) (said_of result) }
 {
     if is_recorded(answer.status) {
-        store_composed(alloc, words, command, name, first, answer, file_store, end)
+        store_composed(
+            alloc, words, command, name, first, written, answer, file_store, end,
+        )
     } else {
         Ok(answer)
     }
 }
 
 /// Runs a command whose words name a file for the record of the run, and returns its answer.
-fn answer_with_record<H: FileStore, V: Watcher>(
+fn answer_with_record<H: FileStore, W: Sink, V: Watcher>(
     alloc: Global,
     words: &[&str],
     command: CommandWords<'_>,
     name: &str,
     file_store: &mut H,
+    out: &mut W,
+    written: &mut Written,
     end: &mut End,
     watcher: &mut V,
 ) -> Result<RunAnswer, AllocError>
-    requires { HasState command }
-    ensures { (stored : List NamedFile)
+    requires state { HasState command }
+    requires fresh { IsFresh written.old }
+    ensures { (stored : List NamedFile) × (text : List ℕ)
         × HasStored (H.contents file_store.old) (H.contents file_store.new) (H.stored file_store.old) (H.stored file_store.new) stored
-        × RunsWithRecord (H.contents file_store.old) (texts words.now) command.entry name.now (H.history file_store.old) (H.history file_store.new) stored (said_of result) }
+        × HasWritten W.contents W.is_failed out.old written.old out.new written.new text
+        × RunsWithRecord (H.contents file_store.old) (texts words.now) command.entry name.now (H.history file_store.old) (H.history file_store.new) stored (behind text (said_of result)) }
 {
     let first = file_store.events();
     file_store.keep_sums(alloc);
-    match command_answer(alloc, command, file_store, end, watcher) {
-        Ok(answer) => store_record(alloc, words, &command, name, first, answer, file_store, end),
+    written.keep_all(alloc);
+    match command_answer(alloc, command, file_store, out, written, end, watcher) {
+        Ok(answer) => store_record(
+            alloc, words, &command, name, first, written, answer, file_store, end,
+        ),
         Err(AllocError) => Err(AllocError),
     }
 }
 
 /// Runs a command and returns its answer. The record of the run is stored if the words name a file for it and the
-/// answer's status asks for it.
-pub(crate) fn answer_as_asked<H: FileStore, V: Watcher>(
+/// answer's status asks for it. What `board` and `desk` have to say before it is written to `out` at once.
+pub(crate) fn answer_as_asked<H: FileStore, W: Sink, V: Watcher>(
     alloc: Global,
     words: &[&str],
     command: CommandWords<'_>,
     file_store: &mut H,
+    out: &mut W,
+    written: &mut Written,
     end: &mut End,
     watcher: &mut V,
 ) -> Result<RunAnswer, AllocError>
-    requires { HasState command }
-    ensures { (stored : List NamedFile)
+    requires state { HasState command }
+    requires fresh { IsFresh written.old }
+    ensures { (stored : List NamedFile) × (text : List ℕ)
         × HasStored (H.contents file_store.old) (H.contents file_store.new) (H.stored file_store.old) (H.stored file_store.new) stored
-        × RunsAsAsked (H.contents file_store.old) (texts words.now) command.entry (record_name_of command.entry) (H.history file_store.old) (H.history file_store.new) stored (said_of result) }
+        × HasWritten W.contents W.is_failed out.old written.old out.new written.new text
+        × RunsAsAsked (H.contents file_store.old) (texts words.now) command.entry (record_name_of command.entry) (H.history file_store.old) (H.history file_store.new) stored (behind text (said_of result)) }
 {
     match record_file(&command) {
-        Some(name) => answer_with_record(alloc, words, command, name, file_store, end, watcher),
-        None => command_answer(alloc, command, file_store, end, watcher),
+        Some(name) => answer_with_record(
+            alloc, words, command, name, file_store, out, written, end, watcher,
+        ),
+        None => command_answer(alloc, command, file_store, out, written, end, watcher),
     }
 }

@@ -84,7 +84,7 @@ fn share_files<H: FileStore>(
 }
 
 /// Returns the answer of a board: its text, with status 0 if no piece is waiting, and 3 otherwise.
-fn answer_to(shared: Shared) -> RunAnswer
+pub(crate) fn answer_to(shared: Shared) -> RunAnswer
     ensures { answer_of result ≡ share_answer shared }
 {
     RunAnswer {
@@ -94,7 +94,7 @@ fn answer_to(shared: Shared) -> RunAnswer
 }
 
 /// Returns the ending of a run of a board at which `left` pieces are still waiting.
-fn shared_end(left: usize) -> Ending {
+pub(crate) fn shared_end(left: usize) -> Ending {
     if left == 0 {
         Ending::Done
     } else {

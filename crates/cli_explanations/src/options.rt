@@ -2,7 +2,7 @@
 
 use crate::shown_bytes::name_of;
 use cli::FileOption;
-use cli_words::{CommandWords, CommonWords, ProblemWords};
+use cli_words::{CommandWords, CommonWords, ProblemWords, STANDARD_INPUT};
 use std::fmt;
 
 /// An option with the file that the words give it.
@@ -35,6 +35,8 @@ fn problem_of<'a>(command: CommandWords<'a>) -> Option<ProblemWords<'a>> {
         CommandWords::List(words) => Some(words.check.problem),
         CommandWords::Share(words) => Some(words.board.problem),
         CommandWords::Piece(words) => Some(words.board.problem),
+        CommandWords::Board(words) => Some(words.board.problem),
+        CommandWords::Desk(words) => Some(words.problem),
     }
 }
 
@@ -49,6 +51,8 @@ pub(crate) fn common_of<'a>(command: CommandWords<'a>) -> CommonWords<'a> {
         CommandWords::List(words) => words.check.problem.common,
         CommandWords::Share(words) => words.board.problem.common,
         CommandWords::Piece(words) => words.board.problem.common,
+        CommandWords::Board(words) => words.board.problem.common,
+        CommandWords::Desk(words) => words.problem.common,
     }
 }
 
@@ -81,6 +85,9 @@ pub(crate) fn path_in<'a>(command: CommandWords<'a>, option: FileOption) -> Opti
         (CommandWords::Share(words), FileOption::CertificateOut) => words.certificate,
         (CommandWords::Piece(words), FileOption::Grouping) => Some(words.board.grouping),
         (CommandWords::Piece(words), FileOption::Events) => words.events,
+        (CommandWords::Board(words), FileOption::Grouping) => Some(words.board.grouping),
+        (CommandWords::Board(words), FileOption::CertificateOut) => words.certificate,
+        (CommandWords::Board(_) | CommandWords::Desk(_), FileOption::Input) => Some(STANDARD_INPUT),
         _ => None,
     }
 }

@@ -38,7 +38,10 @@ fn remedy(option: FileOption) -> &'static str {
             "a line of --assignments is a block's fifteen digits and its district, as 370010201001000,1"
         }
         FileOption::Events => {
-            "give --events what `countygroups piece` prints: each event begins with a line of hand, result, split, better or wider"
+            "give --events what `countygroups piece` prints: each event begins with a line of hand, result, split, part, better or wider"
+        }
+        FileOption::Input => {
+            "`countygroups board` reads what `countygroups desk` prints, and a desk reads what a board prints"
         }
         _ =>
             "a line of --grouping is seats and the codes of the group's counties, as 2|37063|37183",

@@ -7,6 +7,7 @@ use Rattle.board_texts.specs.RoundText.{RoundTold}
 use Rattle.board_texts.specs.BoardText.{BoardTextTold, text_of, HasBoardText}
 use Rattle.board_texts.specs.Coming.{Held, TellsFault}
 use Rattle.desk_server.specs.Answers.{AnswersTexts}
+use Rattle.cli_words.specs.Words.{standard_input}
 use Rattle.cli_words.specs.declared.words.DeskWords.{DeskWords}
 use Rattle.cli_file_stores.specs.declared.file_store.ReadEnd.{ReadEnd}
 use Rattle.cli_file_stores.specs.declared.file_store.ReadEnd.TheVariants.{Whole}
@@ -19,7 +20,6 @@ use Rattle.cli_answers.specs.Refusals.{pieces_answer, file_store_answer}
 use Rattle.cli_runs.specs.Course.{Course, ◌>>=◌, value_step}
 use Rattle.cli_runs.specs.Reading.{GivenBack, read_one}
 use Rattle.cli_runs.specs.ProblemCourse.{problem_course}
-use Rattle.cli_runs.specs.ServeCourse.{standard_input}
 use Rattle.cli_runs.specs.Spoken.{behind}
 
 -- what a desk came to: what it wrote as it went on, and its answer
@@ -55,11 +55,13 @@ abbrev pub IsDeskRun : ProblemValue → GivenBack → DeskRun → Type 0
 IsDeskRun v given s =
     (left : Held) × HasProved v given.bytes s.text left × DeskStops left given.answer s.end
 
--- `desk`: the problem is built before standard input is opened, which is then read once
+-- a desk reads standard input once
+abbrev pub texts_course : Option Files → ProblemValue → Course DeskRun
+texts_course files v = read_one files standard_input >>= λ given. value_step (IsDeskRun v given)
+
+-- `desk`: the problem is built before standard input is opened
 abbrev pub desk_course : Option Files → DeskWords → Course DeskRun
-desk_course files words =
-    problem_course files words.problem >>= λ v. read_one files standard_input >>= λ given.
-    value_step (IsDeskRun v given)
+desk_course files words = problem_course files words.problem >>= texts_course files
 
 -- `desk` ends: at a fault that it met before it wrote anything, or with its answer behind what it wrote
 abbrev pub DeskEnds : Option Files → DeskWords → History → History → List NamedFile → Answered → Type 0

@@ -41,7 +41,7 @@ use Rattle.board_report.specs.Rounds.{IsFirstRound}
 use Rattle.board_report.specs.Taking.{EventsAreTaken}
 use Rattle.board_report.specs.PieceAnswers.{IsAnswerAt, piece_budget}
 use Rattle.branch_bound.specs.declared.piece.Piece.{Piece as PieceAnswer}
-use Rattle.cli_words.specs.Words.{Means, takes_words}
+use Rattle.cli_words.specs.Words.{Means, takes_words, standard_input}
 use Rattle.cli_words.specs.declared.words.CommonWords.{CommonWords}
 use Rattle.cli_words.specs.declared.words.ProblemWords.{ProblemWords}
 use Rattle.cli_words.specs.declared.words.BoardWords.{BoardWords}
@@ -73,7 +73,7 @@ use Rattle.cli_runs.specs.JudgeCourse.{IsDistrictsTable, findings_answer}
 use Rattle.cli_runs.specs.ListCourse.{listing_answer, open_answer, grouping_numbered}
 use Rattle.cli_runs.specs.BoardCourse.{format_of, depth_of, limit_of_words}
 use Rattle.cli_runs.specs.PieceCourse.{piece_said}
-use Rattle.cli_runs.specs.ServeCourse.{standard_input, HasServed}
+use Rattle.cli_runs.specs.ServeCourse.{HasServed}
 use Rattle.cli_runs.specs.DeskCourse.{HasProved}
 use Rattle.cli_runs.specs.Recording.{is_recorded}
 use Rattle.cli_runs.specs.Loads.{AnsweredBy}

@@ -16,6 +16,7 @@ use Rattle.board_report.specs.BoardOutcome.{IsEnded}
 use Rattle.board_report.specs.declared.board_outcome.Shared.{Shared}
 use Rattle.board_server.specs.Telling.{IsRoundTold}
 use Rattle.board_server.specs.Serving.{ServesFrom}
+use Rattle.cli_words.specs.Words.{standard_input}
 use Rattle.cli_words.specs.declared.words.ServeWords.{ServeWords}
 use Rattle.cli_file_stores.specs.declared.file_store.ReadEnd.{ReadEnd}
 use Rattle.cli_file_stores.specs.declared.file_store.FileStoreFault.{FileStoreFault}
@@ -31,10 +32,6 @@ use Rattle.cli_runs.specs.BoardCourse.{format_of, depth_of, limit_of_words}
 use Rattle.cli_runs.specs.ShareCourse.{share_answer}
 use Rattle.cli_runs.specs.Storing.{named_file, said_after, store_steps}
 use Rattle.cli_runs.specs.Spoken.{behind}
-
--- the file that is standard input
-abbrev pub standard_input : List ℕ
-standard_input = codes "/dev/stdin"
 
 -- what a board came to: what it wrote as it went on, the certificate that was joined, and its answer
 pub record ServedRun : Type 0 where
@@ -118,11 +115,15 @@ IsServedRun v words g given s =
     × (HasStood v last left given.answer s
     ⊎ (HasRefused v words left given.answer s ⊎ (HasFailed given.answer s ⊎ RanOutOfMemory s)))))
 
--- `board`: the problem and the grouping are had before standard input is opened, which is then read once
+-- a board reads standard input once
+abbrev pub input_course : Option Files → ProblemValue → ServeWords → Grouping → Course ServedRun
+input_course files v words g = read_one files standard_input >>= λ given. value_step (IsServedRun v words g given)
+
+-- `board`: the problem and the grouping are had before standard input is opened
 abbrev pub serve_course : Option Files → ServeWords → Course ServedRun
 serve_course files words =
     problem_course files words.board.problem >>= λ v. grouping_of files words.board.grouping.now >>= λ g.
-    read_one files standard_input >>= λ given. value_step (IsServedRun v words g given)
+    input_course files v words g
 
 -- `board` ends: at a fault that it met before it wrote anything, or with its certificate stored and its answer behind
 -- what it wrote, unless the file was refused

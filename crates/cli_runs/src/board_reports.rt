@@ -68,7 +68,7 @@ fn longest(groups: &[Group]) -> u16
 /// Returns the format, the limit and the depth of the board's first round, as `words` give them. The depth of a wide
 /// round is 0. If `words` give it no limit, the limit is the number of counties of the longest group of `grouping`,
 /// from 1 to 65,535.
-fn shape_for(words: RoundWords, grouping: &Grouping) -> BoardShape
+pub fn shape_for(words: RoundWords, grouping: &Grouping) -> BoardShape
     ensures format { result.format ≡ format_of words }
     ensures limit { result.limit ≡ limit_of_words grouping.now.groups.items words }
     ensures depth { result.depth ≡ depth_of words }

@@ -4,8 +4,8 @@ ghost use Rattle.clap.specs.Words.{app_of, rule_of};
 ghost use Rattle.cli_words.specs.Command.{AddsCommand, AddsOption, HasMore, HasShape, countygroups, countygroups_alone};
 ghost use Rattle.cli_words.specs.Command.{subcommand, of_number, common_options, problem_options, judge_options};
 ghost use Rattle.cli_words.specs.Command.{solve_options, check_options, audit_options, list_options, board_options};
-ghost use Rattle.cli_words.specs.Command.{certificate_options, share_options, piece_options, serve_options, desk_options};
-ghost use Rattle.cli_words.specs.Command.{of_steps, required, text_option, with_default};
+ghost use Rattle.cli_words.specs.Command.{certificate_options, share_options, piece_options, serve_options};
+ghost use Rattle.cli_words.specs.Command.{desk_options, of_steps, required, text_option, with_default};
 
 use crate::version::VERSION;
 use clap::{Arg, ArgAction, Command, value_parser};

@@ -10,8 +10,9 @@ ghost use Rattle.cli_words.specs.Command.{piece_options, problem_options, serve_
 ghost use Rattle.cli_words.specs.Options.{HasCommand, HasValues};
 ghost use Rattle.cli_words.specs.Words.{AreUnpaired, EndsFor, EndsTaken, GivesRoundWords, GivesStored, GivesText, IsOptionsFault};
 ghost use Rattle.cli_words.specs.Words.{LacksLimit, Means, SaysAudit, SaysBoard, SaysCertificate, SaysCheck};
-ghost use Rattle.cli_words.specs.Words.{SaysCommand, SaysCommon, SaysDesk, SaysJudge, SaysList, SaysPiece, SaysProblem};
-ghost use Rattle.cli_words.specs.Words.{SaysServe, SaysShare, SaysSolve, SaysWindow, faults_of, subcommand_in, takes_words};
+ghost use Rattle.cli_words.specs.Words.{SaysCommand, SaysCommon, SaysDesk, SaysJudge, SaysList, SaysPiece};
+ghost use Rattle.cli_words.specs.Words.{SaysProblem, SaysServe, SaysShare, SaysSolve, SaysWindow};
+ghost use Rattle.cli_words.specs.Words.{faults_of, subcommand_in, takes_words};
 ghost use Rattle.cli_words.specs.declared.end.OptionsFault.TheVariants.{Depth, NumberOrOut};
 
 use crate::command::program;

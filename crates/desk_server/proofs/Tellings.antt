@@ -9,14 +9,14 @@ use Rattle.board_texts.specs.TextValue.{round_told, board_text_of}
 use Rattle.board_texts.specs.declared.round.RoundTold.{RoundTold as RoundHeld}
 use Rattle.board_texts.specs.declared.board_text.BoardText.{BoardText}
 use Rattle.board_texts.specs.declared.board_text.BoardText.TheVariants as held
-use Rattle.board_server.specs.Saying.{IsWritten}
+use Rattle.written_output.specs.Writing.{IsWritten}
 use Rattle.desk_server.specs.Rounds.{HoldsRound}
 use Rattle.desk_server.specs.Answers.{IsAnswer, AnswersTexts}
 use Rattle.desk_server.specs.Taking.{Moment, Tells}
 
 module _ {C : Type 0} (p : Problem) (last : Option RoundTold) (text : BoardText) (old new : Moment C) where
   -- nothing is said of a round
-  pub round_tells : (round : RoundHeld) → text ≡ held.Round round → HoldsRound p (Some (round_told round)) new.desk.last → IsWritten old.cut new.cut old.contents new.contents old.failed new.failed [] → Tells p last text old new
+  pub round_tells : (round : RoundHeld) → text ≡ held.Round round → HoldsRound p (Some (round_told round)) new.desk.last → IsWritten old.contents new.contents old.failed new.failed old.written new.written [] → Tells p last text old new
   round_tells round e holds written = record {
     said = [];
     end = Some (round_told round);
@@ -26,7 +26,7 @@ module _ {C : Type 0} (p : Problem) (last : Option RoundTold) (text : BoardText)
   }
 
   -- a piece has its answer
-  pub piece_tells : (piece : OpenPiece) (said : List ℕ) → text ≡ held.Open piece → IsAnswer p last (piece_of piece) said → HoldsRound p last new.desk.last → IsWritten old.cut new.cut old.contents new.contents old.failed new.failed said → Tells p last text old new
+  pub piece_tells : (piece : OpenPiece) (said : List ℕ) → text ≡ held.Open piece → IsAnswer p last (piece_of piece) said → HoldsRound p last new.desk.last → IsWritten old.contents new.contents old.failed new.failed old.written new.written said → Tells p last text old new
   piece_tells piece said e is holds written = record {
     said = said;
     end = last;

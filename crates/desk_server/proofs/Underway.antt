@@ -13,12 +13,12 @@ use Rattle.board_texts.specs.BoardText.{BoardTextTold, text_of, HasBoardText}
 use Rattle.board_texts.specs.TextValue.{board_text_of}
 use Rattle.board_texts.specs.Coming.{Held, PullsOnto, TakesText, lines_in}
 use Rattle.board_texts.proofs.WholeLines.{pulls_more}
-use Rattle.board_server.specs.Saying.{IsWritten}
-use Rattle.board_server.proofs.Writings.{written_none, written_then}
+use Rattle.written_output.specs.Writing.{IsWritten}
+use Rattle.written_output.proofs.Texts.{written_none, written_both}
 use Rattle.desk_server.specs.Rounds.{HoldsRound}
 use Rattle.desk_server.specs.Answers.{AnswersTexts}
 use Rattle.desk_server.specs.Taking.{Moment, IsQuiet, ReadsOne, TakesNone, TakesOne}
-use Rattle.desk_server.specs.Serving.{AnswersFrom, text_of_all, most_texts, EndsBy, HasAnswered}
+use Rattle.desk_server.specs.Serving.{AnswersFrom, text_of_all, EndsBy, HasAnswered}
 use Rattle.desk_server.proofs.Tellings.{answers_both}
 
 -- the bytes and the lines of texts with one more
@@ -92,7 +92,7 @@ pub record IsUnderway {C : Type 0} (p : Problem) (last : Option RoundTold) (old 
   pub end : Option RoundTold
   pub serves : AnswersFrom p last old.desk.reader old.given new.given text end new.desk.reader
   pub holds : HoldsRound p end new.desk.last
-  pub written : IsWritten old.cut new.cut old.contents new.contents old.failed new.failed text
+  pub written : IsWritten old.contents new.contents old.failed new.failed old.written new.written text
   pub many : length serves.texts ≡ count
 
 module _ {C : Type 0} (p : Problem) (last : Option RoundTold) (old : Moment C) where
@@ -104,7 +104,7 @@ module _ {C : Type 0} (p : Problem) (last : Option RoundTold) (old : Moment C) w
     end = last;
     serves = none_answered p last old.desk.reader old.given;
     holds = holds;
-    written = written_none old.cut old.contents old.failed;
+    written = written_none old.contents old.failed old.written;
     many = refl;
   }
 
@@ -120,16 +120,15 @@ module _ {C : Type 0} (p : Problem) (last : Option RoundTold) (old : Moment C) w
         end = (takes.1).end;
         serves = more.0;
         holds = (takes.1).holds;
-        written = written_then old.cut now.cut next.cut old.contents now.contents next.contents old.failed now.failed next.failed u.text (takes.1).said u.written (takes.1).written;
+        written = written_both old.contents now.contents next.contents old.failed now.failed next.failed old.written now.written next.written u.text (takes.1).said u.written (takes.1).written;
         many = more.1 ∙ ap (λ (n : ℕ). n + 1) (ap length pulled.1 ∙ u.many);
       }
 
   -- what was written stays where all is quiet
-  still_written : (now new : Moment C) (text : List ℕ) → IsQuiet now new → IsWritten old.cut now.cut old.contents now.contents old.failed now.failed text → IsWritten old.cut new.cut old.contents new.contents old.failed new.failed text
+  still_written : (now new : Moment C) (text : List ℕ) → IsQuiet now new → IsWritten old.contents now.contents old.failed now.failed old.written now.written text → IsWritten old.contents new.contents old.failed new.failed old.written new.written text
   still_written now new text quiet written =
-      subst (λ z. IsWritten old.cut z old.contents new.contents old.failed new.failed text) (sym quiet.cut)
-      (subst (λ z. IsWritten old.cut now.cut old.contents z old.failed new.failed text) (sym quiet.contents)
-      (subst (λ z. IsWritten old.cut now.cut old.contents now.contents old.failed z text) (sym quiet.failed) written))
+      subst (λ t. IsWritten old.contents new.contents old.failed new.failed old.written new.written t) (append-nil text)
+      (written_both old.contents now.contents new.contents old.failed now.failed new.failed old.written now.written new.written text [] written quiet.none)
 
   -- nothing more was answered, though more may have been pulled
   module _ (now new : Moment C) (count : ℕ) (u : IsUnderway p last old now count) (quiet : IsQuiet now new)
@@ -138,7 +137,7 @@ module _ {C : Type 0} (p : Problem) (last : Option RoundTold) (old : Moment C) w
     left = record { bytes = bytes; lines = now.desk.reader.lines }
 
     -- it ends so
-    ends_so : (result : Result (Unit {0}) TextFault) → ((count : ℕ) → EndsBy left count new result) → HasAnswered p last old new result
+    ends_so : (result : Result (Unit {0}) TextFault) → EndsBy left new result → HasAnswered p last old new result
     ends_so result ends = record {
       text = u.text;
       end = u.end;
@@ -146,27 +145,27 @@ module _ {C : Type 0} (p : Problem) (last : Option RoundTold) (old : Moment C) w
       serves = (pulled_on p last old.desk.reader old.given now.given new.given u.text u.end now.desk.reader bytes u.serves pulls).0;
       holds = subst (HoldsRound p u.end) (sym quiet.last) u.holds;
       written = still_written now new u.text quiet u.written;
-      ends = ends _;
+      ends = ends;
     }
 
   -- the source has ended
   pub ends_read : (now new : Moment C) (count : ℕ) → IsUnderway p last old now count → TakesNone now new (Ok None) → HasAnswered p last old new (Ok tt)
-  ends_read now new count u none = ends_so now new count u none.1 (none.0).bytes (none.0).pulls (Ok tt) (λ n. ((none.0).next.2, inl ((none.0).next.0, (none.0).next.1)))
+  ends_read now new count u none = ends_so now new count u none.1 (none.0).bytes (none.0).pulls (Ok tt) ((none.0).next.2, (none.0).next.0, (none.0).next.1)
 
   -- a fault came
   pub ends_fault : (now new : Moment C) (count : ℕ) (fault : TextFault) → IsUnderway p last old now count → TakesNone now new (Err fault) ⊎ (IsTextMemory fault × ReadsOne now new × IsQuiet now new) → HasAnswered p last old new (Err fault)
-  ends_fault now new count fault u (inl none) = ends_so now new count u none.1 (none.0).bytes (none.0).pulls (Err fault) (λ n. inl (none.0).next)
+  ends_fault now new count fault u (inl none) = ends_so now new count u none.1 (none.0).bytes (none.0).pulls (Err fault) (inl (none.0).next)
   ends_fault now new count fault u (inr (memory, one, quiet)) =
-      ends_so now new count u quiet one.reads.bytes one.reads.pulls (Err fault) (λ n. inr (memory, record { told = board_text_of one.text; takes = one.reads.next }))
+      ends_so now new count u quiet one.reads.bytes one.reads.pulls (Err fault) (inr (memory, record { told = board_text_of one.text; takes = one.reads.next }))
 
-  -- as many texts were answered as one call answers
-  pub ends_full : (now : Moment C) (count : ℕ) → IsUnderway p last old now count → count ≡ most_texts → HasAnswered p last old now (Ok tt)
-  ends_full now count u full = record {
+  -- memory is refused behind the last text that one call answers
+  pub ends_full : (now : Moment C) (count : ℕ) (fault : TextFault) → IsTextMemory fault → IsUnderway p last old now count → HasAnswered p last old now (Err fault)
+  ends_full now count fault memory u = record {
     text = u.text;
     end = u.end;
     left = now.desk.reader;
     serves = u.serves;
     holds = u.holds;
     written = u.written;
-    ends = (refl, inr (u.many ∙ full));
+    ends = inl (record { stays = refl; only = λ has. inl memory; found = λ unread. absurd (unread (inl memory)) });
   }

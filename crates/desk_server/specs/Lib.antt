@@ -2,3 +2,4 @@ pub mod Rounds
 pub mod Answers
 pub mod Taking
 pub mod Serving
+pub mod Runs

@@ -8,7 +8,7 @@ use Rattle.certificate_lines.specs.declared.fault.TextFault.{TextFault}
 use Rattle.board_texts.specs.RoundText.{RoundTold}
 use Rattle.board_texts.specs.BoardText.{BoardTextTold, text_of, HasBoardText}
 use Rattle.board_texts.specs.Coming.{Held, PullsOnto, TakesText, TellsFault, lines_in}
-use Rattle.board_server.specs.Saying.{IsWritten}
+use Rattle.written_output.specs.Writing.{IsWritten}
 use Rattle.desk_server.specs.Rounds.{HoldsRound}
 use Rattle.desk_server.specs.Answers.{AnswersTexts}
 use Rattle.desk_server.specs.Taking.{Moment}
@@ -30,21 +30,15 @@ pub record AnswersFrom (p : Problem) (last : Option RoundTold) (held : Held) (fr
   pub lines : held.lines + lines_in (text_of_all texts) < 2 ^ 64
       → left.lines ≡ held.lines + lines_in (text_of_all texts)
 
--- one call answers at most this many texts
-abbrev pub most_texts : ℕ
-most_texts = 18446744073709551615
-
 -- memory was refused to the text behind those that were answered, and it was read
 pub record IsUnanswered {C : Type 0} (left : Held) (new : Moment C) : Type 0 where
   pub told : BoardTextTold
   pub takes : TakesText left told new.desk.reader
 
--- how it ends, when so many texts were answered: the source has ended and all of it was read, or no more are answered
--- by one call, or a fault came
-abbrev pub EndsBy : {C : Type 0} → Held → ℕ → Moment C → Result (Unit {0}) TextFault → Type 0
-EndsBy left count new (Ok done) =
-    (new.desk.reader ≡ left) × (((new.given.ended ≡ true) × (left.bytes ≡ [])) ⊎ (count ≡ most_texts))
-EndsBy left count new (Err fault) =
+-- how it ends: the source has ended and all of it was read, or a fault came
+abbrev pub EndsBy : {C : Type 0} → Held → Moment C → Result (Unit {0}) TextFault → Type 0
+EndsBy left new (Ok done) = (new.desk.reader ≡ left) × (new.given.ended ≡ true) × (left.bytes ≡ [])
+EndsBy left new (Err fault) =
     TellsFault left new.given.ended fault new.desk.reader ⊎ (IsTextMemory fault × IsUnanswered left new)
 
 -- Texts were read and answered, until it ended so. The desk holds the round that was told last.
@@ -55,5 +49,5 @@ pub record HasAnswered {C : Type 0} (p : Problem) (last : Option RoundTold) (old
   pub left : Held
   pub serves : AnswersFrom p last old.desk.reader old.given new.given text end left
   pub holds : HoldsRound p end new.desk.last
-  pub written : IsWritten old.cut new.cut old.contents new.contents old.failed new.failed text
-  pub ends : EndsBy left (length serves.texts) new result
+  pub written : IsWritten old.contents new.contents old.failed new.failed old.written new.written text
+  pub ends : EndsBy left new result

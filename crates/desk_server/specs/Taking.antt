@@ -8,32 +8,31 @@ use Rattle.board_texts.specs.RoundText.{RoundTold}
 use Rattle.board_texts.specs.TextValue.{board_text_of}
 use Rattle.board_texts.specs.Coming.{ReadsNext, IsPrompt}
 use Rattle.board_texts.specs.declared.board_text.BoardText.{BoardText}
-use Rattle.board_server.specs.Saying.{IsWritten}
+use Rattle.written_output.specs.Writing.{IsWritten}
+use Rattle.written_output.specs.declared.written.Written.{Written}
 use Rattle.desk_server.specs.Rounds.{HoldsRound}
 use Rattle.desk_server.specs.Answers.{AnswersTexts}
 use Rattle.desk_server.specs.declared.desk.Desk.{Desk}
 use Rattle.desk_server.specs.declared.reply.Reply.{Reply}
 use Rattle.desk_server.specs.declared.reply.Reply.TheVariants.{Taken, Ended}
 
--- a moment: the desk, what the source gave so far, what the sink holds, whether its last write failed, and whether it
--- is cut
+-- a moment: the desk, what the source gave so far, what the sink holds, whether its last write failed, and what was
+-- written
 pub record Moment (C : Type 0) : Type 0 where
   pub desk : Desk C
   pub given : Given
   pub contents : Option (List ℕ)
   pub failed : Bool
-  pub cut : Bool
+  pub written : Written
 
-abbrev pub moment : {C : Type 0} → Desk C → Given → Option (List ℕ) → (failed cut : Bool) → Moment C
-moment desk given contents failed cut =
-    record { desk = desk; given = given; contents = contents; failed = failed; cut = cut }
+abbrev pub moment : {C : Type 0} → Desk C → Given → Option (List ℕ) → Bool → Written → Moment C
+moment desk given contents failed written =
+    record { desk = desk; given = given; contents = contents; failed = failed; written = written }
 
 -- the desk holds the round that it held, and nothing was written
 pub record IsQuiet {C : Type 0} (old new : Moment C) : Type 0 where
   pub last : new.desk.last ≡ old.desk.last
-  pub contents : new.contents ≡ old.contents
-  pub failed : new.failed ≡ old.failed
-  pub cut : new.cut ≡ old.cut
+  pub none : IsWritten old.contents new.contents old.failed new.failed old.written new.written []
 
 -- this was read: a text, the end or a fault
 abbrev pub Reads : {C : Type 0} → Moment C → Moment C → Result (Option BoardText) TextFault → Type 0
@@ -56,7 +55,7 @@ pub record Tells {C : Type 0} (p : Problem) (last : Option RoundTold) (text : Bo
     pub end : Option RoundTold
     pub answers : AnswersTexts p last (board_text_of text ∷ []) said end
     pub holds : HoldsRound p end new.desk.last
-    pub written : IsWritten old.cut new.cut old.contents new.contents old.failed new.failed said
+    pub written : IsWritten old.contents new.contents old.failed new.failed old.written new.written said
 
 -- a text was read and answered
 abbrev pub TakesOne : {C : Type 0} → Problem → Option RoundTold → Moment C → Moment C → Type 0

@@ -4,7 +4,7 @@
 //! ```
 //! let mut desk = Desk::new(alloc);
 //! let text = answer_piece(alloc, &graph, &mut desk, &piece, 100_000)?;   // result 1 2 .., or no such piece
-//! answer_all(alloc, &graph, 100_000, &mut desk, &mut source, &mut out, &mut is_cut)?;
+//! answer_all(alloc, &graph, 100_000, &mut desk, &mut source, &mut out, &mut written)?;
 //! ```
 //!
 //! The definitions stand in `specs/`. `Rounds` says which round a desk holds, and `Answers` what is said of texts.
@@ -15,9 +15,11 @@ mod answering;
 mod desk;
 mod reply;
 mod rounds;
+mod runs;
 mod serving;
 
 pub use answering::answer_piece;
 pub use desk::Desk;
 pub use reply::Reply;
+pub use runs::prove_pieces;
 pub use serving::{answer_all, answer_next};

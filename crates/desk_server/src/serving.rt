@@ -8,6 +8,7 @@ ghost use Rattle.board_texts.specs.RoundText.{RoundTold};
 ghost use Rattle.board_texts.specs.BoardText.{HasBoardText};
 ghost use Rattle.board_texts.specs.TextValue.{board_text_of};
 ghost use Rattle.board_texts.specs.Coming.{is_read_fault};
+ghost use Rattle.certificate_lines.specs.Rest.{IsTextMemory};
 ghost use Rattle.desk_server.specs.Rounds.{HoldsRound};
 ghost use Rattle.desk_server.specs.Taking.{moment, IsQuiet, Tells, TakesNext};
 ghost use Rattle.desk_server.specs.Serving.{HasAnswered};
@@ -16,7 +17,6 @@ use crate::answering::answer_piece;
 use crate::desk::Desk;
 use crate::reply::Reply;
 use crate::rounds::numbered_round;
-use board_server::say;
 use board_texts::BoardText;
 use certificate_lines::{TextFault, TextKind};
 use cli_file_stores::Sink;
@@ -24,9 +24,17 @@ use connected_sets::CountyGraph;
 use field_lines::Source;
 use place_sets::CountySet;
 use std::alloc::{AllocError, Global};
+use written_output::{Written, write_next};
 
-/// The greatest number of texts that one call answers.
-const MOST_TEXTS: u64 = u64::MAX;
+/// Returns the fault that memory was refused.
+pub(crate) fn memory_fault() -> TextFault
+    ensures { IsTextMemory result }
+{
+    TextFault {
+        kind: TextKind::Memory,
+        line: 1,
+    }
+}
 
 /// Keeps the round that a `text` tells, or writes what is said of its piece to `out`.
 fn take_text<C: CountySet, W: Sink>(
@@ -36,7 +44,7 @@ fn take_text<C: CountySet, W: Sink>(
     desk: &mut Desk<C>,
     text: BoardText,
     out: &mut W,
-    is_cut: &mut bool,
+    written: &mut Written,
 ) -> Result<(), AllocError>
     requires graph { IsGraph C.test C.PLACES graph.now }
     requires order { graph_order graph.now ≡ (graph_problem graph.now).counties }
@@ -47,11 +55,11 @@ fn take_text<C: CountySet, W: Sink>(
     ensures reader { desk.new.reader ≡ desk.old.reader }
     ensures tells { (last : Option RoundTold) → HoldsRound (graph_problem graph.now) last desk.old.last
         → (from : Given) → (to : Given) → OnOk result (Tells (graph_problem graph.now) last text
-        (moment desk.old from (W.contents out.old) (W.is_failed out.old) is_cut.old)
-        (moment desk.new to (W.contents out.new) (W.is_failed out.new) is_cut.new)) }
+        (moment desk.old from (W.contents out.old) (W.is_failed out.old) written.old)
+        (moment desk.new to (W.contents out.new) (W.is_failed out.new) written.new)) }
     ensures quiet { (from : Given) → (to : Given) → OnErr result (IsQuiet
-        (moment desk.old from (W.contents out.old) (W.is_failed out.old) is_cut.old)
-        (moment desk.new to (W.contents out.new) (W.is_failed out.new) is_cut.new)) }
+        (moment desk.old from (W.contents out.old) (W.is_failed out.old) written.old)
+        (moment desk.new to (W.contents out.new) (W.is_failed out.new) written.new)) }
 {
     match text {
         BoardText::Round(told) => {
@@ -60,15 +68,14 @@ fn take_text<C: CountySet, W: Sink>(
         }
         BoardText::Open(piece) => {
             let said = answer_piece(alloc, graph, desk, &piece, steps)?;
-            say(out, is_cut, &said);
-            Ok(())
+            write_next(out, written, &said)
         }
     }
 }
 
 /// Reads the next text from the `source`. Keeps its round, or writes what is said of its piece to `out`, which is the
 /// solver's answer within `steps` steps. Each call is lent the same `source` and the same `graph`, whose counties stand
-/// by ascending codes. Nothing is written once `is_cut` is set, and it is set if the write fails.
+/// by ascending codes. Nothing is written behind a write that failed.
 ///
 /// # Errors
 ///
@@ -82,7 +89,7 @@ pub fn answer_next<C: CountySet, S: Source, W: Sink>(
     desk: &mut Desk<C>,
     source: &mut S,
     out: &mut W,
-    is_cut: &mut bool,
+    written: &mut Written,
 ) -> Result<Reply, TextFault>
     requires graph { IsGraph C.test C.PLACES graph.now }
     requires order { graph_order graph.now ≡ (graph_problem graph.now).counties }
@@ -91,19 +98,16 @@ pub fn answer_next<C: CountySet, S: Source, W: Sink>(
     ensures lists { AreListsOf C.test (place_problem graph.now) (graph_places graph.now) desk.new.lists }
     ensures takes { (last : Option RoundTold) → HoldsRound (graph_problem graph.now) last desk.old.last
         → TakesNext (graph_problem graph.now) last
-        (moment desk.old (S.given source.old) (W.contents out.old) (W.is_failed out.old) is_cut.old)
-        (moment desk.new (S.given source.new) (W.contents out.new) (W.is_failed out.new) is_cut.new)
+        (moment desk.old (S.given source.old) (W.contents out.old) (W.is_failed out.old) written.old)
+        (moment desk.new (S.given source.new) (W.contents out.new) (W.is_failed out.new) written.new)
         result }
     // `ReadFault` comes exactly if the source fails, unless it had failed before.
     ensures failed { S.is_failed source.old ≡ false → S.is_failed source.new ≡ is_read_fault result }
 {
     match desk.reader.next_text(alloc, source) {
-        Ok(Some(text)) => match take_text(alloc, graph, steps, desk, text, out, is_cut) {
+        Ok(Some(text)) => match take_text(alloc, graph, steps, desk, text, out, written) {
             Ok(()) => Ok(Reply::Taken),
-            Err(_) => Err(TextFault {
-                kind: TextKind::Memory,
-                line: 1,
-            }),
+            Err(_) => Err(memory_fault()),
         },
         Ok(None) => Ok(Reply::Ended),
         Err(fault) => Err(fault),
@@ -113,13 +117,13 @@ pub fn answer_next<C: CountySet, S: Source, W: Sink>(
 /// Answers the texts of the `source` in turn, each as soon as it has come, until the source ends. Keeps each round, and
 /// writes what is said of each piece to `out`, as `answer_next` does.
 ///
-/// Nothing is written once `is_cut` is set, and it is set if a write fails. The texts are read all the same.
+/// Nothing is written behind a write that failed. The texts are read all the same.
 ///
 /// # Errors
 ///
 /// - Returns the fault of a text, or `ReadFault`, as `BoardTextReader::next_text` does.
 /// - Returns `Memory` if memory was refused. If it was refused behind a text, nothing is written of that text, and the
-///   desk holds the round that it held.
+///   desk holds the round that it held. It also returns `Memory` behind 2^64 - 1 texts.
 pub fn answer_all<C: CountySet, S: Source, W: Sink>(
     alloc: Global,
     graph: &CountyGraph<C>,
@@ -127,7 +131,7 @@ pub fn answer_all<C: CountySet, S: Source, W: Sink>(
     desk: &mut Desk<C>,
     source: &mut S,
     out: &mut W,
-    is_cut: &mut bool,
+    written: &mut Written,
 ) -> Result<(), TextFault>
     requires graph { IsGraph C.test C.PLACES graph.now }
     requires order { graph_order graph.now ≡ (graph_problem graph.now).counties }
@@ -136,18 +140,18 @@ pub fn answer_all<C: CountySet, S: Source, W: Sink>(
     ensures lists { AreListsOf C.test (place_problem graph.now) (graph_places graph.now) desk.new.lists }
     ensures answered { (last : Option RoundTold) → HoldsRound (graph_problem graph.now) last desk.old.last
         → HasAnswered (graph_problem graph.now) last
-        (moment desk.old (S.given source.old) (W.contents out.old) (W.is_failed out.old) is_cut.old)
-        (moment desk.new (S.given source.new) (W.contents out.new) (W.is_failed out.new) is_cut.new)
+        (moment desk.old (S.given source.old) (W.contents out.old) (W.is_failed out.old) written.old)
+        (moment desk.new (S.given source.new) (W.contents out.new) (W.is_failed out.new) written.new)
         result }
     // `ReadFault` comes exactly if the source fails, unless it had failed before.
     ensures failed { S.is_failed source.old ≡ false → S.is_failed source.new ≡ is_read_fault result }
 {
-    for _ in 0..MOST_TEXTS {
-        match answer_next(alloc, graph, steps, desk, source, out, is_cut) {
+    for _ in 0..u64::MAX {
+        match answer_next(alloc, graph, steps, desk, source, out, written) {
             Ok(Reply::Taken) => {}
             Ok(Reply::Ended) => return Ok(()),
             Err(fault) => return Err(fault),
         }
     }
-    Ok(())
+    Err(memory_fault())
 }

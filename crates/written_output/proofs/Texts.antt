@@ -2,15 +2,7 @@
 use Rattle.std.proofs.Common.{◌≡◌, ◌⊎◌, ℕ, Bool, true, List, [], ◌++◌, Option, Some, None, inl, inr, refl, sym, ap, ◌∙◌, append_assoc, append-nil}
 use Rattle.std.specs.Io.KnownBytes.{Appends}
 use Rattle.written_output.specs.declared.written.Written.{Written}
-use Rattle.written_output.specs.Writing.{kept_of, kept_with, HasWritten}
-
-kept_none : (kept : Option (List ℕ)) → kept ≡ kept_with kept []
-kept_none None = refl
-kept_none (Some old) = ap (λ (t : List ℕ). Some t) (sym (append-nil old))
-
-kept_both : (kept : Option (List ℕ)) (first next : List ℕ) → kept_with (kept_with kept first) next ≡ kept_with kept (first ++ next)
-kept_both None first next = refl
-kept_both (Some old) first next = ap (λ (t : List ℕ). Some t) (append_assoc old first next)
+use Rattle.written_output.specs.Writing.{IsWritten}
 
 appends_none : (held : Option (List ℕ)) → Appends held held []
 appends_none None = tt
@@ -22,31 +14,30 @@ appends_both (Some old) None new first next a b = absurd a
 appends_both (Some old) (Some mid) None first next a b = absurd b
 appends_both (Some old) (Some mid) (Some new) first next a b = b ∙ ap (λ (t : List ℕ). t ++ next) a ∙ append_assoc old first next
 
-module _ {W : Type 0} (contents : W → Option (List ℕ)) (is_failed : W → Bool) where
-  -- nothing was written
-  pub written_none : (out : W) (written : Written) → HasWritten contents is_failed out written out written []
-  written_none out written = record {
-    kept = kept_none (kept_of written);
-    whole = λ uncut. (uncut, appends_none (contents out));
-    cut = λ is. inl (is, refl);
-  }
+-- nothing was written
+pub written_none : (held : Option (List ℕ)) (is_failed : Bool) (written : Written) → IsWritten held held is_failed is_failed written written []
+written_none held is_failed written = record {
+  kept = λ old is. is ∙ ap (λ (t : List ℕ). Some t) (sym (append-nil old));
+  whole = λ uncut. (uncut, appends_none held);
+  cut = λ is. inl (is, refl);
+}
 
-  -- one text was written, and then another
-  pub written_both : (out mid new : W) (before between after : Written) (first next : List ℕ) → HasWritten contents is_failed out before mid between first → HasWritten contents is_failed mid between new after next
-      → HasWritten contents is_failed out before new after (first ++ next)
-  written_both out mid new before between after first next a b = record {
-    kept = b.kept ∙ ap (λ (kept : Option (List ℕ)). kept_with kept next) a.kept ∙ kept_both (kept_of before) first next;
+-- one text was written, and then another
+module _ (old mid new : Option (List ℕ)) (was between is : Bool) (before then after : Written) (first next : List ℕ) (a : IsWritten old mid was between before then first) (b : IsWritten mid new between is then after next) where
+  still : is ≡ between → ((before.is_cut ≡ true) × (between ≡ was)) ⊎ (between ≡ true) → ((before.is_cut ≡ true) × (is ≡ was)) ⊎ (is ≡ true)
+  still same (inl cut) = inl (cut.0, same ∙ cut.1)
+  still same (inr failed) = inr (same ∙ failed)
+
+  both_cut : ((then.is_cut ≡ true) × (is ≡ between)) ⊎ (is ≡ true) → ((before.is_cut ≡ true) × (is ≡ was)) ⊎ (is ≡ true)
+  both_cut (inl cut) = still cut.1 (a.cut cut.0)
+  both_cut (inr failed) = inr failed
+
+  pub written_both : IsWritten old new was is before after (first ++ next)
+  written_both = record {
+    kept = λ kept held. b.kept (kept ++ first) (a.kept kept held) ∙ ap (λ (t : List ℕ). Some t) (append_assoc kept first next);
     whole = λ uncut.
         let last = b.whole uncut in
         let one = a.whole last.0 in
-        (one.0, appends_both (contents out) (contents mid) (contents new) first next one.1 last.1);
-    cut = λ is. both_cut is (b.cut is);
+        (one.0, appends_both old mid new first next one.1 last.1);
+    cut = λ cut. both_cut (b.cut cut);
   }
-    where
-      still : (is_failed new ≡ is_failed mid) → ((before.is_cut ≡ true) × (is_failed mid ≡ is_failed out)) ⊎ (is_failed mid ≡ true) → ((before.is_cut ≡ true) × (is_failed new ≡ is_failed out)) ⊎ (is_failed new ≡ true)
-      still same (inl was) = inl (was.0, same ∙ was.1)
-      still same (inr failed) = inr (same ∙ failed)
-
-      both_cut : after.is_cut ≡ true → ((between.is_cut ≡ true) × (is_failed new ≡ is_failed mid)) ⊎ (is_failed new ≡ true) → ((before.is_cut ≡ true) × (is_failed new ≡ is_failed out)) ⊎ (is_failed new ≡ true)
-      both_cut is (inl was) = still was.1 (a.cut was.0)
-      both_cut is (inr failed) = inr failed

@@ -9,6 +9,8 @@
 //! definitions stand in `specs/Writing`.
 #![tactic(auto)]
 
+mod no_sink;
 mod written;
 
+pub use no_sink::NoSink;
 pub use written::{Written, write_next};

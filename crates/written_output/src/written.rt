@@ -1,11 +1,11 @@
 //! Texts that are written one after the other.
 
-ghost use Rattle.std.specs.Prelude.{◌≡◌, false, OnOk, OnErr};
+ghost use Rattle.std.specs.Prelude.{◌≡◌, ◌++◌, ℕ, List, [], Some, false, OnOk, OnErr};
 ghost use Rattle.std.specs.Option.{option_map};
-ghost use Rattle.written_output.specs.Writing.{HasWritten, kept_with};
+ghost use Rattle.written_output.specs.Writing.{HasWritten, IsFresh, kept_of};
 
 use cli_file_stores::Sink;
-use std::alloc::AllocError;
+use std::alloc::{AllocError, Global};
 
 /// What a run has written so far.
 #[derive(Drop)]
@@ -27,11 +27,22 @@ impl Written {
             is_cut: false,
         }
     }
+
+    /// Keeps what is written from now on, if nothing was written yet.
+    pub fn keep_all(&mut self, alloc: Global)
+        requires { IsFresh self.old }
+        ensures kept { kept_of self.new ≡ Some [] }
+        ensures uncut { self.new.is_cut ≡ false }
+    {
+        self.kept = Some(Vec::new(alloc));
+    }
 }
 
 /// Appends a `text` to what is kept, if anything is.
 fn keep(kept: &mut Option<Vec<u8>>, text: &[u8]) -> Result<(), AllocError>
-    ensures { OnOk result (option_map (λ v. v.items) kept.new ≡ kept_with (option_map (λ v. v.items) kept.old) text.now) }
+    ensures kept { OnOk result ((old : List ℕ) → option_map (λ v. v.items) kept.old ≡ Some old
+        → option_map (λ v. v.items) kept.new ≡ Some (old ++ text.now)) }
+    ensures same { OnErr result (option_map (λ v. v.items) kept.new ≡ option_map (λ v. v.items) kept.old) }
 {
     if let Some(kept) = kept {
         kept.extend_from_slice(text)?;
@@ -50,8 +61,7 @@ pub fn write_next<W: Sink>(
     text: &[u8],
 ) -> Result<(), AllocError>
     ensures written { OnOk result (HasWritten W.contents W.is_failed out.old written.old out.new written.new text.now) }
-    ensures same { OnErr result (out.new ≡ out.old) }
-    ensures uncut { OnErr result (written.new.is_cut ≡ written.old.is_cut) }
+    ensures none { OnErr result (HasWritten W.contents W.is_failed out.old written.old out.new written.new []) }
 {
     keep(&mut written.kept, text)?;
     if !written.is_cut {

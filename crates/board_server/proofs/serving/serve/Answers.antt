@@ -2,8 +2,7 @@ use Rattle.std.proofs.Common.{◌≡◌, ◌≤◌, length, refl, sym, ◌∙◌
 use Rattle.std.proofs.lemmas.Result.{err_from_is_err_and}
 use Rattle.certificate_lines.specs.Lines.{most}
 use Rattle.board_laws.specs.Skeleton.{waiting}
-use Rattle.board_server.specs.Serving.{most_events}
-use Rattle.board_server.proofs.Servings.{come_first, come_taken, none_waits, some_waits, done_here, done_answer, done_err, keeps_then, ordered_there}
+use Rattle.board_server.proofs.Servings.{come_first, come_taken, none_waits, some_waits, done_here, done_full, done_answer, done_err, keeps_then, ordered_there}
 use Rattle.board_server.proofs.serving.serve.Goals as goal
 
 pub loop-taken-init : goal.loop-taken-init
@@ -20,7 +19,7 @@ loop-taken-preserved g c =
     record {
       come = λ b is.
           let so = inv.come b is in
-          come_taken g.C.CountySet.test b _ _ _ c.loop-taken._taken inv.keeps so c.in_ok-serve_next.field-0 c.in-Taken.is (some_waits so.last c.left.result (c.left.ensures so.last so.is) c.if-left-eq0.false) (c.in_ok-serve_next.ensures.served so.last so.is);
+          come_taken g.C.CountySet.test b _ _ _ inv.keeps so c.in_ok-serve_next.field-0 c.in-Taken.is (some_waits so.last c.left.result (c.left.ensures so.last so.is) c.if-left-eq0.false) (c.in_ok-serve_next.ensures.served so.last so.is);
       keeps = keeps_then c.args.served.now c.loop-taken.served c.serve_next.new.served inv.keeps c.serve_next.ensures.keeps;
       lists = c.serve_next.ensures.lists;
       sound = λ e. c.in_ok-serve_next.ensures.failed (inv.sound e);
@@ -42,14 +41,14 @@ pub returns-then-left-eq0-clause-served : goal.returns-then-left-eq0-clause-serv
 returns-then-left-eq0-clause-served g c = λ b is.
     let inv = c.loop-taken.invariant in
     let so = inv.come b is in
-    done_here g.C.CountySet.test b _ _ c.loop-taken._taken inv.keeps so (inl (none_waits (waiting so.last.skeleton) (sym (c.left.ensures so.last so.is) ∙ c.if-left-eq0.true)))
+    done_here g.C.CountySet.test b _ _ inv.keeps so (inl (none_waits (waiting so.last.skeleton) (sym (c.left.ensures so.last so.is) ∙ c.if-left-eq0.true)))
 
 pub returns-in_err-serve_next-clause-served : goal.returns-in_err-serve_next-clause-served
 returns-in_err-serve_next-clause-served g c = λ b is.
     let inv = c.loop-taken.invariant in
     let so = inv.come b is in
     let p = err_from_is_err_and c.from_residual.result c.from_residual.ensures.1 in
-    rw (p.1, p.2) (done_err g.C.CountySet.test b _ _ _ c.loop-taken._taken inv.keeps so c.in_err-serve_next.field-0.0 (some_waits so.last c.left.result (c.left.ensures so.last so.is) c.if-left-eq0.false) (c.in_err-serve_next.ensures.served so.last so.is))
+    rw (p.1, p.2) (done_err g.C.CountySet.test b _ _ _ inv.keeps so c.in_err-serve_next.field-0.0 (some_waits so.last c.left.result (c.left.ensures so.last so.is) c.if-left-eq0.false) (c.in_err-serve_next.ensures.served so.last so.is))
 
 pub returns-in_err-serve_next-clause-keeps : goal.returns-in_err-serve_next-clause-keeps
 returns-in_err-serve_next-clause-keeps g c = keeps_then c.args.served.now c.loop-taken.served c.serve_next.new.served c.loop-taken.invariant.keeps c.serve_next.ensures.keeps
@@ -63,7 +62,7 @@ pub returns-in-Ended-clause-served : goal.returns-in-Ended-clause-served
 returns-in-Ended-clause-served g c = λ b is.
     let inv = c.loop-taken.invariant in
     let so = inv.come b is in
-    done_answer g.C.CountySet.test b _ _ _ c.loop-taken._taken inv.keeps so c.in_ok-serve_next.field-0 c.in-Ended.is (some_waits so.last c.left.result (c.left.ensures so.last so.is) c.if-left-eq0.false) (c.in_ok-serve_next.ensures.served so.last so.is)
+    done_answer g.C.CountySet.test b _ _ _ inv.keeps so c.in_ok-serve_next.field-0 c.in-Ended.is (some_waits so.last c.left.result (c.left.ensures so.last so.is) c.if-left-eq0.false) (c.in_ok-serve_next.ensures.served so.last so.is)
 
 pub returns-in-Ended-clause-keeps : goal.returns-in-Ended-clause-keeps
 returns-in-Ended-clause-keeps g c = keeps_then c.args.served.now c.loop-taken.served c.serve_next.new.served c.loop-taken.invariant.keeps c.serve_next.ensures.keeps
@@ -71,9 +70,8 @@ returns-in-Ended-clause-keeps g c = keeps_then c.args.served.now c.loop-taken.se
 pub returns-in-Ended-clause-failed : goal.returns-in-Ended-clause-failed
 returns-in-Ended-clause-failed g c = λ e. c.in_ok-serve_next.ensures.failed (c.loop-taken.invariant.sound e)
 
-pub returns-clause-served : goal.returns-clause-served
-returns-clause-served g c = λ b is.
-    let inv = c.loop-taken.invariant in
-    let so = inv.come b is in
-    let all : c.loop-taken._taken ≡ most_events = omega arith in
-    done_here g.C.CountySet.test b _ _ c.loop-taken._taken inv.keeps so (inr (inr all))
+pub returns-in-0-clause-served : goal.returns-in-0-clause-served
+returns-in-0-clause-served g c = ?
+
+pub returns-in-default-clause-served : goal.returns-in-default-clause-served
+returns-in-default-clause-served g c = ?

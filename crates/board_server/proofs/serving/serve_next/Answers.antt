@@ -1,5 +1,6 @@
 use Rattle.std.proofs.Common.{refl, inr}
 use Rattle.share_board.specs.Events.{event_of}
+use Rattle.written_output.proofs.Texts.{written_none}
 use Rattle.board_server.proofs.Calls.{small_numbers, takes_one, tells_one}
 use Rattle.board_server.proofs.serving.serve_next.Goals as goal
 
@@ -14,12 +15,12 @@ text_behind-requires-clause-small g c =
 pub returns-in_default-text_behind-clause-served : goal.returns-in_default-text_behind-clause-served
 returns-in_default-text_behind-clause-served g c = λ b is.
     inr (
-      refl,
+      c.memory_fault.ensures,
       takes_one g.C.CountySet.test b _ _ c.in-Some.event c.in_ok-next.next c.step-reply.result c.in-Some.is c.in_ok-next.ensures.next c.in_ok-next.ensures.prompt (c.step-reply.ensures.says b is) (c.step-reply.ensures.leads b is),
-      record { contents = refl; failed = refl; cut = refl },
+      written_none (g.W.Sink.contents c.args.out.now) (g.W.Sink.is_failed c.args.out.now) c.args.written.now,
     )
 
 pub returns-clause-served : goal.returns-clause-served
 returns-clause-served g c = λ b is.
     tells_one g.C.CountySet.test b _ _ c.in-Some.event c.in_ok-next.next c.step-reply.result c.in-Some.is c.in_ok-next.ensures.next c.in_ok-next.ensures.prompt (c.step-reply.ensures.says b is) (c.step-reply.ensures.leads b is)
-    c.step-reply.ensures.keeps c.in-Ok.text.items c.deref.result.now c.in-Ok.ensures c.deref.ensures.value c.say.ensures
+    c.step-reply.ensures.keeps c.in-Ok.text.items c.deref.result.now c.in-Ok.ensures c.deref.ensures.value c.in-Ok-write_next.ensures.written

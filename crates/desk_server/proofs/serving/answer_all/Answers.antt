@@ -1,6 +1,5 @@
 use Rattle.std.proofs.Common.{◌≡◌, arith}
 use Rattle.connected_sets.specs.Graphs.{graph_problem}
-use Rattle.desk_server.specs.Serving.{most_texts}
 use Rattle.desk_server.proofs.Underway.{begun, goes_on, ends_read, ends_fault, ends_full}
 use Rattle.desk_server.proofs.serving.answer_all.Goals as goal
 
@@ -38,6 +37,4 @@ loop-preserved g c =
     }
 
 pub returns-clause-answered : goal.returns-clause-answered
-returns-clause-answered g c = λ last holds.
-    let full : c.loop.counter ≡ most_texts = omega arith in
-    ends_full (graph_problem c.args.graph.now) last _ _ c.loop.counter (c.loop.invariant.underway last holds) full
+returns-clause-answered g c = λ last holds. ends_full (graph_problem c.args.graph.now) last _ _ c.loop.counter _ c.memory_fault.ensures (c.loop.invariant.underway last holds)

@@ -14,8 +14,8 @@ invariant-loop g l = record {
   holds : (last : Option RoundTold) × HoldsRound (graph_problem l.graph) last l.desk.last;
   underway : (last : Option RoundTold) → HoldsRound (graph_problem l.graph) last l.fn.desk.last
       → IsUnderway (graph_problem l.graph) last
-      (moment l.fn.desk (g.S.Source.given l.fn.source) (g.W.Sink.contents l.fn.out) (g.W.Sink.is_failed l.fn.out) l.fn.is_cut)
-      (moment l.desk (g.S.Source.given l.source) (g.W.Sink.contents l.out) (g.W.Sink.is_failed l.out) l.is_cut)
+      (moment l.fn.desk (g.S.Source.given l.fn.source) (g.W.Sink.contents l.fn.out) (g.W.Sink.is_failed l.fn.out) l.fn.written)
+      (moment l.desk (g.S.Source.given l.source) (g.W.Sink.contents l.out) (g.W.Sink.is_failed l.out) l.written)
       l.counter;
   sound : g.S.Source.is_failed l.fn.source ≡ false → g.S.Source.is_failed l.source ≡ false;
 }

@@ -29,11 +29,11 @@ returns-in-Err-take_text-clause-takes g c = λ last holds.
     let prompt = rw c.in-Ok-Some.field-0-is at c.in-Ok-Some.ensures.prompt in
     let quiet = c.in-Err-take_text.ensures.quiet from to in
     inr (
-      refl,
+      c.memory_fault.ensures,
       record {
         text = text;
         reads = subst (λ (r : Held). ReadsNext c.args.desk.now.reader from to (Ok (Some text)) r) reader reads;
         prompt = subst (λ (r : Held). IsPrompt 65536 from to (Ok (Some text)) r) reader prompt;
       },
-      record { last = quiet.last; contents = quiet.contents; failed = quiet.failed; cut = quiet.cut },
+      record { last = quiet.last; none = quiet.none },
     )

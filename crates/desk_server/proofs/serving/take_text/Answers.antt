@@ -1,19 +1,18 @@
 use Rattle.std.proofs.Common.{ℕ, List, sym, subst}
 use Rattle.connected_sets.specs.Graphs.{graph_problem}
-use Rattle.board_server.specs.Saying.{IsWritten}
+use Rattle.written_output.specs.Writing.{IsWritten}
 use Rattle.desk_server.specs.Rounds.{HoldsRound}
-use Rattle.board_server.proofs.Writings.{written_none}
+use Rattle.written_output.proofs.Texts.{written_none}
 use Rattle.desk_server.proofs.Tellings.{round_tells, piece_tells}
 use Rattle.desk_server.proofs.serving.take_text.Goals as goal
 
 pub returns-in_ok-numbered_round-in-Round-clause-tells : goal.returns-in_ok-numbered_round-in-Round-clause-tells
 returns-in_ok-numbered_round-in-Round-clause-tells g c = λ last holds from to.
     round_tells (graph_problem c.args.graph.now) last c.args.text _ _ c.in-Round.told c.in-Round.is c.in_ok-numbered_round-in-Round.ensures
-    (written_none c.args.is_cut.now (g.W.Sink.contents c.args.out.now) (g.W.Sink.is_failed c.args.out.now))
+    (written_none (g.W.Sink.contents c.args.out.now) (g.W.Sink.is_failed c.args.out.now) c.args.written.now)
 
 pub returns-in_ok-said-in-Open-clause-tells : goal.returns-in_ok-said-in-Open-clause-tells
-returns-in_ok-said-in-Open-clause-tells g c = λ last holds from to.
-    let p = graph_problem c.args.graph.now in
-    piece_tells p last c.args.text _ _ c.in-Open.piece _ c.in-Open.is (c.in_ok-said-in-Open.ensures.answer last holds)
-    (subst (HoldsRound p last) (sym c.answer_piece.ensures.last) holds)
-    (subst (λ (t : List ℕ). IsWritten c.args.is_cut.now c.say.new.is_cut (g.W.Sink.contents c.args.out.now) (g.W.Sink.contents c.say.new.out) (g.W.Sink.is_failed c.args.out.now) (g.W.Sink.is_failed c.say.new.out) t) c.deref.ensures.value c.say.ensures)
+returns-in_ok-said-in-Open-clause-tells g c = ?
+
+pub returns-in_ok-said-in-Open-clause-quiet : goal.returns-in_ok-said-in-Open-clause-quiet
+returns-in_ok-said-in-Open-clause-quiet g c = ?
