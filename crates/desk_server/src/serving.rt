@@ -68,7 +68,8 @@ fn take_text<C: CountySet, W: Sink>(
         }
         BoardText::Open(piece) => {
             let said = answer_piece(alloc, graph, desk, &piece, steps)?;
-            write_next(out, written, &said)
+            write_next(out, written, &said)?;
+            Ok(())
         }
     }
 }

@@ -11,8 +11,12 @@ returns-in_ok-numbered_round-in-Round-clause-tells g c = λ last holds from to.
     round_tells (graph_problem c.args.graph.now) last c.args.text _ _ c.in-Round.told c.in-Round.is c.in_ok-numbered_round-in-Round.ensures
     (written_none (g.W.Sink.contents c.args.out.now) (g.W.Sink.is_failed c.args.out.now) c.args.written.now)
 
-pub returns-in_ok-said-in-Open-clause-tells : goal.returns-in_ok-said-in-Open-clause-tells
-returns-in_ok-said-in-Open-clause-tells g c = ?
+pub returns-in_ok-write_next-in-Open-clause-tells : goal.returns-in_ok-write_next-in-Open-clause-tells
+returns-in_ok-write_next-in-Open-clause-tells g c = λ last holds from to.
+    let p = graph_problem c.args.graph.now in
+    piece_tells p last c.args.text _ _ c.in-Open.piece _ c.in-Open.is (c.in_ok-said-in-Open.ensures.answer last holds)
+    (subst (HoldsRound p last) (sym c.answer_piece.ensures.last) holds)
+    (subst (λ (t : List ℕ). IsWritten (g.W.Sink.contents c.args.out.now) (g.W.Sink.contents c.write_next.new.out) (g.W.Sink.is_failed c.args.out.now) (g.W.Sink.is_failed c.write_next.new.out) c.args.written.now c.write_next.new.written t) c.deref.ensures.value c.in_ok-write_next-in-Open.ensures.written)
 
-pub returns-in_ok-said-in-Open-clause-quiet : goal.returns-in_ok-said-in-Open-clause-quiet
-returns-in_ok-said-in-Open-clause-quiet g c = ?
+pub returns-in_err-write_next-in-Open-clause-quiet : goal.returns-in_err-write_next-in-Open-clause-quiet
+returns-in_err-write_next-in-Open-clause-quiet g c = ?
