@@ -1,3 +1,4 @@
 pub mod RoundsHeld
 pub mod Tellings
 pub mod Underway
+pub mod WholeRuns

@@ -7,7 +7,7 @@ use Rattle.certificate_lines.specs.Rest.{IsTextMemory}
 use Rattle.certificate_lines.specs.declared.fault.TextFault.{TextFault}
 use Rattle.board_texts.specs.RoundText.{RoundTold}
 use Rattle.board_texts.specs.BoardText.{BoardTextTold, text_of, HasBoardText}
-use Rattle.board_texts.specs.Coming.{Held, nothing_held, PullsOnto, TellsFault}
+use Rattle.board_texts.specs.Coming.{Held, PullsOnto, TellsFault}
 use Rattle.desk_server.specs.Answers.{AnswersTexts}
 
 -- how it ends: all was read; or a fault of what is left; or memory was refused

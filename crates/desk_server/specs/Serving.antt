@@ -1,5 +1,5 @@
 -- Texts that are read from a source, and what is written of them in turn.
-use Rattle.std.specs.Prelude.{ℕ, ◌≡◌, ◌+◌, ◌<◌, ◌^◌, ◌⊎◌, true, List, [], ◌++◌, length, Option, Result, Ok, Err}
+use Rattle.std.specs.Prelude.{ℕ, ◌≡◌, ◌+◌, ◌<◌, ◌^◌, ◌⊎◌, true, List, [], ◌++◌, Option, Result, Ok, Err}
 use Rattle.std.specs.List.{AllByRecursion, flat_map}
 use Rattle.grouping_laws.specs.Problem.{Problem}
 use Rattle.field_lines.specs.Source.{Given}

@@ -1,6 +1,6 @@
 //! A desk from its first text to its last.
 
-ghost use Rattle.std.specs.Prelude.{◌≤◌, ℕ, List, length};
+ghost use Rattle.std.specs.Prelude.{◌≡◌, ◌≤◌, ℕ, List, length, IfOk};
 ghost use Rattle.county_problem.specs.ProblemValue.{problem_of};
 ghost use Rattle.board_texts.specs.Coming.{Held};
 ghost use Rattle.written_output.specs.Writing.{HasWritten};
@@ -15,8 +15,20 @@ use county_codes::listed_codes;
 use county_problem::{OrderFault, Ordered, Problem};
 use field_lines::Source;
 use place_sets::{CountySet, MaskSet, Places, fits_mask};
-use std::alloc::Global;
+use std::alloc::{AllocError, Global};
 use written_output::Written;
+
+/// Returns the counties of a `problem` in the order of ascending codes.
+fn ordered_by_code<'a>(alloc: Global, problem: &'a Problem) -> Result<Ordered<'a>, AllocError>
+    ensures { IfOk result (λ o. o ≡ record { problem = problem.now; order = (problem_of problem.now).counties }) }
+{
+    let order = listed_codes(alloc, problem.counties())?;
+    match Ordered::build(alloc, problem, &order) {
+        Ok(ordered) => Ok(ordered),
+        Err(OrderFault::Memory) => Err(AllocError),
+        Err(OrderFault::WrongOrder) => unreachable!(),
+    }
+}
 
 /// Returns what `prove_pieces` returns, with any form of sets of places that has room for the counties.
 fn prove_over<C: CountySet, S: Source, W: Sink>(
@@ -28,17 +40,12 @@ fn prove_over<C: CountySet, S: Source, W: Sink>(
     written: &mut Written,
 ) -> Result<(), TextFault>
     requires { length problem.now.counties ≤ C.PLACES }
-    ensures run { (written_text : List ℕ) × (left : Held)
-        × HasWritten W.contents W.is_failed out.old written.old out.new written.new written_text
-        × IsDeskRun (problem_of problem.now) (S.given source.old) (S.given source.new) written_text left result }
+    ensures { (text : List ℕ) × (left : Held)
+        × HasWritten W.contents W.is_failed out.old written.old out.new written.new text
+        × IsDeskRun (problem_of problem.now) (S.given source.old) (S.given source.new) text left result }
 {
-    let Ok(order) = listed_codes(alloc, problem.counties()) else {
+    let Ok(ordered) = ordered_by_code(alloc, problem) else {
         return Err(memory_fault());
-    };
-    let ordered = match Ordered::build(alloc, problem, &order) {
-        Ok(ordered) => ordered,
-        Err(OrderFault::Memory) => return Err(memory_fault()),
-        Err(OrderFault::WrongOrder) => unreachable!(),
     };
     let Ok(graph) = CountyGraph::build(alloc, &ordered) else {
         return Err(memory_fault());
@@ -47,7 +54,13 @@ fn prove_over<C: CountySet, S: Source, W: Sink>(
     answer_all(alloc, &graph, steps, &mut desk, source, out, written)
 }
 
-/// Proves the pieces that the `source` tells, one after the other, and writes what is said of each to `out` at once.
+/// Proves the pieces that the `source` tells, one after the other, each within `steps` steps. What is said of each is
+/// written to `out` at once, unless an earlier write failed.
+///
+/// # Errors
+///
+/// - Returns the fault of a text that isn't one of a board, or `ReadFault` if the source failed.
+/// - Returns `Memory` if memory was refused.
 pub fn prove_pieces<S: Source, W: Sink>(
     alloc: Global,
     problem: &Problem,
@@ -56,9 +69,9 @@ pub fn prove_pieces<S: Source, W: Sink>(
     out: &mut W,
     written: &mut Written,
 ) -> Result<(), TextFault>
-    ensures run { (written_text : List ℕ) × (left : Held)
-        × HasWritten W.contents W.is_failed out.old written.old out.new written.new written_text
-        × IsDeskRun (problem_of problem.now) (S.given source.old) (S.given source.new) written_text left result }
+    ensures { (text : List ℕ) × (left : Held)
+        × HasWritten W.contents W.is_failed out.old written.old out.new written.new text
+        × IsDeskRun (problem_of problem.now) (S.given source.old) (S.given source.new) text left result }
 {
     if fits_mask(problem.counties().len()) {
         return prove_over::<MaskSet, S, W>(alloc, problem, steps, source, out, written);

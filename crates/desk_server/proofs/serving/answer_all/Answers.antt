@@ -1,4 +1,3 @@
-use Rattle.std.proofs.Common.{◌≡◌, arith}
 use Rattle.connected_sets.specs.Graphs.{graph_problem}
 use Rattle.desk_server.proofs.Underway.{begun, goes_on, ends_read, ends_fault, ends_full}
 use Rattle.desk_server.proofs.serving.answer_all.Goals as goal

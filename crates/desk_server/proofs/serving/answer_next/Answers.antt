@@ -1,5 +1,6 @@
-use Rattle.std.proofs.Common.{Ok, Some, inr, refl, sym, subst}
+use Rattle.std.proofs.Common.{Ok, Some, inl, inr, refl, sym, subst}
 use Rattle.board_texts.specs.Coming.{Held, ReadsNext, IsPrompt}
+use Rattle.written_output.proofs.Texts.{written_none}
 use Rattle.desk_server.proofs.serving.answer_next.Goals as goal
 
 pub returns-in-Ok-clause-takes : goal.returns-in-Ok-clause-takes
@@ -37,3 +38,6 @@ returns-in-Err-take_text-clause-takes g c = λ last holds.
       },
       record { last = quiet.last; none = quiet.none },
     )
+
+pub returns-in-Err-clause-takes : goal.returns-in-Err-clause-takes
+returns-in-Err-clause-takes g c = λ last holds. inl (c.in-Err.ensures.next, record { last = refl; none = written_none (g.W.Sink.contents c.args.out.now) (g.W.Sink.is_failed c.args.out.now) c.args.written.now })

@@ -1,4 +1,5 @@
 use Rattle.std.proofs.Common.{ℕ, List, sym, subst}
+use Rattle.std.proofs.lemmas.Result.{err_from_is_err_and}
 use Rattle.connected_sets.specs.Graphs.{graph_problem}
 use Rattle.written_output.specs.Writing.{IsWritten}
 use Rattle.desk_server.specs.Rounds.{HoldsRound}
@@ -19,4 +20,6 @@ returns-in_ok-write_next-in-Open-clause-tells g c = λ last holds from to.
     (subst (λ (t : List ℕ). IsWritten (g.W.Sink.contents c.args.out.now) (g.W.Sink.contents c.write_next.new.out) (g.W.Sink.is_failed c.args.out.now) (g.W.Sink.is_failed c.write_next.new.out) c.args.written.now c.write_next.new.written t) c.deref.ensures.value c.in_ok-write_next-in-Open.ensures.written)
 
 pub returns-in_err-write_next-in-Open-clause-quiet : goal.returns-in_err-write_next-in-Open-clause-quiet
-returns-in_err-write_next-in-Open-clause-quiet g c = ?
+returns-in_err-write_next-in-Open-clause-quiet g c = λ from to.
+    let p = err_from_is_err_and c.from_residual-in_err-write_next-in-Open.result c.from_residual-in_err-write_next-in-Open.ensures.1 in
+    rw (p.1) (record { last = c.answer_piece.ensures.last; none = c.in_err-write_next-in-Open.ensures.none })
