@@ -1,0 +1,187 @@
+-- What calls came to that write as they go on, over one step and the next.
+use Rattle.std.proofs.Common.{◌≡◌, ◌≢◌, ◌⊎◌, ◌++◌, ℕ, length, List, [], ◌∷◌, Option, Some, None, inl, inr, refl, sym, ap, subst, ◌∙◌}
+use Rattle.std.specs.Prelude.{Result, Ok, Err, option_map, true}
+use Rattle.std.specs.Borrow.{Bor}
+use Rattle.field_lines.specs.Source.{Given, nothing_given}
+use Rattle.grouping_laws.specs.Grouping.{Grouping}
+use Rattle.county_problem.specs.ProblemValue.{ProblemValue, problem_of}
+use Rattle.certificate_data.specs.Round as rounds
+use Rattle.certificate_lines.specs.Rest.{IsTextMemory}
+use Rattle.certificate_lines.specs.declared.fault.TextFault.{TextFault}
+use Rattle.certificate_lines.specs.declared.fault.TextKind.TheVariants as text_kind
+use Rattle.board_laws.specs.Content.{Content}
+use Rattle.board_events.specs.Coming.{Held, nothing_held, PullsOnto, TellsFault}
+use Rattle.board_report.specs.Rounds.{IsFirstRound}
+use Rattle.board_report.specs.BoardOutcome.{IsEnded}
+use Rattle.board_report.specs.declared.board_outcome.Shared.{Shared}
+use Rattle.board_server.specs.Serving.{ServesFrom}
+use Rattle.board_server.specs.Runs.{RunsFrom, RunEnds, HasNoBoard as NoBoard, IsBoardRun}
+use Rattle.board_server.specs.declared.runs.ServeStop.{ServeStop}
+use Rattle.board_server.specs.declared.runs.ServeStop.TheVariants.{Board, Events}
+use Rattle.share_board.specs.declared.fault.BoardFault.{BoardFault}
+use Rattle.share_board.specs.declared.fault.BoardFault.TheVariants as board_fault
+use Rattle.share_board.specs.Rounds.{IsBoardFault}
+use Rattle.cli_words.specs.Words.{standard_input}
+use Rattle.cli_words.specs.declared.words.ServeWords.{ServeWords}
+use Rattle.cli_file_stores.specs.declared.file_store.ReadEnd.{ReadEnd}
+use Rattle.cli_file_stores.specs.declared.file_store.FileStoreFault.{FileStoreFault}
+use Rattle.cli_file_stores.specs.Files.{NamedFile, Files}
+use Rattle.cli_file_stores.specs.FileStore.{IsRead, read_end}
+use Rattle.cli_file_stores.specs.History.{History, HasRead}
+use Rattle.cli_answers.specs.declared.answer.RunAnswer.{RunAnswer}
+use Rattle.cli_answers.specs.declared.answer.Refusal.{Refusal}
+use Rattle.cli_answers.specs.declared.answer.Refusal.TheVariants.{Shown, Memory}
+use Rattle.cli_answers.specs.Answer.{Answered}
+use Rattle.cli_answers.specs.Answers.{answer_of, AnswerMeets, RefusalShows, IsShown, said_by}
+use Rattle.cli_answers.specs.Refusals.{file_store_answer, board_answer, events_answer}
+use Rattle.cli_runs.specs.Course.{Course, ◌>>=◌}
+use Rattle.cli_runs.specs.Reading.{GivenBack, open_step, read_step, read_one}
+use Rattle.cli_runs.specs.BoardCourse.{format_of, depth_of, limit_of_words}
+use Rattle.cli_runs.specs.ShareCourse.{share_answer}
+use Rattle.cli_runs.specs.ServeCourse.{ServedRun, HasServed, HasNoBoard, HasStood, HasRefused, HasFailed, RanOutOfMemory, IsServedRun, input_course}
+use Rattle.cli_runs.specs.DeskCourse.{DeskRun}
+use Rattle.cli.specs.GoingOn.{StopsSilently, ServesBy, IsStopRefusal, DeskDone, ProvesBy}
+
+pub meets : (refusal : Refusal) (P Q : Answered → Type 0) → ((a : Answered) → P a → Q a) → AnswerMeets refusal P → AnswerMeets refusal Q
+meets (Shown a) P Q f h = f (answer_of a) h
+meets Memory P Q f h = tt
+
+module _ {X Y : Type 0} (first : Course X) (next : X → Course Y) (x : X) (before between after : History) (given : first before between (Ok x)) where
+  pub went_with : (end : Result Y Answered) → next x between after end → (first >>= next) before after end
+  went_with end h = inr (record { value = x; between = between; given = given; goes_on = h })
+
+  silent_on : (text : List ℕ) (refusal : Refusal) → StopsSilently (next x) between after text refusal → StopsSilently (first >>= next) before after text refusal
+  silent_on text refusal h = (h.0, meets refusal (λ a. next x between after (Err a)) (λ a. (first >>= next) before after (Err a)) (λ a stop. went_with (Err a) stop) h.1)
+
+-- steps that stop, whatever follows
+pub silent_stop : {X Y : Type 0} (first : Course X) (next : X → Course Y) (before after : History) (refusal : Refusal) → AnswerMeets refusal (λ a. first before after (Err a)) → StopsSilently (first >>= next) before after [] refusal
+silent_stop first next before after refusal h = (refl, meets refusal (λ a. first before after (Err a)) (λ a. (first >>= next) before after (Err a)) (λ a stop. inl stop) h)
+
+-- what `board` comes to behind steps that gave a value
+pub serves_on : {X : Type 0} (first : Course X) (next : X → Course ServedRun) (x : X) (before between after : History) → first before between (Ok x) → (text : List ℕ) (result : Result Shared Refusal)
+    → ServesBy (next x) between after text result → ServesBy (first >>= next) before after text result
+serves_on first next x before between after given text (Ok shared) h = (h.0, went_with first next x before between after given (Ok h.0) h.1, h.2, h.3, h.4)
+serves_on first next x before between after given text (Err refusal) (inl h) = inl (silent_on first next x before between after given text refusal h)
+serves_on first next x before between after given text (Err refusal) (inr h) = inr (h.0, went_with first next x before between after given (Ok h.0) h.1, h.2, h.3, h.4)
+
+-- the same of `desk`
+pub proves_on : {X : Type 0} (first : Course X) (next : X → Course DeskRun) (x : X) (before between after : History) → first before between (Ok x) → (text : List ℕ) (result : Result RunAnswer Refusal)
+    → ProvesBy (next x) between after text result → ProvesBy (first >>= next) before after text result
+proves_on first next x before between after given text (Ok answer) h = (h.0, went_with first next x before between after given (Ok h.0) h.1, h.2, h.3)
+proves_on first next x before between after given text (Err refusal) (inl h) = inl (silent_on first next x before between after given text refusal h)
+proves_on first next x before between after given text (Err refusal) (inr h) = inr (h.0, went_with first next x before between after given (Ok h.0) h.1, h.2, h.3)
+
+-- a reader of standard input was opened and given back
+pub read_back : (files : Option Files) (before opened after : History) (bytes : List ℕ) (answer : Result ReadEnd FileStoreFault) → open_step files standard_input before opened (Ok tt)
+    → IsRead files standard_input bytes answer → HasRead opened after standard_input bytes answer → read_one files standard_input before after (Ok (record { bytes = bytes; answer = answer }))
+read_back files before opened after bytes answer opens is has =
+    went_with (open_step files standard_input) (λ done. read_step files standard_input) tt before opened after opens (Ok (record { bytes = bytes; answer = answer })) (is, has)
+
+no_ok : {T E : Type 0} (t : T) (e : E) → ◌≡◌ {A = Result T E} (Ok t) (Err e) → ⊥
+no_ok t e h = cc
+
+same_err : {T E : Type 0} (e f : E) → ◌≡◌ {A = Result T E} (Err e) (Err f) → e ≡ f
+same_err e f h = cc
+
+module _ (v : ProblemValue) (words : ServeWords) (g : Grouping) (round : rounds.Round) (first_round : IsFirstRound (problem_of v) g (limit_of_words g words.board.round) (format_of words.board.round) round)
+    (from to : Given) (fresh : from ≡ nothing_given) (text : List ℕ) where
+  abbrev Run : Result Shared ServeStop → Type 0
+  Run result = IsBoardRun (problem_of v) (depth_of words.board.round) words.budget (format_of words.board.round) (length v.counties) g round from to text result
+
+  abbrev Runs : Content → Held → Type 0
+  Runs last left = RunsFrom (problem_of v) (depth_of words.board.round) words.budget (format_of words.board.round) (length v.counties) round from to text last left
+
+  abbrev None_ : Result Shared ServeStop → Type 0
+  None_ result = NoBoard (problem_of v) (depth_of words.board.round) words.budget g round from to text result
+
+  served_of : (last : Content) (left : Held) → Runs last left → HasServed v words g to.bytes text last left
+  served_of last left h =
+      let s = subst (λ (given : Given). ServesFrom (format_of words.board.round) (length v.counties) (problem_of v) (depth_of words.board.round) words.budget h.first nothing_held given to h.later last left) fresh h.serves in
+      record {
+        round = round;
+        first_round = first_round;
+        first = h.first;
+        opening = h.opening;
+        start = h.start;
+        start_is = h.start_is;
+        later = h.later;
+        serves = record {
+          events = s.events;
+          replies = s.replies;
+          takes = s.takes;
+          bytes = s.bytes;
+          pulls = record { pulled = s.pulls.pulled; given = s.pulls.given; text_is = s.pulls.text_is };
+          read = s.read;
+          spelled = s.spelled;
+          lines = s.lines;
+        };
+        text_is = h.text_is;
+      }
+
+  abbrev given_back : Result ReadEnd FileStoreFault → GivenBack
+  given_back answer = record { bytes = to.bytes; answer = answer }
+
+  abbrev stood : Shared → ServedRun
+  stood shared = record { text = text; certificate = option_map (λ t. t.items) shared.certificate; end = share_answer shared }
+
+  abbrev refused : Refusal → ServedRun
+  refused refusal = record { text = text; certificate = None; end = said_by (Err refusal) }
+
+  -- the board stands so, and its reader was given back
+  pub run_stood : (shared : Shared) → Run (Ok shared) → (answer : Result ReadEnd FileStoreFault) → answer ≡ Ok (read_end to.ended) → IsServedRun v words g (given_back answer) (stood shared)
+  run_stood shared (inl none) answer back = absurd (no_ok shared (Board none.f) none.result_is)
+  run_stood shared (inr run) answer back =
+      inr (inr (
+        run.0,
+        run.1,
+        served_of run.0 run.1 run.2,
+        inl (record { shared = shared; stands = run.3.0; ended = to.ended; back_is = back; why = run.3.1; certificate = refl; answer = refl }),
+      ))
+
+  -- memory was refused, or the reader failed, wherever the board was
+  anywhere : (result : Result Shared ServeStop) → Run result → (answer : Result ReadEnd FileStoreFault) (refusal : Refusal)
+      → HasFailed answer (refused refusal) ⊎ RanOutOfMemory (refused refusal) → IsServedRun v words g (given_back answer) (refused refusal)
+  anywhere result (inl none) answer refusal (inl failed) = inr (inl (none.silent, inr failed))
+  anywhere result (inl none) answer refusal (inr memory) = inr (inl (none.silent, inl memory))
+  anywhere result (inr run) answer refusal ends = inr (inr (run.0, run.1, served_of run.0 run.1 run.2, inr (inr ends)))
+
+  -- the reader failed
+  pub run_failed : (result : Result Shared ServeStop) → Run result → (fault : FileStoreFault) (refusal : Refusal) → RefusalShows (file_store_answer standard_input fault) refusal
+      → IsServedRun v words g (given_back (Err fault)) (refused refusal)
+  run_failed result run fault (Shown a) shows = anywhere result run (Err fault) (Shown a) (inl (record { fault = fault; back_is = refl; none = refl; answer = shows }))
+  run_failed result run fault Memory shows = anywhere result run (Err fault) Memory (inr (refl, refl))
+
+  -- the board stopped, and its reader was given back
+  pub run_stopped : (stop : ServeStop) → Run (Err stop) → (answer : Result ReadEnd FileStoreFault) → answer ≡ Ok (read_end to.ended) → (refusal : Refusal) → IsStopRefusal stop refusal
+      → IsServedRun v words g (given_back answer) (refused refusal)
+  run_stopped stop run answer back Memory is = anywhere (Err stop) run answer Memory (inr (refl, refl))
+  run_stopped (Board f) (inl none) answer back (Shown a) is =
+      let same : Board f ≡ Board none.f = same_err {T = Shared} (Board f) (Board none.f) none.result_is in
+      inl (record {
+        round = round;
+        first_round = first_round;
+        fault = f;
+        first = subst (IsBoardFault (problem_of v) (depth_of words.board.round) words.budget g round) (sym (same_fault f none.f same)) none.first;
+        silent = none.silent;
+        none = refl;
+        answer = is.0;
+      })
+    where
+      same_fault : (e f : BoardFault) → Board e ≡ Board f → e ≡ f
+      same_fault e f h = cc
+  run_stopped (Events fault) (inl none) answer back (Shown a) is = absurd (not_both none.f fault (same_err {T = Shared} (Events fault) (Board none.f) none.result_is))
+    where
+      not_both : (f : BoardFault) (e : TextFault) → Events e ≡ Board f → ⊥
+      not_both f e h = cc
+  run_stopped (Board f) (inr run) answer back (Shown a) is = absurd (is.1 tt run.3)
+  run_stopped (Events fault) (inr run) answer back (Shown a) is = by_fault run.3
+    where
+      by_fault : IsTextMemory fault ⊎ TellsFault (format_of words.board.round) (length v.counties) run.1 to.ended fault run.1 → IsServedRun v words g (given_back answer) (refused (Shown a))
+      by_fault (inl memory) = absurd (is.1 tt memory)
+      by_fault (inr told) =
+          inr (inr (
+            run.0,
+            run.1,
+            served_of run.0 run.1 run.2,
+            inr (inl (record { fault = fault; ended = to.ended; back_is = back; told = told; none = refl; answer = is.0 })),
+          ))
