@@ -1,6 +1,6 @@
 //! A board from its opening to its end.
 
-ghost use Rattle.std.specs.Prelude.{◌≡◌, ◌≤◌, ℕ, List, length, IfOk, OnOk};
+ghost use Rattle.std.specs.Prelude.{◌≡◌, ◌≤◌, ℕ, List, [], length, IfOk, OnOk, OnErr};
 ghost use Rattle.county_problem.specs.ProblemValue.{problem_of};
 ghost use Rattle.certificate_data.specs.Round.{Round as RoundValue};
 ghost use Rattle.board_laws.specs.Content.{Content};
@@ -65,9 +65,10 @@ fn tell_round<C: CountySet, W: Sink>(
 ) -> Result<(), AllocError>
     requires board { (b : Content) × IsOf C.test board.now b }
     requires ordered { ordered.now ≡ record { problem = board.now.problem; order = board.now.round.order } }
-    ensures { (b : Content) → IsOf C.test board.now b → OnOk result ((text : List ℕ)
+    ensures told { (b : Content) → IsOf C.test board.now b → OnOk result ((text : List ℕ)
         × IsRoundTold (problem_of board.now.problem) b text
         × HasWritten W.contents W.is_failed out.old written.old out.new written.new text) }
+    ensures none { OnErr result (HasWritten W.contents W.is_failed out.old written.old out.new written.new []) }
 {
     let mut text = Vec::new(alloc);
     push_round_and_pieces(alloc, ordered, board, &mut text)?;
