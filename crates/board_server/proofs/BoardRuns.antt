@@ -45,8 +45,10 @@ pub no_board : (p : Problem) (depth budget : ℕ) (format : Format) (counties : 
     → IsBoardRun p depth budget format counties target round from from [] result
 no_board p depth budget format counties target round from fault result is e = inl (record { f = fault; first = is; same = refl; silent = refl; result_is = e })
 
--- a board that has just been opened, and has read nothing
-pub record IsStart {C : Type 0} (problem : ProblemHeld) (depth budget : ℕ) (format : Format) (counties : ℕ) (served : ServedBoard C) : Type 0 where
+-- a board that was opened in a round, has read nothing, and whose round and pieces were told
+pub record HasBegun {C : Type 0} (problem : ProblemHeld) (depth budget : ℕ) (format : Format) (counties : ℕ) (round : Round) (first : Content) (begin : List ℕ) (served : ServedBoard C) : Type 0 where
+  pub opening : IsOpening (problem_of problem) depth round first
+  pub told : IsRoundTold (problem_of problem) first begin
   pub problem_is : served.board.problem ≡ problem
   pub depth_is : served.board.depth ≡ depth
   pub budget_is : served.board.budget ≡ budget
@@ -54,8 +56,20 @@ pub record IsStart {C : Type 0} (problem : ProblemHeld) (depth budget : ℕ) (fo
   pub counties_are : served.counties ≡ counties
   pub reader_is : served.reader ≡ nothing_held
 
-module _ {C : Type 0} (test : C → ℕ → Bool) (problem : ProblemHeld) (depth budget : ℕ) (format : Format) (counties : ℕ) (target : Grouping) (round : Round) (first : Content) (old new : Moment C) (start : IsStart problem depth budget format counties old.served) (opening : IsOpening (problem_of problem) depth round first)
-    (begin : List ℕ) (told : IsRoundTold (problem_of old.served.board.problem) first begin) where
+pub begun : {C : Type 0} (problem : ProblemHeld) (depth budget : ℕ) (format : Format) (counties : ℕ) (round : Round) (first : Content) (begin : List ℕ) (board : Board C) (served : ServedBoard C) → IsOpening (problem_of problem) depth round first → IsRoundTold (problem_of board.problem) first begin
+    → board.problem ≡ problem → board.depth ≡ depth → board.budget ≡ budget → served.board ≡ board → served.format ≡ format → served.counties ≡ counties → served.reader ≡ nothing_held → HasBegun problem depth budget format counties round first begin served
+begun problem depth budget format counties round first begin board served opening told problem_is depth_is budget_is board_is format_is counties_are reader_is = record {
+  opening = opening;
+  told = subst (λ z. IsRoundTold (problem_of z) first begin) problem_is told;
+  problem_is = ap (λ (z : Board _). z.problem) board_is ∙ problem_is;
+  depth_is = ap (λ (z : Board _). z.depth) board_is ∙ depth_is;
+  budget_is = ap (λ (z : Board _). z.budget) board_is ∙ budget_is;
+  format_is = format_is;
+  counties_are = counties_are;
+  reader_is = reader_is;
+}
+
+module _ {C : Type 0} (test : C → ℕ → Bool) (problem : ProblemHeld) (depth budget : ℕ) (format : Format) (counties : ℕ) (target : Grouping) (round : Round) (first : Content) (begin : List ℕ) (old new : Moment C) (start : HasBegun problem depth budget format counties round first begin old.served) where
   abbrev p : Problem
   p = problem_of problem
 
@@ -75,9 +89,9 @@ module _ {C : Type 0} (test : C → ℕ → Bool) (problem : ProblemHeld) (depth
     pub runs_so : RunsFrom p depth budget format counties round old.given new.given (begin ++ s.text) s.last s.left
     runs_so = record {
       first = first;
-      opening = opening;
+      opening = start.opening;
       start = begin;
-      start_is = subst (λ z. IsRoundTold (problem_of z) first begin) start.problem_is told;
+      start_is = start.told;
       later = s.text;
       serves = serves_start s.text s.last s.left s.serves;
       text_is = refl;
@@ -93,7 +107,7 @@ module _ {C : Type 0} (test : C → ℕ → Bool) (problem : ProblemHeld) (depth
       inr (
         subst (λ z. TellsFault z counties left new.given.ended fault left) start.format_is
         (subst (λ z. TellsFault old.served.format z left new.given.ended fault left) start.counties_are
-        (subst (λ (z : Held). TellsFault old.served.format old.served.counties left new.given.ended fault z) is.reader tells)),
+        (subst (λ (z : Held). TellsFault old.served.format old.served.counties left new.given.ended fault z) is.reader tells))
       )
   fault_so last left fault (some, inr (memory, untold)) = inl memory
 
