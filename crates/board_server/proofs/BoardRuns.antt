@@ -1,10 +1,10 @@
 -- A run of a board, from its opening to its end.
-use Rattle.std.proofs.Common.{◌≡◌, ℕ, ◌⊎◌, Bool, true, List, [], ◌∷◌, ◌++◌, length, refl, sym, ap, ◌∙◌, subst, inl, inr, Result, Ok, Err, IfOk, Option}
+use Rattle.std.proofs.Common.{◌≡◌, ℕ, ◌⊎◌, Bool, true, List, [], ◌∷◌, ◌++◌, length, refl, sym, ap, ◌∙◌, subst, inl, inr, Result, Ok, Err}
 use Rattle.grouping_laws.specs.Problem.{Problem, IsProblem}
 use Rattle.grouping_laws.specs.Grouping.{Grouping}
 use Rattle.grouping_laws.specs.GroupsFrom.{IsOrder}
 use Rattle.grouping_laws.proofs.Digits.{often_member}
-use Rattle.grouping_laws.proofs.Elements.{Has, has_from_contains, contains_from_has}
+use Rattle.grouping_laws.proofs.Elements.{has_from_contains, contains_from_has}
 use Rattle.county_problem.specs.ProblemValue.{problem_of}
 use Rattle.county_problem.specs.declared.problem.Problem.{Problem as ProblemHeld}
 use Rattle.certificate_data.specs.declared.format.Format.{Format}
@@ -27,7 +27,7 @@ use Rattle.board_server.specs.Telling.{IsRoundTold}
 use Rattle.board_server.specs.declared.served_board.ServedBoard.{ServedBoard}
 use Rattle.board_server.specs.Served.{Moment, KeepsServed}
 use Rattle.board_server.specs.Serving.{ServesFrom, HasServed, IsDone, EndsBy}
-use Rattle.board_server.specs.Runs.{RunsFrom, RunEnds, HasNoBoard, IsBoardRun}
+use Rattle.board_server.specs.Runs.{RunsFrom, RunEnds, IsBoardRun}
 use Rattle.board_server.specs.declared.runs.ServeStop.{ServeStop}
 use Rattle.board_server.specs.declared.runs.ServeStop.TheVariants.{Board as BoardStop, Events as EventStop}
 
@@ -105,9 +105,9 @@ module _ {C : Type 0} (test : C → ℕ → Bool) (problem : ProblemHeld) (depth
       → IsTextMemory fault ⊎ TellsFault format counties left new.given.ended fault left
   fault_so last left fault (some, inl (is, tells)) =
       inr (
-        subst (λ z. TellsFault z counties left new.given.ended fault left) start.format_is
-        (subst (λ z. TellsFault old.served.format z left new.given.ended fault left) start.counties_are
-        (subst (λ (z : Held). TellsFault old.served.format old.served.counties left new.given.ended fault z) is.reader tells))
+      subst (λ z. TellsFault z counties left new.given.ended fault left) start.format_is
+      (subst (λ z. TellsFault old.served.format z left new.given.ended fault left) start.counties_are
+      (subst (λ (z : Held). TellsFault old.served.format old.served.counties left new.given.ended fault z) is.reader tells))
       )
   fault_so last left fault (some, inr (memory, untold)) = inl memory
 
@@ -124,6 +124,6 @@ module _ {C : Type 0} (test : C → ℕ → Bool) (problem : ProblemHeld) (depth
       → IsBoardRun p depth budget format counties target round old.given new.given (begin ++ s.text) (Ok shared)
   run_ended s shared text none keeps is =
       let ended : IsEnded p s.last [] shared =
-          subst (λ z. IsEnded p s.last z shared) none
-          (subst (λ z. IsEnded (problem_of z) s.last text shared) (keeps.board.problem ∙ start.problem_is) (is s.last (s.ends.0).is)) in
+      subst (λ z. IsEnded p s.last z shared) none
+      (subst (λ z. IsEnded (problem_of z) s.last text shared) (keeps.board.problem ∙ start.problem_is) (is s.last (s.ends.0).is)) in
       inr (s.last, s.left, runs_so (Ok tt) s, (ended, done_so s.last s.left shared ended s.ends.1))

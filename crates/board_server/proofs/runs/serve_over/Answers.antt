@@ -1,8 +1,7 @@
-use Rattle.std.proofs.Common.{◌≡◌, ◌++◌, [], refl, sym, ap, ◌∙◌, subst, length, List, Err}
+use Rattle.std.proofs.Common.{◌++◌, [], refl, sym, ap, ◌∙◌, subst, length, List, Err}
 use Rattle.std.proofs.lemmas.Result.{err_from_is_err_and}
 use Rattle.county_codes.specs.declared.county.County.{County}
 use Rattle.county_problem.specs.ProblemValue.{problem_of}
-use Rattle.board_laws.specs.Content.{Content}
 use Rattle.share_board.specs.declared.fault.BoardFault.TheVariants.{Memory}
 use Rattle.share_board.specs.BoardValue.{IsOf, AreBoardLists}
 use Rattle.board_report.specs.BoardOutcome.{IsEnded}
@@ -84,7 +83,7 @@ returns-in_err-ended-in-Ok-serve g c =
     let is = subst (λ z. IsOf g.C.CountySet.test z first.0) (sym c.new-served.ensures.board) first.2 in
     let s = c.in-Ok-serve.ensures.served first.0 is in
     let start = begun problem shape.depth c.args.budget shape.format counties round first.0 told.0 c.in-Ok.board c.new-served.result first.1 told.1 c.in-Ok.ensures.problem c.in-Ok.ensures.depth c.in-Ok.ensures.budget
-        c.new-served.ensures.board c.new-served.ensures.format (c.new-served.ensures.counties ∙ ap (λ (z : List County). length z) c.counties.ensures.value) c.new-served.ensures.reader in
+    c.new-served.ensures.board c.new-served.ensures.format (c.new-served.ensures.counties ∙ ap (λ (z : List County). length z) c.counties.ensures.value) c.new-served.ensures.reader in
     let e = err_from_is_err_and c.from_residual-in_err-ended-in-Ok-serve.result c.from_residual-in_err-ended-in-Ok-serve.ensures.1 in
     record {
       run = (
@@ -109,7 +108,7 @@ returns-in-Ok-serve g c =
     let is = subst (λ z. IsOf g.C.CountySet.test z first.0) (sym c.new-served.ensures.board) first.2 in
     let s = c.in-Ok-serve.ensures.served first.0 is in
     let start = begun problem shape.depth c.args.budget shape.format counties round first.0 told.0 c.in-Ok.board c.new-served.result first.1 told.1 c.in-Ok.ensures.problem c.in-Ok.ensures.depth c.in-Ok.ensures.budget
-        c.new-served.ensures.board c.new-served.ensures.format (c.new-served.ensures.counties ∙ ap (λ (z : List County). length z) c.counties.ensures.value) c.new-served.ensures.reader in
+    c.new-served.ensures.board c.new-served.ensures.format (c.new-served.ensures.counties ∙ ap (λ (z : List County). length z) c.counties.ensures.value) c.new-served.ensures.reader in
     record {
       run = (
         told.0 ++ s.text,
@@ -117,7 +116,7 @@ returns-in-Ok-serve g c =
         c.in-Ok.ensures.first,
         written_both _ _ _ _ _ _ _ _ _ told.0 s.text told.2 s.written,
         run_ended g.C.CountySet.test problem shape.depth c.args.budget shape.format counties target round first.0 told.0 _ _ start s c.in_ok-ended-in-Ok-serve.field-0 c.new.result.items c.new.ensures.items c.serve.ensures.keeps
-        (λ b of. subst (λ z. IsEnded (problem_of z.problem) b c.new.result.items c.in_ok-ended-in-Ok-serve.field-0) c.board.ensures (c.in_ok-ended-in-Ok-serve.ensures b (subst (λ z. IsOf g.C.CountySet.test z b) (sym c.board.ensures) of))),
+            (λ b of. subst (λ z. IsEnded (problem_of z.problem) b c.new.result.items c.in_ok-ended-in-Ok-serve.field-0) c.board.ensures (c.in_ok-ended-in-Ok-serve.ensures b (subst (λ z. IsOf g.C.CountySet.test z b) (sym c.board.ensures) of))),
       );
     }
 
@@ -134,7 +133,7 @@ returns g c =
     let is = subst (λ z. IsOf g.C.CountySet.test z first.0) (sym c.new-served.ensures.board) first.2 in
     let s = c.in-Err-serve.ensures.served first.0 is in
     let start = begun problem shape.depth c.args.budget shape.format counties round first.0 told.0 c.in-Ok.board c.new-served.result first.1 told.1 c.in-Ok.ensures.problem c.in-Ok.ensures.depth c.in-Ok.ensures.budget
-        c.new-served.ensures.board c.new-served.ensures.format (c.new-served.ensures.counties ∙ ap (λ (z : List County). length z) c.counties.ensures.value) c.new-served.ensures.reader in
+    c.new-served.ensures.board c.new-served.ensures.format (c.new-served.ensures.counties ∙ ap (λ (z : List County). length z) c.counties.ensures.value) c.new-served.ensures.reader in
     record {
       run = (
         told.0 ++ s.text,

@@ -1,4 +1,4 @@
-use Rattle.std.proofs.Common.{◌≡◌, ◌≢◌, ◌≤◌, length, refl, sym, ◌∙◌, subst, arith, inl, inr}
+use Rattle.std.proofs.Common.{◌≢◌, ◌≤◌, length, refl, sym, ◌∙◌, subst, arith, inl}
 use Rattle.std.proofs.lemmas.Result.{err_from_is_err_and}
 use Rattle.certificate_lines.specs.Lines.{most}
 use Rattle.board_laws.specs.Skeleton.{waiting}
