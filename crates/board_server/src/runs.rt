@@ -90,7 +90,8 @@ fn serve_over<C: CountySet, S: Source, W: Sink>(
     ensures run { (text : List ℕ) × (round : RoundValue)
         × IsFirstRound (problem_of problem.now) grouping.now.groups.items shape.limit shape.format round
         × HasWritten W.contents W.is_failed out.old written.old out.new written.new text
-        × IsBoardRun (problem_of problem.now) shape.depth budget shape.format (length problem.now.counties) grouping.now.groups.items round (S.given source.old) (S.given source.new) text result }
+        × IsBoardRun (problem_of problem.now) shape.depth budget shape.format (length problem.now.counties)
+        grouping.now.groups.items round (S.given source.old) (S.given source.new) text result }
 {
     let board: Board<C> = match opened_board(alloc, problem, grouping, shape, budget) {
         Ok(board) => board,
@@ -128,7 +129,8 @@ pub fn serve_events<S: Source, W: Sink>(
     ensures run { (text : List ℕ) × (round : RoundValue)
         × IsFirstRound (problem_of problem.now) grouping.now.groups.items shape.limit shape.format round
         × HasWritten W.contents W.is_failed out.old written.old out.new written.new text
-        × IsBoardRun (problem_of problem.now) shape.depth budget shape.format (length problem.now.counties) grouping.now.groups.items round (S.given source.old) (S.given source.new) text result }
+        × IsBoardRun (problem_of problem.now) shape.depth budget shape.format (length problem.now.counties)
+        grouping.now.groups.items round (S.given source.old) (S.given source.new) text result }
 {
     if fits_mask(problem.counties().len()) {
         return serve_over::<MaskSet, S, W>(

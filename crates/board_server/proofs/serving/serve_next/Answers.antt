@@ -24,7 +24,7 @@ returns-in_default-text_behind-clause-served g c = λ b is.
 pub returns-in_err-next-clause-served : goal.returns-in_err-next-clause-served
 returns-in_err-next-clause-served g c = λ b is.
     let p = err_from_is_err_and c.from_residual.result c.from_residual.ensures.1 in
-    rw (p.1, p.2) (inl (record { reads = c.in_err-next.ensures.next; board = refl; quiet = written_none (g.W.Sink.contents c.args.out.now) (g.W.Sink.is_failed c.args.out.now) c.args.written.now }))
+    rw (p.1, p.2) (inl (record { reads = c.in_err-next.ensures.next; board = refl {a = c.args.served.now.board}; quiet = written_none (g.W.Sink.contents c.args.out.now) (g.W.Sink.is_failed c.args.out.now) c.args.written.now }))
 
 pub returns-in-Ok-write_next-clause-served : goal.returns-in-Ok-write_next-clause-served
 returns-in-Ok-write_next-clause-served g c = λ b is.
