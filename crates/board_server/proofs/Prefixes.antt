@@ -1,5 +1,5 @@
 -- What is told of a prefix of the events.
-use Rattle.std.proofs.Common.{◌≡◌, ℕ, List, [], ◌∷◌, ◌++◌, refl, sym, ap, ◌∙◌, append_assoc}
+use Rattle.std.proofs.Common.{ℕ, List, [], ◌∷◌, ◌++◌, refl, sym, ap, ◌∙◌, append_assoc}
 use Rattle.grouping_laws.specs.Problem.{Problem}
 use Rattle.board_laws.specs.Content.{Content, Event, Reply}
 use Rattle.board_events.specs.Replies.{reply_line}

@@ -96,10 +96,6 @@ module _ (format : Format) (counties : ℕ) (p : Problem) (depth budget : ℕ) (
       lines = s.lines;
     }
 
-    pub same_events : (bytes : List ℕ) (q : PullsOnto mid to left.bytes bytes) → (serves_on bytes q).events ≡ s.events
-    unfolding serves_on
-    same_events bytes q = refl
-
   module _ (from to : Given) (text : List ℕ) (last : Content) (left : Held) (s : ServesFrom format counties p depth budget b held from to text last left) where
     -- one event of those bytes was taken and told
     pub serves_more : (event : Event) (reply : Reply) (next : Content) (said : List ℕ) (new : Held) → SomeWaits last → IsReply p depth budget last event reply → Leads p depth last event reply next → IsSaidBehind p next reply said
@@ -122,11 +118,6 @@ module _ (format : Format) (counties : ℕ) (p : Problem) (depth budget : ℕ) (
               let after : new.lines ≡ left.lines + lines_in one = taken.lines (omega (arith, counts, small, before)) in
               omega (arith, counts, before, after);
         }
-
-    pub more_events : (event : Event) (reply : Reply) (next : Content) (said : List ℕ) (new : Held) (some : SomeWaits last) (says : IsReply p depth budget last event reply) (leads : Leads p depth last event reply next) (behind : IsSaidBehind p next reply said)
-        (taken : TakesEvent format counties left event new) → (serves_more event reply next said new some says leads behind taken).events ≡ s.events ++ event ∷ []
-    unfolding serves_more
-    more_events event reply next said new some says leads behind taken = refl
 
 few_first : (held : List ℕ) → length held ≤ length held
 few_first held = omega arith
@@ -195,11 +186,6 @@ module _ {C : Type 0} (test : C → ℕ → Bool) (b : Content) (old now : Momen
       → ServesFrom old.served.format old.served.counties (problem_of board.problem) board.depth board.budget b old.served.reader old.given to come.text come.last (record { bytes = bytes; lines = now.served.reader.lines })
   pulled_there to bytes pulls =
       serves_on old.served.format old.served.counties (problem_of board.problem) board.depth board.budget b old.served.reader old.given now.given to come.text come.last now.served.reader come.serves bytes pulls
-
-  pulled_events : (to : Given) (bytes : List ℕ) (pulls : PullsOnto now.given to now.served.reader.bytes bytes) → (pulled_there to bytes pulls).events ≡ come.serves.events
-  unfolding pulled_there
-  pulled_events to bytes pulls =
-      same_events old.served.format old.served.counties (problem_of board.problem) board.depth board.budget b old.served.reader old.given now.given to come.text come.last now.served.reader come.serves bytes pulls
 
   quiet_there : (new : Moment C) → IsQuiet now new → IsWritten old.contents new.contents old.failed new.failed old.written new.written come.text
   quiet_there new quiet =

@@ -7,8 +7,8 @@
 //! ```
 //!
 //! The definitions stand in `specs/`. `Telling` says what is told of a board.
-//! `Served` says what one call does, and `Serving` what all calls do. `Laws` has what follows for each prefix of the
-//! events.
+//! `Served` says what one call does, and `Serving` what all calls do. `Runs` has a board from its opening to its end.
+//! `Laws` has what follows for each prefix of the events.
 #![tactic(auto)]
 
 mod laws;

@@ -1,6 +1,6 @@
 //! A board from its opening to its end.
 
-ghost use Rattle.std.specs.Prelude.{◌≡◌, ◌≤◌, ℕ, List, length, IfOk, OnOk};
+ghost use Rattle.std.specs.Prelude.{◌≡◌, ◌≤◌, ℕ, List, [], length, IfOk, OnOk, OnErr};
 ghost use Rattle.county_problem.specs.ProblemValue.{problem_of};
 ghost use Rattle.certificate_data.specs.Round.{Round as RoundValue};
 ghost use Rattle.board_laws.specs.Content.{Content};
@@ -65,9 +65,10 @@ fn tell_round<C: CountySet, W: Sink>(
 ) -> Result<(), AllocError>
     requires board { (b : Content) × IsOf C.test board.now b }
     requires ordered { ordered.now ≡ record { problem = board.now.problem; order = board.now.round.order } }
-    ensures { (b : Content) → IsOf C.test board.now b → OnOk result ((text : List ℕ)
+    ensures told { (b : Content) → IsOf C.test board.now b → OnOk result ((text : List ℕ)
         × IsRoundTold (problem_of board.now.problem) b text
         × HasWritten W.contents W.is_failed out.old written.old out.new written.new text) }
+    ensures none { OnErr result (HasWritten W.contents W.is_failed out.old written.old out.new written.new []) }
 {
     let mut text = Vec::new(alloc);
     push_round_and_pieces(alloc, ordered, board, &mut text)?;
@@ -89,7 +90,8 @@ fn serve_over<C: CountySet, S: Source, W: Sink>(
     ensures run { (text : List ℕ) × (round : RoundValue)
         × IsFirstRound (problem_of problem.now) grouping.now.groups.items shape.limit shape.format round
         × HasWritten W.contents W.is_failed out.old written.old out.new written.new text
-        × IsBoardRun (problem_of problem.now) shape.depth budget shape.format (length problem.now.counties) grouping.now.groups.items round (S.given source.old) (S.given source.new) text result }
+        × IsBoardRun (problem_of problem.now) shape.depth budget shape.format (length problem.now.counties)
+        grouping.now.groups.items round (S.given source.old) (S.given source.new) text result }
 {
     let board: Board<C> = match opened_board(alloc, problem, grouping, shape, budget) {
         Ok(board) => board,
@@ -127,7 +129,8 @@ pub fn serve_events<S: Source, W: Sink>(
     ensures run { (text : List ℕ) × (round : RoundValue)
         × IsFirstRound (problem_of problem.now) grouping.now.groups.items shape.limit shape.format round
         × HasWritten W.contents W.is_failed out.old written.old out.new written.new text
-        × IsBoardRun (problem_of problem.now) shape.depth budget shape.format (length problem.now.counties) grouping.now.groups.items round (S.given source.old) (S.given source.new) text result }
+        × IsBoardRun (problem_of problem.now) shape.depth budget shape.format (length problem.now.counties)
+        grouping.now.groups.items round (S.given source.old) (S.given source.new) text result }
 {
     if fits_mask(problem.counties().len()) {
         return serve_over::<MaskSet, S, W>(

@@ -1,4 +1,4 @@
-use Rattle.std.proofs.Common.{◌≡◌, ◌≤◌, length, refl, sym, ◌∙◌, subst, arith, inl, inr}
+use Rattle.std.proofs.Common.{◌≢◌, ◌≤◌, length, refl, sym, ◌∙◌, subst, arith, inl}
 use Rattle.std.proofs.lemmas.Result.{err_from_is_err_and}
 use Rattle.certificate_lines.specs.Lines.{most}
 use Rattle.board_laws.specs.Skeleton.{waiting}
@@ -71,7 +71,14 @@ pub returns-in-Ended-clause-failed : goal.returns-in-Ended-clause-failed
 returns-in-Ended-clause-failed g c = λ e. c.in_ok-serve_next.ensures.failed (c.loop-taken.invariant.sound e)
 
 pub returns-in-0-clause-served : goal.returns-in-0-clause-served
-returns-in-0-clause-served g c = ?
+returns-in-0-clause-served g c = λ b is.
+    let inv = c.loop-taken.invariant in
+    let so = inv.come b is in
+    done_here g.C.CountySet.test b _ _ inv.keeps so (inl (none_waits (waiting so.last.skeleton) (sym (c.left-2.ensures so.last so.is) ∙ c.in-0.is)))
 
-pub returns-in-default-clause-served : goal.returns-in-default-clause-served
-returns-in-default-clause-served g c = ?
+pub returns-in_default-clause-served : goal.returns-in_default-clause-served
+returns-in_default-clause-served g c = λ b is.
+    let inv = c.loop-taken.invariant in
+    let so = inv.come b is in
+    let some : c.left-2.result ≢ 0 = omega arith in
+    done_full g.C.CountySet.test b _ _ inv.keeps so c.memory_fault.result c.memory_fault.ensures (some_waits so.last c.left-2.result (c.left-2.ensures so.last so.is) some)
