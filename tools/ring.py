@@ -85,7 +85,9 @@ class Desk:
         if is_srun:
             return ["srun", "--ntasks=1", "--nodes=1", "--exact", "--unbuffered", *words]
         if self.login != HERE:
-            return ["ssh", self.login, "exec " + shlex.join(words)]
+            # (a machine that is gone is noticed, so that its piece goes to another desk)
+            alive = ["-o", "ServerAliveInterval=30", "-o", "BatchMode=yes"]
+            return ["ssh", *alive, self.login, "exec " + shlex.join(words)]
         return words
 
     def is_ready(self) -> bool:
@@ -157,7 +159,7 @@ class Ring:
         else:
             self.last_line = text
             self.folder.keep_reply(text)
-            if self.sent:
+            if self.sent and word != b"refused":
                 self.take_reply(self.sent.popleft(), text)
 
     def open_piece(self, text: bytes) -> None:
