@@ -4,13 +4,13 @@ python3 bench/drill.py PROGRAM [SEED]
 
 1. The ring goes from a poor grouping to a joined certificate, and `check` says that its grouping is
    best.
-2. From that grouping the ring runs undisturbed. Its certificate is what the next two parts are
-   compared with, byte for byte.
+2. From that grouping the ring runs undisturbed. Its certificate is what the fourth and the sixth
+   part are compared with, byte for byte.
 3. The ring runs with desks that are killed, at once or with half of an answer written, write noise,
    or are refused memory. Its board and desks are killed while it runs, and it is killed itself,
    alone or with them, and started again. Its journal loses its last bytes, as a file does whose
    writer is killed. Texts of events arrive twice, of other rounds, cut, as parts, and as bytes that
-   are none.
+   are none. What is joined has the same grouping, and `check` says Best.
 4. The same trees go to `share` in other orders, with results sent twice and results that come too
    early. The splits come in other orders too, with other numbers.
 5. False events go to `share`: trees changed by a byte, trees of other pieces, results of other
@@ -253,8 +253,8 @@ class Drill:
         splits = sum(it.startswith(SPLITS) for it in events)
         told = f"{splits} splits, {len(events)} events, {seconds:.1f} seconds"
         self.expect("from the best grouping the ring joins a certificate", bool(best), told)
-        is_same = certificate == read(f"{self.room}/enough/certificate")
-        self.expect(f"with {ENOUGH_STEPS} steps for a piece it joins the same bytes", is_same)
+        is_same = best == self.board.best_groups(read(f"{self.room}/enough/certificate"))
+        self.expect(f"with {ENOUGH_STEPS} steps for a piece it proves the same grouping", is_same)
         self.quiet = Quiet(seconds, certificate, events, best or [])
 
     def disturb(self, folder: str) -> None:
@@ -343,13 +343,13 @@ class Drill:
         folder = f"{self.room}/{name}"
         path = f"{folder}/certificate"
         certificate = read(path) if os.path.exists(path) else ""
-        is_best = course.status == 0 and self.board.best_groups(certificate) == self.quiet.best
-        is_right = is_best and certificate == self.quiet.certificate
-        what = f"the disturbed ring {name} joins the same bytes, and `check` says Best"
+        is_right = course.status == 0 and self.board.best_groups(certificate) == self.quiet.best
+        what = f"the disturbed ring {name} joins a proof of the same grouping"
         times = f"started {course.starts} times, ended {course.killed}"
         times += f", its processes {course.children}, its journal torn {course.torn} times"
         aside = f"{len(os.listdir(f'{folder}/refused'))} texts set aside"
-        self.expect(what, is_right, f"{times}, {aside}")
+        same = "the same bytes" if certificate == self.quiet.certificate else "other bytes"
+        self.expect(what, is_right, f"{times}, {aside}, {same}")
         if not is_right:
             print(read(f"{self.room}/{name}.told")[-2000:])
 
