@@ -448,14 +448,14 @@ def tests_of_refused_events(events: List[bytes]) -> Iterator[Test]:
     yield "no refused event", refused_places(b"accepted\njoined\nfile memory\nmemory\n", 1), []
     among = with_refusals(b"accepted\nleft 1\n", [1])
     yield "a refused event among others", among, b"accepted\nmemory\nleft 1\n"
-    told = b"round 1 3 1\ngroup 2 37001\nopen 1 1\nend\n"
+    first = b"round 1 3 1\ngroup 2 37001\nopen 1 1\nend\n"
     split = b"split into 2 to 2\nopen 1 2\nleast 37001 2\nend\n"
     left = b"left 1\nopen 1 2\n"
-    in_turn = [told, split, b"left 1\n", b"open 1 2\n"]
-    yield "replies with what is told behind them", replies_of(told + split + left), in_turn
-    yield "a refused event of a board", refused_places(told + split + b"memory\n" + left, 3), [1]
-    among = with_refusals(told + split + left, [1])
-    yield "a reply behind what is told", among, told + split + b"memory\n" + left
+    in_turn = [first, split, b"left 1\n", b"open 1 2\n"]
+    yield "replies with what is told behind them", replies_of(first + split + left), in_turn
+    yield "a refused event of a board", refused_places(first + split + b"memory\n" + left, 3), [1]
+    among = with_refusals(first + split + left, [1])
+    yield "a reply behind what is told", among, first + split + b"memory\n" + left
     yield "all events refused", with_refusals(b"left 1\n", [0, 1]), b"memory\nmemory\nleft 1\n"
     record = b"joined\nfile r\ncountygroups record 1\nread events 9 " + b"0" * 64
     record += b" e\nstatus 0\nanswer accepted\n"
