@@ -75,6 +75,24 @@ def with_refusals(text: bytes, places: Iterable[int]) -> bytes:
     return b"".join(replies)
 
 
+def of_another_round(events: Sequence[bytes], places: Collection[int]) -> bytes:
+    """Returns the text of the events, those at these places of a round that no case has.
+
+    A board replies `old round` to them, and stays as it is.
+    """
+    named = re.compile(rb"^(result|part|split|better|wider) \d+")
+    other = rb"\g<1> 4294967295"
+    return b"".join(named.sub(other, it) if i in places else it for i, it in enumerate(events))
+
+
+def with_refused_replies(text: bytes, places: Iterable[int]) -> bytes:
+    """Returns the text with `memory` in place of the replies at these places."""
+    replies = replies_of(text)
+    for place in places:
+        replies[place + 1] = b"memory\n"
+    return b"".join(replies)
+
+
 def with_record_of(text: bytes, given: bytes, first: bytes) -> bytes:
     """Returns the text with its record, if it has one, of a run with other events.
 
@@ -268,8 +286,10 @@ class Sweep:
         if name is None or not places:
             return None
         if (upto, places) not in self.shorter:
-            other, left = self.run_with_events(upto, name, without_places(events, places))
-            wrote = with_refusals(other.wrote, places)
+            is_board = name == STANDARD_INPUT
+            text = (of_another_round if is_board else without_places)(events, places)
+            other, left = self.run_with_events(upto, name, text)
+            wrote = (with_refused_replies if is_board else with_refusals)(other.wrote, places)
             whole, first = self.events_text(upto, name), wrote.partition(b"\n")[0]
             other.wrote = with_record_of(wrote, whole, first)
             left = {at: with_record_of(held, whole, first) for at, held in left.items()}
@@ -454,8 +474,10 @@ def tests_of_refused_events(events: List[bytes]) -> Iterator[Test]:
     in_turn = [first, split, b"left 1\n", b"open 1 2\n"]
     yield "replies with what is told behind them", replies_of(first + split + left), in_turn
     yield "a refused event of a board", refused_places(first + split + b"memory\n" + left, 3), [1]
-    among = with_refusals(first + split + left, [1])
-    yield "a reply behind what is told", among, first + split + b"memory\n" + left
+    replaced = with_refused_replies(first + split + b"old round\n" + left, [1])
+    yield "a reply behind what is told", replaced, first + split + b"memory\n" + left
+    other = of_another_round([b"hand 1\n", b"wider 2\n", b"part 1 2\nopen\n"], [0, 2])
+    yield "events of another round", other, b"hand 1\nwider 2\npart 4294967295 2\nopen\n"
     yield "all events refused", with_refusals(b"left 1\n", [0, 1]), b"memory\nmemory\nleft 1\n"
     record = b"joined\nfile r\ncountygroups record 1\nread events 9 " + b"0" * 64
     record += b" e\nstatus 0\nanswer accepted\n"

@@ -63,8 +63,9 @@ class Process:
     def read(self) -> None:
         """Puts each text into the inbox, and None at the end."""
         assert self.process.stdout
-        for text in self.reader(self.process.stdout):
-            self.inbox.put(Said(self, text))
+        with self.process.stdout:
+            for text in self.reader(self.process.stdout):
+                self.inbox.put(Said(self, text))
         self.inbox.put(Said(self, None))
 
     def give(self, text: bytes) -> None:
@@ -73,6 +74,14 @@ class Process:
         try:
             self.process.stdin.write(text)
             self.process.stdin.flush()
+        except BrokenPipeError:
+            pass
+
+    def close(self) -> None:
+        """Ends what the process reads."""
+        assert self.process.stdin
+        try:
+            self.process.stdin.close()
         except BrokenPipeError:
             pass
 
