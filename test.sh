@@ -154,6 +154,8 @@ test_programs() { # PROGRAM ..
     python3 tools/test_completions.py --program "$1"
     heading "the program at a terminal"
     python3 tools/test_terminal.py --program "$1"
+    heading "the ring of a board and desks"
+    python3 tools/test_ring.py --program "$1"
 }
 
 # Changes cases at random for a time.

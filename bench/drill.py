@@ -1,15 +1,16 @@
-"""Tries the loop over many desks (tools/share.sh) and the board behind it with what goes wrong
-between desks, over 25 counties.
+"""Tries the ring of a board and desks (tools/share.sh) with what goes wrong, over 25 counties.
 
 python3 bench/drill.py PROGRAM [SEED]
 
-1. The loop goes from a poor grouping to a joined certificate, and `check` says that its grouping is
+1. The ring goes from a poor grouping to a joined certificate, and `check` says that its grouping is
    best.
-2. From that grouping the loop runs undisturbed. Its certificate is what the next two parts are
-   compared with, byte for byte.
-3. The loop runs with pieces that are killed, at once or with half of their text written, or refused
-   memory; it is killed itself again and again, and started again; texts of events arrive twice, of
-   other rounds, cut, as parts, and as bytes that are none.
+2. From that grouping the ring runs undisturbed. Its certificate is what the fourth and the sixth
+   part are compared with, byte for byte.
+3. The ring runs with desks that are killed, at once or with half of an answer written, write noise,
+   or are refused memory. Its board and desks are killed while it runs, and it is killed itself,
+   alone or with them, and started again. Its journal loses its last bytes, as a file does whose
+   writer is killed. Texts of events arrive twice, of other rounds, cut, as parts, and as bytes that
+   are none. What is joined has the same grouping, and `check` says Best.
 4. The same trees go to `share` in other orders, with results sent twice and results that come too
    early. The splits come in other orders too, with other numbers.
 5. False events go to `share`: trees changed by a byte, trees of other pieces, results of other
@@ -19,6 +20,7 @@ python3 bench/drill.py PROGRAM [SEED]
    in many orders, with late ones. What is joined is the same, byte for byte.
 7. The same with false parts between: changed by a byte, of other pieces, of other rounds, without
    an open leaf. What is joined has the same grouping, and `check` says Best.
+8. Each text of events that `share` took in these parts went to `board`, too. It replied the same.
 
 It ends only processes that it started. The last line is `N passed, M failed`.
 """
@@ -40,7 +42,7 @@ import proof_parts
 from proof_parts import Sent
 
 HERE = os.path.dirname(os.path.realpath(__file__))
-LOOP = f"{HERE}/../tools/share.sh"
+RING = f"{HERE}/../tools/share.sh"
 # the people of counties in rows of five, each beside those left, right, above and below
 PEOPLE = [34, 43, 41, 112, 63]
 PEOPLE += [98, 84, 74, 29, 60]
@@ -48,19 +50,28 @@ PEOPLE += [130, 120, 150, 115, 133]
 PEOPLE += [148, 88, 29, 27, 113]
 PEOPLE += [139, 101, 117, 128, 62]
 COLUMNS = 5
+FEW_STEPS, ENOUGH_STEPS = 10, 1000
 KILLS, ORDERS, BOARDS = 12, 12, 8
+# the seconds that a ring needs before its first piece
+START = 0.2
 SPLITS = ("split ", "part ")
+# what a board tells desks between its replies
+TOLD_BY_BOARD = re.compile(
+    r"(?m)^(?:round .*\n(?:group .*\n)*|open .*\n(?:(?:closed|least) .*\n)*end\n)"
+)
 STARTS_WITH = re.compile(r"(?m)^(?=(?:hand|result|part|split|better|wider) )")
 
-# What stands between the loop and the program: some pieces are killed, some write half of their
-# text first, some are refused memory.
+# What stands between the ring and the program: some desks are killed, some write a part of their
+# text first, some write noise, some are refused memory.
 UNRULY = """#!/usr/bin/env bash
-[ "$1" = piece ] || exec "$PROGRAM" "$@"
+[ "$1" = desk ] || exec "$PROGRAM" "$@"
 sleep "0.0$((RANDOM % 10))"
-case $((RANDOM % 10)) in
+case $((RANDOM % 12)) in
     0) kill -KILL $$ ;;
-    1) "$PROGRAM" "$@" | head -c "$((RANDOM % 30))"; kill -KILL $$ ;;
-    2) echo memory; exit 5 ;;
+    1 | 2) exec "$PROGRAM" "$@" > >(dd bs=1 "count=$((RANDOM % 3000))" status=none; kill -KILL $$) ;;
+    3) echo memory; exit 5 ;;
+    4) echo "result 1 1 of noise"; exec "$PROGRAM" "$@" ;;
+    5) echo "Last login: never"; exec "$PROGRAM" "$@" ;;
     *) exec "$PROGRAM" "$@" ;;
 esac
 """
@@ -80,9 +91,8 @@ class Shared(NamedTuple):
 
 
 class Quiet(NamedTuple):
-    """An undisturbed run of the loop: its steps for a piece, its seconds, and what it made."""
+    """An undisturbed run of the ring: its seconds, and what it made."""
 
-    steps: int
     seconds: float
     certificate: str
     events: list[str]
@@ -90,19 +100,26 @@ class Quiet(NamedTuple):
 
 
 class Course(NamedTuple):
-    """How a disturbed loop went: its status, how often it was started, and how often killed."""
+    """How a disturbed ring went.
+
+    These are its status, how often it was started, how often it was killed or stopped, how often
+    one of its processes was killed, and how often its journal was torn.
+    """
 
     status: Optional[int]
     starts: int
     killed: int
+    children: int
+    torn: int
 
 
 class Board:
-    """A problem in a folder, the program, and the loop over it."""
+    """A problem in a folder, the program, and the ring over it."""
 
     def __init__(self, program: str, room: str) -> None:
         self.program, self.room = program, room
         self.chamber = round(sum(PEOPLE) / 100)
+        self.served = self.differ = 0
         self.write_problem()
         self.words = ["--geo", f"{room}/geo", "--segment", f"{room}/segment"]
         self.words += ["--chamber", str(self.chamber), "--adjacency", f"{room}/adjacency"]
@@ -135,7 +152,23 @@ class Board:
             os.remove(path)
         words = ["--grouping", f"{self.room}/grouping", "--events", self.file("events", text)]
         status, said = self.run("share", *self.words, *words, "--certificate", path)
-        return Shared(status, said.splitlines(), read(path) if os.path.exists(path) else None)
+        shared = Shared(status, said.splitlines(), read(path) if os.path.exists(path) else None)
+        if status in (0, 3):
+            self.served += 1
+            self.differ += not self.serves_the_same(text, shared)
+        return shared
+
+    def serves_the_same(self, text: str, shared: Shared) -> bool:
+        """Returns whether `board` replies to a text of events as `share` does.
+
+        A board ends once it is joined, and reads no later event.
+        """
+        words = [self.program, "board", *self.words, "--grouping", f"{self.room}/grouping"]
+        made = subprocess.run(words, input=text.encode("latin1"), capture_output=True)
+        lines = TOLD_BY_BOARD.sub("", made.stdout.decode("latin1")).splitlines()
+        if lines[-1:] == ["joined"]:
+            return made.returncode == 0 and lines[:-1] == shared.lines[: len(lines) - 1]
+        return made.returncode == shared.status and lines == shared.lines
 
     def share_what_is_read(self, events: list[str], known: list[str]) -> tuple[Shared, int]:
         """Returns what `share` says of the events that are a text, and how many are left out.
@@ -163,23 +196,22 @@ class Board:
         status, text = self.run("check", *self.words, "--certificate", path)
         return groups_of(certificate) if status == 0 and "\nanswer best\n" in text else None
 
-    def loop_words(self, folder: str, grouping: str, steps: int) -> list[str]:
-        """Returns the words that start the loop."""
+    def ring_words(self, folder: str, grouping: str, steps: int) -> list[str]:
+        """Returns the words that start the ring."""
         words = ["--folder", f"{self.room}/{folder}", "--grouping", f"{self.room}/{grouping}"]
-        return [LOOP, *words, "--jobs", "3", "--steps", str(steps), "--", *self.words]
+        return [RING, *words, "--jobs", "3", "--steps", str(steps), "--", *self.words]
 
-    def loop(self, folder: str, grouping: str, steps: int) -> bool:
-        """Runs the loop to its end, and returns whether it raised the steps."""
+    def ring(self, folder: str, grouping: str, steps: int) -> None:
+        """Runs the ring to its end."""
         made = subprocess.run(
-            self.loop_words(folder, grouping, steps),
+            self.ring_words(folder, grouping, steps),
             capture_output=True,
             text=True,
             env={**os.environ, "COUNTYGROUPS": self.program},
         )
         if made.returncode:
-            told = f"the loop ended with {made.returncode}:\n{made.stderr[-2000:]}"
+            told = f"the ring ended with {made.returncode}:\n{made.stderr[-2000:]}"
             sys.exit(f"drill.py: {told}")
-        return "steps for a piece from now on" in made.stderr
 
 
 class Drill:
@@ -190,42 +222,40 @@ class Drill:
         self.room = room
         self.passed = self.failed = 0
         self.random = random.Random(seed)
-        self.quiet = Quiet(0, 0.0, "", [], [])
+        self.quiet = Quiet(0.0, "", [], [])
 
     def expect(self, what: str, is_so: bool, told: str = "") -> None:
         """Prints whether a claim holds, and counts it."""
         self.passed, self.failed = self.passed + is_so, self.failed + (not is_so)
         print(f"{'ok' if is_so else 'FAILED'}: {what}{f' ({told})' if told else ''}", flush=True)
 
-    # ---- the loop ----
+    # ---- the ring ----
 
     def from_a_poor_grouping(self) -> None:
-        """Runs the loop from one group, and stores the best grouping."""
-        self.board.loop("first", "poor", 1000)
+        """Runs the ring from one group, and stores the best grouping."""
+        self.board.ring("first", "poor", 1000)
         best = self.board.best_groups(read(f"{self.room}/first/certificate"))
         told = f"{read(f'{self.room}/first/replies').count('new round')} new rounds"
-        what = "from a poor grouping the loop comes to one that `check` calls best"
+        what = "from a poor grouping the ring comes to one that `check` calls best"
         self.expect(what, bool(best), told)
         lines = ["|".join(group.split(" ")[1:]) + "\n" for group in best or []]
         self.board.file("grouping", "".join(lines))
 
     def undisturbed(self) -> None:
-        """Runs the loop, each time with twice the steps, until it doesn't raise them.
-
-        The last run is kept.
-        """
-        steps, began = 200, time.time()
-        while self.board.loop(f"quiet{steps}", "grouping", steps):
-            steps, began = 2 * steps, time.time()
+        """Runs the ring with few steps for a piece, so that there are many, and with enough."""
+        self.board.ring("enough", "grouping", ENOUGH_STEPS)
+        began = time.time()
+        self.board.ring("few", "grouping", FEW_STEPS)
         seconds = time.time() - began
-        folder = f"{self.room}/quiet{steps}"
-        certificate = read(f"{folder}/certificate")
-        events = [it for it in STARTS_WITH.split(read(f"{folder}/events")) if it]
+        certificate = read(f"{self.room}/few/certificate")
+        events = [it for it in STARTS_WITH.split(read(f"{self.room}/few/events")) if it]
         best = self.board.best_groups(certificate)
         splits = sum(it.startswith(SPLITS) for it in events)
-        told = f"{steps} steps for a piece, {splits} splits, {len(events)} events"
-        self.expect("from the best grouping the loop joins a certificate", bool(best), told)
-        self.quiet = Quiet(steps, seconds, certificate, events, best or [])
+        told = f"{splits} splits, {len(events)} events, {seconds:.1f} seconds"
+        self.expect("from the best grouping the ring joins a certificate", bool(best), told)
+        is_same = best == self.board.best_groups(read(f"{self.room}/enough/certificate"))
+        self.expect(f"with {ENOUGH_STEPS} steps for a piece it proves the same grouping", is_same)
+        self.quiet = Quiet(seconds, certificate, events, best or [])
 
     def disturb(self, folder: str) -> None:
         """Puts texts into the folder as if desks had sent them.
@@ -248,45 +278,78 @@ class Drill:
                 os.rename(f"{name}.part", f"{name}.events")
 
     def run_and_kill(self, name: str, told: TextIO) -> Course:
-        """Runs the loop, kills and disturbs it, and starts it again until it ends by itself."""
+        """Runs the ring, kills and disturbs it, and starts it again until it ends by itself."""
         unruly = self.board.file(f"{name}.unruly", UNRULY)
         os.chmod(unruly, 0o755)
         setting = {**os.environ, "COUNTYGROUPS": unruly, "PROGRAM": self.board.program}
-        words = self.board.loop_words(name, "grouping", self.quiet.steps)
-        starts, killed = 0, 0
-        status: Optional[int] = None
-        while status != 0 and starts < 5 * KILLS:
-            starts += 1
-            time.sleep(0.1)
+        words = self.board.ring_words(name, "grouping", FEW_STEPS)
+        course = Course(None, 0, 0, 0, 0)
+        while course.status != 0 and course.starts < 5 * KILLS:
             process = subprocess.Popen(
                 words, start_new_session=True, env=setting, stdout=told, stderr=told
             )
-            patience = None
-            if killed < KILLS:
-                patience = self.random.uniform(0.02, 0.4) * self.quiet.seconds
+            course = course._replace(starts=course.starts + 1)
             try:
-                status = process.wait(patience)
-            except subprocess.TimeoutExpired:
-                killed += 1
-                end(process, self.random.choice(("all", "loop", "stop")))
+                course = self.watch(process, course)
             except SystemExit:
                 end(process, "all")
                 raise
+            if course.status != 0 and self.tear(f"{self.room}/{name}/events"):
+                course = course._replace(torn=course.torn + 1)
             self.disturb(f"{self.room}/{name}")
-        return Course(status, starts, killed)
+        return course
+
+    def watch(self, process: subprocess.Popen[bytes], course: Course) -> Course:
+        """Waits for a ring, kills one of its processes at times, and ends it if it is to be."""
+        while True:
+            patience = None
+            if course.killed < KILLS:
+                patience = START + self.random.uniform(0.02, 0.4) * self.quiet.seconds
+            try:
+                return course._replace(status=process.wait(patience))
+            except subprocess.TimeoutExpired:
+                pass
+            if self.random.random() < 0.6:
+                course = course._replace(killed=course.killed + 1, status=None)
+                end(process, self.random.choice(("all", "ring", "stop")))
+                return course
+            children = course.children + self.kill_child(process.pid)
+            course = course._replace(children=children)
+
+    def kill_child(self, ring: int) -> bool:
+        """Kills the board or a desk of a ring, and returns whether there was one."""
+        try:
+            children = read(f"/proc/{ring}/task/{ring}/children").split()
+            if children:
+                os.kill(int(self.random.choice(children)), signal.SIGKILL)
+        except OSError:
+            return False
+        return bool(children)
+
+    def tear(self, journal: str) -> bool:
+        """Cuts bytes off the end of the journal at times, and returns whether it did."""
+        if not os.path.exists(journal) or self.random.random() < 0.5:
+            return False
+        size = os.path.getsize(journal)
+        cut = self.random.randrange(1, 200)
+        if size:
+            os.truncate(journal, max(0, size - cut))
+        return size > 0
 
     def disturbed(self, name: str) -> None:
-        """Runs the loop disturbed, and compares its certificate."""
+        """Runs the ring disturbed, and compares its certificate."""
         with open(f"{self.room}/{name}.told", "a+") as told:
             course = self.run_and_kill(name, told)
         folder = f"{self.room}/{name}"
         path = f"{folder}/certificate"
-        same = os.path.exists(path) and read(path) == self.quiet.certificate
-        is_right = course.status == 0 and same
-        what = f"the disturbed loop {name} joins the same bytes"
-        times = f"killed {course.killed} times, started {course.starts} times"
+        certificate = read(path) if os.path.exists(path) else ""
+        is_right = course.status == 0 and self.board.best_groups(certificate) == self.quiet.best
+        what = f"the disturbed ring {name} joins a proof of the same grouping"
+        times = f"started {course.starts} times, ended {course.killed}"
+        times += f", its processes {course.children}, its journal torn {course.torn} times"
         aside = f"{len(os.listdir(f'{folder}/refused'))} texts set aside"
-        self.expect(what, is_right, f"{times}, {aside}")
+        same = "the same bytes" if certificate == self.quiet.certificate else "other bytes"
+        self.expect(what, is_right, f"{times}, {aside}, {same}")
         if not is_right:
             print(read(f"{self.room}/{name}.told")[-2000:])
 
@@ -451,6 +514,14 @@ class Drill:
             "false parts are refused, and some of these boards join", joined > 0 and is_refused
         )
 
+    # ---- the board that goes on ----
+
+    def served(self) -> None:
+        """Tells whether `board` replied as `share` did."""
+        what = "`board` replies to the same events as `share`"
+        served, differ = self.board.served, self.board.differ
+        self.expect(what, differ == 0 and served > 0, f"{served} texts, {differ} differ")
+
 
 def near_places() -> list[tuple[int, int]]:
     """Returns the places of adjacent counties, each beside those to the right and below."""
@@ -495,12 +566,12 @@ def renumbered(event: str, number: int) -> str:
 
 
 def end(process: subprocess.Popen[bytes], how: str) -> None:
-    """Ends the loop: with all that it started, or the loop alone, or as a person would stop it."""
+    """Ends the ring: with all that it started, or the ring alone, or as a person would stop it."""
     try:
         if how == "all":
             os.killpg(process.pid, signal.SIGKILL)
         else:
-            os.kill(process.pid, signal.SIGKILL if how == "loop" else signal.SIGTERM)
+            os.kill(process.pid, signal.SIGKILL if how == "ring" else signal.SIGTERM)
     except ProcessLookupError:
         pass
     process.wait()
@@ -522,7 +593,7 @@ def stop(*_: object) -> None:
 
 
 def main() -> int:
-    """Runs the seven parts, and returns 1 if a claim doesn't hold."""
+    """Runs the eight parts, and returns 1 if a claim doesn't hold."""
     if len(sys.argv) not in (2, 3):
         sys.exit(__doc__)
     began = time.time()
@@ -532,12 +603,13 @@ def main() -> int:
         drill = Drill(os.path.realpath(sys.argv[1]), seed, room)
         drill.from_a_poor_grouping()
         drill.undisturbed()
-        for name in ("one", "two"):
+        for name in ("one", "two", "three", "four", "five"):
             drill.disturbed(name)
         drill.orders()
         drill.falsehoods()
         drill.parts()
         drill.false_parts()
+        drill.served()
         print(f"{time.time() - began:.0f} seconds")
         print(f"{drill.passed} passed, {drill.failed} failed")
     return 1 if drill.failed else 0

@@ -80,6 +80,8 @@ REPLY = (
     rf"|new round {NUMBER}|old round|no such piece|already done|already split|cant split"
     r"|not a proof|not a part|not better|cant widen|too many pieces|budget|memory)\n"
 )
+TOLD_ROUND = rf"round {NUMBER} {NUMBER} {NUMBER}\n(?:group {NUMBER} {CODES}\n)*"
+TOLD_PIECE = rf"open {NUMBER} {NUMBER}\n(?:closed {CODES}\n)*(?:least {CODE} {NUMBER}\n)*end\n"
 WEIGHED = rf"weigh {NUMBER}(?: {CODE}:{NUMBER})*"
 BRANCH = rf"branch {CODE}(?: {NUMBER})?|take {CODES}|mark"
 TREE = rf"(?:(?:{BRANCH}|stuck {CODE}|seats|bound {NUMBER}|room|{WEIGHED})\n)+"
@@ -93,6 +95,12 @@ GROUPING = rf"(?:{NUMBER}\|{CODE}(?:\|{CODE})*\n)*"
 SEAT_RANGE = rf"(?:none|{NUMBER}\|{NUMBER})"
 BEST = rf"{HEAD}answer best\n{GROUPS}"
 IMPOSSIBLE = rf"{HEAD}answer impossible\n"
+# What a board has said when it ends, and what a desk has.
+SAID = rf"{TOLD_ROUND}(?:{TOLD_PIECE})*(?:{REPLY}(?:{TOLD_ROUND})?(?:{TOLD_PIECE})*)*"
+ANSWERED = (
+    rf"(?:result {NUMBER} {NUMBER}\n{TREE}|part {NUMBER} {NUMBER}\n{PART}|open\n|no such piece\n"
+    rf"|better {NUMBER} {NUMBER}\n(?:group {NUMBER} {CODES}\n)*|wider {NUMBER}\n)*"
+)
 # The texts of each command, each with the status that it ends with.
 TEXTS = {
     "size": [
@@ -134,6 +142,19 @@ TEXTS = {
         (4, r"no such piece\n"),
         BUDGET,
         BOARD,
+    ],
+    "board": [
+        (0, rf"{SAID}joined\n"),
+        (3, rf"{SAID}left {NUMBER}\n(?:open {NUMBER} {NUMBER}\n)*"),
+        (4, rf"{SAID}refused events {WORD_KIND} line {NUMBER}\n"),
+        (5, rf"{SAID}memory\n"),
+        BUDGET,
+        BOARD,
+    ],
+    "desk": [
+        (0, ANSWERED),
+        (4, rf"{ANSWERED}refused pieces {WORD_KIND} line {NUMBER}\n"),
+        (5, rf"{ANSWERED}memory\n"),
     ],
     "audit": [(0, r"findings 0\n"), (1, rf"findings [1-9][0-9]*\n(?:{FINDING})+")],
 }
@@ -540,16 +561,24 @@ def read_lines(words: Words, files: Files, record: bytes) -> List[bytes]:
     lines = []
     for file, option in INPUTS:
         name = named_by(words, option)
-        if name is None or file == "certificate" and words[0] in ("solve", "share"):
+        if name is None or file == "certificate" and words[0] in ("solve", "share", "board"):
             continue
-        held, is_left = held_by(words, files, option), False
-        head, shown = f"read {file} ".encode(), escaped(os.fsencode(name))
-        left_line = rb"^%s([0-9]+) [0-9a-f]{64} %s left$" % (head, re.escape(shown))
-        left = re.search(left_line, record, re.MULTILINE)
-        if left is not None:
-            held, is_left = held[: int(left[1])], True
-        lines.append(head + sum_of(held) + b" " + shown + b" left" * is_left)
+        lines.append(read_line(file, name, held_by(words, files, option), record))
+    if words[0] in ("board", "desk"):
+        name = "/dev/stdin"
+        lines.append(read_line("events", name, files.get(name, b""), record))
     return lines
+
+
+def read_line(file: str, name: str, held: bytes, record: bytes) -> bytes:
+    """Returns the line that a record has for a file of these bytes."""
+    is_left = False
+    head, shown = f"read {file} ".encode(), escaped(os.fsencode(name))
+    left_line = rb"^%s([0-9]+) [0-9a-f]{64} %s left$" % (head, re.escape(shown))
+    left = re.search(left_line, record, re.MULTILINE)
+    if left is not None:
+        held, is_left = held[: int(left[1])], True
+    return head + sum_of(held) + b" " + shown + b" left" * is_left
 
 
 def wrong_record(
