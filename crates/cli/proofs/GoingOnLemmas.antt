@@ -1,16 +1,20 @@
 -- What calls came to that write as they go on, over one step and the next.
 use Rattle.std.proofs.Common.{◌≡◌, ◌≢◌, ◌⊎◌, ◌++◌, ℕ, length, List, [], ◌∷◌, Option, Some, None, inl, inr, refl, sym, ap, subst, ◌∙◌}
-use Rattle.std.specs.Prelude.{Result, Ok, Err, option_map, true}
+use Rattle.std.specs.Prelude.{Result, Ok, Err, Bool, option_map}
+use Rattle.std.specs.Result.{IsErrAnd}
 use Rattle.std.specs.Borrow.{Bor}
 use Rattle.field_lines.specs.Source.{Given, nothing_given}
 use Rattle.grouping_laws.specs.Grouping.{Grouping}
 use Rattle.county_problem.specs.ProblemValue.{ProblemValue, problem_of}
 use Rattle.certificate_data.specs.Round as rounds
+use Rattle.certificate_data.specs.declared.format.Format as format_type
 use Rattle.certificate_lines.specs.Rest.{IsTextMemory}
 use Rattle.certificate_lines.specs.declared.fault.TextFault.{TextFault}
 use Rattle.certificate_lines.specs.declared.fault.TextKind.TheVariants as text_kind
 use Rattle.board_laws.specs.Content.{Content}
 use Rattle.board_events.specs.Coming.{Held, nothing_held, PullsOnto, TellsFault}
+use Rattle.board_texts.specs.Coming as texts
+use Rattle.desk_server.specs.Runs as desk
 use Rattle.board_report.specs.Rounds.{IsFirstRound}
 use Rattle.board_report.specs.BoardOutcome.{IsEnded}
 use Rattle.board_report.specs.declared.board_outcome.Shared.{Shared}
@@ -23,6 +27,8 @@ use Rattle.share_board.specs.declared.fault.BoardFault.TheVariants as board_faul
 use Rattle.share_board.specs.Rounds.{IsBoardFault}
 use Rattle.cli_words.specs.Words.{standard_input}
 use Rattle.cli_words.specs.declared.words.ServeWords.{ServeWords}
+use Rattle.cli_words.specs.declared.words.DeskWords.{DeskWords}
+use Rattle.cli_words.specs.declared.words.CommandWords.TheVariants.{Board as BoardCommand, Desk as DeskCommand}
 use Rattle.cli_file_stores.specs.declared.file_store.ReadEnd.{ReadEnd}
 use Rattle.cli_file_stores.specs.declared.file_store.FileStoreFault.{FileStoreFault}
 use Rattle.cli_file_stores.specs.Files.{NamedFile, Files}
@@ -31,15 +37,20 @@ use Rattle.cli_file_stores.specs.History.{History, HasRead}
 use Rattle.cli_answers.specs.declared.answer.RunAnswer.{RunAnswer}
 use Rattle.cli_answers.specs.declared.answer.Refusal.{Refusal}
 use Rattle.cli_answers.specs.declared.answer.Refusal.TheVariants.{Shown, Memory}
-use Rattle.cli_answers.specs.Answer.{Answered}
+use Rattle.cli_answers.specs.Answer.{Answered, success, memory_answer}
 use Rattle.cli_answers.specs.Answers.{answer_of, AnswerMeets, RefusalShows, IsShown, said_by}
-use Rattle.cli_answers.specs.Refusals.{file_store_answer, board_answer, events_answer}
-use Rattle.cli_runs.specs.Course.{Course, ◌>>=◌}
+use Rattle.cli_answers.specs.Refusals.{file_store_answer, board_answer, events_answer, pieces_answer}
+use Rattle.cli_runs.specs.Course.{Course, ◌>>=◌, value_step}
 use Rattle.cli_runs.specs.Reading.{GivenBack, open_step, read_step, read_one}
 use Rattle.cli_runs.specs.BoardCourse.{format_of, depth_of, limit_of_words}
 use Rattle.cli_runs.specs.ShareCourse.{share_answer}
-use Rattle.cli_runs.specs.ServeCourse.{ServedRun, HasServed, HasNoBoard, HasStood, HasRefused, HasFailed, RanOutOfMemory, IsServedRun, input_course}
-use Rattle.cli_runs.specs.DeskCourse.{DeskRun}
+use Rattle.cli_runs.specs.ServeCourse.{ServedRun, HasServed, HasNoBoard, HasStood, HasRefused, HasFailed, RanOutOfMemory, IsServedRun, input_course, serve_course}
+use Rattle.cli_runs.specs.DeskCourse.{DeskRun, HasProved, IsDeskRun, texts_course, desk_course}
+use Rattle.cli_runs.specs.Spoken.{behind}
+use Rattle.cli_runs.specs.Storing.{named_file, said_after, store_steps}
+use Rattle.cli_runs.specs.Run.{CommandRun}
+use Rattle.cli_runs.proofs.BoardTells.{named_none}
+use Rattle.cli.specs.Ends.{refusal_by}
 use Rattle.cli.specs.GoingOn.{StopsSilently, ServesBy, IsStopRefusal, DeskDone, ProvesBy}
 
 pub meets : (refusal : Refusal) (P Q : Answered → Type 0) → ((a : Answered) → P a → Q a) → AnswerMeets refusal P → AnswerMeets refusal Q
@@ -185,3 +196,137 @@ module _ (v : ProblemValue) (words : ServeWords) (g : Grouping) (round : rounds.
             served_of run.0 run.1 run.2,
             inr (inl (record { fault = fault; ended = to.ended; back_is = back; told = told; none = refl; answer = is.0 })),
           ))
+
+-- the shape of a board is that of its words
+pub shaped : (v : ProblemValue) (words : ServeWords) (g : Grouping) (format : format_type.Format) (limit depth : ℕ) → format ≡ format_of words.board.round → limit ≡ limit_of_words g words.board.round → depth ≡ depth_of words.board.round
+    → (from to : Given) (text : List ℕ) (result : Result Shared ServeStop) (round : rounds.Round) → IsFirstRound (problem_of v) g limit format round
+    → IsBoardRun (problem_of v) depth words.budget format (length v.counties) g round from to text result
+    → IsFirstRound (problem_of v) g (limit_of_words g words.board.round) (format_of words.board.round) round
+    × IsBoardRun (problem_of v) (depth_of words.board.round) words.budget (format_of words.board.round) (length v.counties) g round from to text result
+shaped v words g format limit depth f l d from to text result round first run = (
+  subst (λ z. IsFirstRound (problem_of v) g z (format_of words.board.round) round) l (subst (λ z. IsFirstRound (problem_of v) g limit z round) f first),
+  subst (λ z. IsBoardRun (problem_of v) (depth_of words.board.round) words.budget z (length v.counties) g round from to text result) f
+      (subst (λ z. IsBoardRun (problem_of v) z words.budget format (length v.counties) g round from to text result) d run),
+)
+
+-- a board ran over standard input
+pub input_ran : (files : Option Files) (v : ProblemValue) (words : ServeWords) (g : Grouping) (before after : History) (given : GivenBack) (s : ServedRun) → read_one files standard_input before after (Ok given) → IsServedRun v words g given s
+    → input_course files v words g before after (Ok s)
+input_ran files v words g before after given s read is = went_with (read_one files standard_input) (λ x. value_step (IsServedRun v words g x)) given before after after read (Ok s) (refl, is)
+
+-- steps meet a fault that is handed on, before anything was written
+pub serves_handed : {X : Type 0} (refusal : Refusal) (end : Result Shared Refusal) (first : Course X) (next : X → Course ServedRun) (before after : History) → IsErrAnd end (λ e. e ≡ refusal)
+    → AnswerMeets refusal (λ a. first before after (Err a)) → ServesBy (first >>= next) before after [] end
+serves_handed refusal (Ok s) first next before after i h = absurd i
+serves_handed refusal (Err e) first next before after i h =
+    subst (λ (r : Refusal). ServesBy (first >>= next) before after [] (Err r)) (sym i) (inl (silent_stop first next before after refusal h))
+
+pub proves_handed : {X : Type 0} (refusal : Refusal) (end : Result RunAnswer Refusal) (first : Course X) (next : X → Course DeskRun) (before after : History) → IsErrAnd end (λ e. e ≡ refusal)
+    → AnswerMeets refusal (λ a. first before after (Err a)) → ProvesBy (first >>= next) before after [] end
+proves_handed refusal (Ok s) first next before after i h = absurd i
+proves_handed refusal (Err e) first next before after i h =
+    subst (λ (r : Refusal). ProvesBy (first >>= next) before after [] (Err r)) (sym i) (inl (silent_stop first next before after refusal h))
+
+-- ---- the run of `board`
+
+module _ (files : Option Files) (words : ServeWords) (before between after : History) (text : List ℕ) where
+  abbrev Stops : Refusal → Type 0
+  Stops refusal = CommandRun files (BoardCommand words) before between [] (behind text (said_by (Err refusal)))
+
+  -- it stopped before anything was stored
+  stops_silently : (refusal : Refusal) → StopsSilently (serve_course files words) before between text refusal → Stops refusal
+  stops_silently (Shown a) h = subst (λ (t : List ℕ). CommandRun files (BoardCommand words) before between [] (behind t (answer_of a))) (sym h.0) (inr (inl (h.1, refl)))
+  stops_silently Memory h = subst (λ (t : List ℕ). CommandRun files (BoardCommand words) before between [] (behind t memory_answer)) (sym h.0) (inl (refl, refl))
+
+  stops_by : (refusal : Refusal) → ServesBy (serve_course files words) before between text (Err refusal) → Stops refusal
+  stops_by refusal (inl h) = stops_silently refusal h
+  stops_by refusal (inr h) =
+      let none : named_file words.certificate h.0.certificate ≡ [] = ap (named_file words.certificate) h.4 ∙ named_none words.certificate in
+      inr (inr (
+        h.0,
+        between,
+        None,
+        h.1,
+        subst (λ (fs : List NamedFile). store_steps fs between between [] None) (sym none) (refl, refl, refl),
+        ap (λ (t : List ℕ). behind t (said_by (Err refusal))) (sym h.2) ∙ ap (behind h.0.text) (sym h.3),
+      ))
+
+  pub board_stopped : (refusal : Refusal) (end : Result RunAnswer Refusal) → IsErrAnd end (λ e. e ≡ refusal) → ServesBy (serve_course files words) before between text (Err refusal)
+      → CommandRun files (BoardCommand words) before between [] (behind text (said_by end))
+  board_stopped refusal (Ok a) i h = absurd i
+  board_stopped refusal (Err e) i h = subst (λ (r : Refusal). CommandRun files (BoardCommand words) before between [] (behind text (said_by (Err r)))) (sym i) (stops_by refusal h)
+
+  -- it came to an answer, and its certificate was to be stored
+  pub board_ended : (shared : Shared) → ServesBy (serve_course files words) before between text (Ok shared) → (stored : List NamedFile) (refusal : Option Answered)
+      → store_steps (named_file words.certificate (option_map (λ t. t.items) shared.certificate)) between after stored refusal → (a : Answered) → a ≡ said_after refusal (share_answer shared)
+      → CommandRun files (BoardCommand words) before after stored (behind text a)
+  board_ended shared h stored refusal steps a is =
+      inr (inr (
+        h.0,
+        between,
+        refusal,
+        h.1,
+        subst (λ (o : Option (List ℕ)). store_steps (named_file words.certificate o) between after stored refusal) (sym h.4) steps,
+        ap (behind text) is ∙ ap (λ (t : List ℕ). behind t (said_after refusal (share_answer shared))) (sym h.2) ∙ ap (λ (e : Answered). behind h.0.text (said_after refusal e)) (sym h.3),
+      ))
+
+-- what was refused is said, whatever was to be said
+pub said_refused : (refusal : Refusal) (a : Answered) → said_by (Err refusal) ≡ said_after (refusal_by (Err refusal)) a
+said_refused (Shown b) a = refl
+said_refused Memory a = refl
+
+-- ---- the run of `desk`
+
+module _ (v : ProblemValue) (from to : Given) (fresh : from ≡ nothing_given) (text : List ℕ) (left : texts.Held) where
+  abbrev DeskGiven : Result ReadEnd FileStoreFault → GivenBack
+  DeskGiven answer = record { bytes = to.bytes; answer = answer }
+
+  abbrev desked : Answered → DeskRun
+  desked end = record { text = text; end = end }
+
+  proved_of : (result : Result (Unit {0}) TextFault) → desk.IsDeskRun (problem_of v) from to text left result → HasProved v to.bytes text left
+  proved_of result h = record {
+    texts = h.texts;
+    spelled = h.spelled;
+    read = h.pulls.given ∙ ap (λ (given : Given). given.bytes ++ h.pulls.pulled) fresh ∙ sym h.pulls.text_is ∙ h.read;
+    last = h.last;
+    answers = h.answers;
+  }
+
+  -- the texts ended
+  pub desk_done : desk.IsDeskRun (problem_of v) from to text left (Ok tt) → (end : ReadEnd) → end ≡ read_end to.ended → (a : Answered) → a ≡ success [] → IsDeskRun v (DeskGiven (Ok end)) (desked a)
+  desk_done h end back a is = (left, proved_of (Ok tt) h, inl (ap Ok back ∙ ap (λ (b : Bool). Ok (read_end b)) h.ends.0, h.ends.1, is))
+
+  -- a text was refused, or memory
+  pub desk_stopped : (fault : TextFault) → desk.IsDeskRun (problem_of v) from to text left (Err fault) → (end : ReadEnd) → end ≡ read_end to.ended → (refusal : Refusal) → RefusalShows (pieces_answer fault) refusal
+      → (IsShown refusal → fault.kind ≢ text_kind.Memory) → IsDeskRun v (DeskGiven (Ok end)) (desked (said_by (Err refusal)))
+  desk_stopped fault h end back Memory shows shown = (left, proved_of (Err fault) h, inr (inr (inr refl)))
+  desk_stopped fault h end back (Shown a) shows shown = by_end h.ends
+    where
+      by_end : IsTextMemory fault ⊎ texts.TellsFault left to.ended fault left → IsDeskRun v (DeskGiven (Ok end)) (desked (answer_of a))
+      by_end (inl memory) = absurd (shown tt memory)
+      by_end (inr told) = (left, proved_of (Err fault) h, inr (inl (record { fault = fault; ended = to.ended; back_is = ap Ok back; told = told; answer = shows })))
+
+  -- the reader failed
+  pub desk_failed : (result : Result (Unit {0}) TextFault) → desk.IsDeskRun (problem_of v) from to text left result → (fault : FileStoreFault) (refusal : Refusal) → RefusalShows (file_store_answer standard_input fault) refusal
+      → IsDeskRun v (DeskGiven (Err fault)) (desked (said_by (Err refusal)))
+  desk_failed result h fault (Shown a) shows = (left, proved_of result h, inr (inr (inl (fault, refl, shows))))
+  desk_failed result h fault Memory shows = (left, proved_of result h, inr (inr (inr refl)))
+
+-- a desk ran over standard input
+pub texts_ran : (files : Option Files) (v : ProblemValue) (before after : History) (given : GivenBack) (s : DeskRun) → read_one files standard_input before after (Ok given) → IsDeskRun v given s
+    → texts_course files v before after (Ok s)
+texts_ran files v before after given s read is = went_with (read_one files standard_input) (λ x. value_step (IsDeskRun v x)) given before after after read (Ok s) (refl, is)
+
+module _ (files : Option Files) (words : DeskWords) (before after : History) (text : List ℕ) where
+  desk_of : (result : Result RunAnswer Refusal) → DeskDone (desk_course files words) before after text result → CommandRun files (DeskCommand words) before after [] (behind text (said_by result))
+  desk_of result h = inr (inr (h.0, h.1, ap (λ (t : List ℕ). behind t (said_by result)) (sym h.2) ∙ ap (behind h.0.text) (sym h.3)), refl)
+
+  desk_silent : (refusal : Refusal) → StopsSilently (desk_course files words) before after text refusal → CommandRun files (DeskCommand words) before after [] (behind text (said_by (Err refusal)))
+  desk_silent (Shown a) h = subst (λ (t : List ℕ). CommandRun files (DeskCommand words) before after [] (behind t (answer_of a))) (sym h.0) (inr (inl h.1, refl))
+  desk_silent Memory h = subst (λ (t : List ℕ). CommandRun files (DeskCommand words) before after [] (behind t memory_answer)) (sym h.0) (inl (refl, refl))
+
+  pub desk_ran : (result : Result RunAnswer Refusal) → ProvesBy (desk_course files words) before after text result → CommandRun files (DeskCommand words) before after [] (behind text (said_by result))
+  desk_ran (Ok a) h = desk_of (Ok a) h
+  desk_ran (Err refusal) (inl h) = desk_silent refusal h
+  desk_ran (Err refusal) (inr h) = desk_of (Err refusal) h
