@@ -41,7 +41,7 @@ use Rattle.cli_file_stores.specs.Files.{NamedFile, Files}
 use Rattle.cli_answers.specs.Answer.{Answered}
 use Rattle.cli_runs.specs.FilesProblem.{AreCountiesOfFiles, IsReadAsIfNamed, IsProblemOfFiles, IsGroupingIfNamed}
 use Rattle.cli_runs.specs.ListCourse.{listing_answer}
-use Rattle.cli_runs.specs.ServeCourse.{standard_input}
+use Rattle.cli_words.specs.Words.{standard_input}
 use Rattle.cli_runs.specs.Headline.{TellsNone, TellsFault, JudgeTellsLawful, ListTellsAll, ShareTellsBest, ServeTellsBest, DeskTells, Tells}
 use Rattle.cli_runs.proofs.FilesRead.{counties_of_files}
 

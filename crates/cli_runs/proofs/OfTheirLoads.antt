@@ -49,7 +49,8 @@ use Rattle.cli_runs.specs.BoardCourse.{format_of, depth_of, AreEvents, events_of
 use Rattle.cli_runs.specs.ShareCourse.{share_answer, share_course, joined_file}
 use Rattle.cli_runs.specs.PieceCourse.{piece_said, piece_course}
 use Rattle.cli_runs.specs.Spoken.{behind}
-use Rattle.cli_runs.specs.ServeCourse.{standard_input, ServedRun, IsServedRun, serve_course}
+use Rattle.cli_words.specs.Words.{standard_input}
+use Rattle.cli_runs.specs.ServeCourse.{ServedRun, IsServedRun, serve_course}
 use Rattle.cli_runs.specs.DeskCourse.{IsDeskRun, desk_course, DeskEnds}
 use Rattle.cli_record.specs.RecordFiles.{record_name_of}
 use Rattle.cli_runs.specs.Course.{Course, CourseEndsIn}

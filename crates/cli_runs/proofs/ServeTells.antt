@@ -24,7 +24,8 @@ use Rattle.cli_runs.specs.FilesProblem.{IsProblemOfFiles, IsGroupingOfFile}
 use Rattle.cli_runs.specs.ShareCourse.{left_status}
 use Rattle.cli_runs.specs.Storing.{named_file, said_after}
 use Rattle.cli_runs.specs.Spoken.{behind}
-use Rattle.cli_runs.specs.ServeCourse.{standard_input, ServedRun, HasServed, HasNoBoard, HasStood, IsServedRun, serve_course}
+use Rattle.cli_words.specs.Words.{standard_input}
+use Rattle.cli_runs.specs.ServeCourse.{ServedRun, HasServed, HasNoBoard, HasStood, IsServedRun, serve_course}
 use Rattle.cli_runs.specs.DeskCourse.{DeskRun, HasProved, DeskStops, IsDeskRun, desk_course}
 use Rattle.cli_runs.specs.Run.{CommandRun}
 use Rattle.cli_runs.specs.Headline.{BeginsWith, ServedEvents, Tells}
