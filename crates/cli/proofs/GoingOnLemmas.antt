@@ -49,7 +49,6 @@ use Rattle.cli_runs.specs.DeskCourse.{DeskRun, HasProved, IsDeskRun, texts_cours
 use Rattle.cli_runs.specs.Spoken.{behind}
 use Rattle.cli_runs.specs.Storing.{named_file, said_after, store_steps}
 use Rattle.cli_runs.specs.Run.{CommandRun}
-use Rattle.cli_runs.proofs.BoardTells.{named_none}
 use Rattle.cli.specs.Ends.{refusal_by}
 use Rattle.cli.specs.GoingOn.{StopsSilently, ServesBy, IsStopRefusal, DeskDone, ProvesBy}
 
@@ -132,10 +131,10 @@ module _ (v : ProblemValue) (words : ServeWords) (g : Grouping) (round : rounds.
   abbrev given_back : Result ReadEnd FileStoreFault → GivenBack
   given_back answer = record { bytes = to.bytes; answer = answer }
 
-  abbrev stood : Shared → ServedRun
+  abbrev pub stood : Shared → ServedRun
   stood shared = record { text = text; certificate = option_map (λ t. t.items) shared.certificate; end = share_answer shared }
 
-  abbrev refused : Refusal → ServedRun
+  abbrev pub refused : Refusal → ServedRun
   refused refusal = record { text = text; certificate = None; end = said_by (Err refusal) }
 
   -- the board stands so, and its reader was given back
@@ -229,6 +228,10 @@ proves_handed refusal (Err e) first next before after i h =
 
 -- ---- the run of `board`
 
+unnamed : (name : Option (Bor (List ℕ))) → named_file name None ≡ []
+unnamed None = refl
+unnamed (Some name) = refl
+
 module _ (files : Option Files) (words : ServeWords) (before between after : History) (text : List ℕ) where
   abbrev Stops : Refusal → Type 0
   Stops refusal = CommandRun files (BoardCommand words) before between [] (behind text (said_by (Err refusal)))
@@ -241,7 +244,7 @@ module _ (files : Option Files) (words : ServeWords) (before between after : His
   stops_by : (refusal : Refusal) → ServesBy (serve_course files words) before between text (Err refusal) → Stops refusal
   stops_by refusal (inl h) = stops_silently refusal h
   stops_by refusal (inr h) =
-      let none : named_file words.certificate h.0.certificate ≡ [] = ap (named_file words.certificate) h.4 ∙ named_none words.certificate in
+      let none : named_file words.certificate h.0.certificate ≡ [] = ap (named_file words.certificate) h.4 ∙ unnamed words.certificate in
       inr (inr (
         h.0,
         between,
@@ -281,7 +284,7 @@ module _ (v : ProblemValue) (from to : Given) (fresh : from ≡ nothing_given) (
   abbrev DeskGiven : Result ReadEnd FileStoreFault → GivenBack
   DeskGiven answer = record { bytes = to.bytes; answer = answer }
 
-  abbrev desked : Answered → DeskRun
+  abbrev pub desked : Answered → DeskRun
   desked end = record { text = text; end = end }
 
   proved_of : (result : Result (Unit {0}) TextFault) → desk.IsDeskRun (problem_of v) from to text left result → HasProved v to.bytes text left
