@@ -4,3 +4,4 @@ pub mod CommandLemmas
 pub mod ReaderLemmas
 pub mod RecordLemmas
 pub mod TableLemmas
+pub mod WrittenLemmas
