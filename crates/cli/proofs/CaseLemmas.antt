@@ -20,19 +20,19 @@ nothing_stored : (stored files : List NamedFile) → stored ≡ [] → (λ name.
 nothing_stored stored files none = fun_ext (λ name. rw none refl)
 
 -- an answer over such a file store, with the files that were stored since
-pub words_over : (began files now : List NamedFile) (words : List (List ℕ)) (text after : List ℕ) (status : ℕ) (stored : List NamedFile) (first events : List FileStoreEvent)
-    → began ≡ [] → first ≡ [] → Some now ≡ option_map (λ held. with_files held stored) (Some began) → after ≡ text ++ stored_text now
-    → IsRunAnswer (Some (λ name. option_or (held began name) (held files name))) words (record { failures = 0; events = first }) (record { failures = 0; events = events }) stored (record { text = text; status = status })
-    → WordsOver files words (record { text = after; status = status })
-words_over began files now words text after status stored first events none fresh kept is answer =
+pub words_over : (began files now : List NamedFile) (words : List (List ℕ)) (run : Answered) (after : List ℕ) (stored : List NamedFile) (first events : List FileStoreEvent)
+    → began ≡ [] → first ≡ [] → Some now ≡ option_map (λ held. with_files held stored) (Some began) → after ≡ run.text ++ stored_text now
+    → IsRunAnswer (Some (λ name. option_or (held began name) (held files name))) words (record { failures = 0; events = first }) (record { failures = 0; events = events }) stored run
+    → WordsOver files words (record { text = after; status = run.status })
+words_over began files now words run after stored first events none fresh kept is answer =
     let same : now ≡ with_files [] stored = some_same kept ∙ ap (λ (l : List NamedFile). with_files l stored) none in
     record {
-      run = record { text = text; status = status };
+      run = run;
       stored = stored;
       events = events;
-      answer = subst (λ (f : Files). IsRunAnswer (Some f) words no_history (record { failures = 0; events = events }) stored (record { text = text; status = status })) (nothing_stored began files none)
-          (subst (λ (l : List FileStoreEvent). IsRunAnswer (Some (λ name. option_or (held began name) (held files name))) words (record { failures = 0; events = l }) (record { failures = 0; events = events }) stored (record { text = text; status = status })) fresh answer);
-      followed = ap (λ (t : List ℕ). record { text = t; status = status }) (is ∙ ap (λ (l : List NamedFile). text ++ stored_text l) same);
+      answer = subst (λ (f : Files). IsRunAnswer (Some f) words no_history (record { failures = 0; events = events }) stored run) (nothing_stored began files none)
+          (subst (λ (l : List FileStoreEvent). IsRunAnswer (Some (λ name. option_or (held began name) (held files name))) words (record { failures = 0; events = l }) (record { failures = 0; events = events }) stored run) fresh answer);
+      followed = ap (λ (t : List ℕ). record { text = t; status = run.status }) (is ∙ ap (λ (l : List NamedFile). run.text ++ stored_text l) same);
     }
   where
     some_same : {x y : List NamedFile} → Some x ≡ Some y → x ≡ y

@@ -1,5 +1,5 @@
 -- What the calls of a run come to together.
-use Rattle.std.proofs.Common.{◌≡◌, ℕ, true, List, [], Option, inl, inr, refl}
+use Rattle.std.proofs.Common.{◌≡◌, ℕ, Bool, true, List, [], Option, inl, inr, refl, sym, subst}
 use Rattle.std.specs.Prelude.{Result, Ok, Err, IfOk}
 use Rattle.std.specs.declared.alloc.AllocError.{AllocError}
 use Rattle.cli_file_stores.specs.Files.{NamedFile, Files}
@@ -13,6 +13,12 @@ use Rattle.cli_answers.specs.declared.answer.Refusal.TheVariants.{Shown, Memory}
 use Rattle.cli_answers.specs.Answer.{Answered}
 use Rattle.cli_answers.specs.Answers.{answer_of, said_by, Comes}
 use Rattle.cli_runs.specs.Course.{Course, CourseEndsIn}
+use Rattle.cli_runs.specs.Spoken.{behind}
+use Rattle.cli_runs.specs.Storing.{HasStored}
+use Rattle.written_output.specs.declared.written.Written.{Written}
+use Rattle.written_output.specs.Writing.{IsWritten}
+use Rattle.written_output.proofs.Texts.{written_none}
+use Rattle.cli_runs.proofs.StoreLemmas.{none_stored}
 use Rattle.cli_record.specs.RecordFiles.{record_name_of}
 use Rattle.cli_runs.specs.Run.{CommandEnds, CommandRun, IsEndAnswer, IsRunAnswer, RunsAsAsked}
 use Rattle.cli.specs.Ends.{said_of}
@@ -24,6 +30,27 @@ pub quiet_run : (files : Option Files) (command : CommandWords) (steps : Course 
 quiet_run files command steps before after (Ok a) k h = inr (k (answer_of a) (inl h))
 quiet_run files command steps before after (Err (Shown a)) k h = inr (k (answer_of a) (inr h))
 quiet_run files command steps before after (Err Memory) k h = inl (refl, refl)
+
+-- what a run of a command comes to, that writes to a sink as it goes on
+module _ (files later : Option Files) (listed last : Option (List NamedFile)) (before after : History) where
+  abbrev pub Ran : CommandWords → Answered → Type 0
+  Ran command a = (stored : List NamedFile) × HasStored files later listed last stored × CommandRun files command before after stored a
+
+  module _ (held holds : Option (List ℕ)) (was_failed is_failed : Bool) (begun written : Written) where
+    abbrev pub RanWriting : CommandWords → Answered → Type 0
+    RanWriting command a =
+        (stored : List NamedFile) × (text : List ℕ) × HasStored files later listed last stored × IsWritten held holds was_failed is_failed begun written text
+        × CommandRun files command before after stored (behind text a)
+
+    -- a command that is known
+    pub writing_run : (command meant : CommandWords) (a : Answered) → command ≡ meant → RanWriting meant a → RanWriting command a
+    writing_run command meant a is run = subst (λ (c : CommandWords). RanWriting c a) (sym is) run
+
+-- a command that writes nothing before its answer
+pub silent_run : (files later : Option Files) (listed last : Option (List NamedFile)) (before after : History) (held : Option (List ℕ)) (failed : Bool) (written : Written) (command meant : CommandWords) (a : Answered)
+    → command ≡ meant → Ran files later listed last before after meant a → RanWriting files later listed last before after held held failed failed written written command a
+silent_run files later listed last before after held failed written command meant a is run =
+    writing_run files later listed last before after held held failed failed written written command meant a is (run.0, [], run.1, written_none held failed written, run.2)
 
 -- words that give no command
 pub ended_words : (files : Option Files) (list : List (List ℕ)) (n : History) (end : WordsEnd) (answer : Result RunAnswer AllocError)

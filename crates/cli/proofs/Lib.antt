@@ -5,3 +5,4 @@ pub mod ReaderLemmas
 pub mod RecordLemmas
 pub mod TableLemmas
 pub mod GoingOnLemmas
+pub mod WrittenLemmas

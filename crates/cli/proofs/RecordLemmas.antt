@@ -6,5 +6,5 @@ use Rattle.cli_answers.specs.Answer.{memory_answer}
 use Rattle.cli_runs.specs.Recording.{RecordEnds}
 
 -- a growth was refused in the command, so that no record is stored
-pub unanswered : (words : List (List ℕ)) (command : CommandWords) (name : List ℕ) (before between : History) → RecordEnds words command name before between between [] memory_answer memory_answer
-unanswered words command name before between = inl (refl, record { still = refl; none = refl; answer = refl })
+pub unanswered : (words : List (List ℕ)) (command : CommandWords) (name : List ℕ) (before between : History) (written : List ℕ) → RecordEnds words command name before between between [] written memory_answer memory_answer
+unanswered words command name before between written = inl (refl, record { still = refl; none = refl; answer = refl })

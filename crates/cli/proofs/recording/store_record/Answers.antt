@@ -3,7 +3,7 @@ use Rattle.cli_runs.proofs.StoreLemmas.{none_stored}
 use Rattle.cli.proofs.recording.store_record.Goals as goal
 
 pub returns-else-is_recorded : goal.returns-else-is_recorded
-returns-else-is_recorded g c = λ before is.
+returns-else-is_recorded g c = λ before front is kept.
     let files = g.H.FileStore.contents c.args.file_store.now in
     let listed = g.H.FileStore.stored c.args.file_store.now in (
       [],
