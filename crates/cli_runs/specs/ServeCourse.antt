@@ -1,6 +1,6 @@
 -- The steps of `board`: the problem is built and the grouping is read, a board takes events from standard input as they
 -- come, and the certificate that it joins is stored.
-use Rattle.std.specs.Prelude.{◌≡◌, ◌⊎◌, ◌++◌, ℕ, Bool, true, List, [], length, Option, None, option_map, codes}
+use Rattle.std.specs.Prelude.{◌≡◌, ◌⊎◌, ◌++◌, ℕ, Bool, true, List, [], length, Option, None, option_map}
 use Rattle.std.specs.Prelude.{Result, Ok, Err}
 use Rattle.field_lines.specs.Source.{nothing_given}
 use Rattle.grouping_laws.specs.Grouping.{Grouping}

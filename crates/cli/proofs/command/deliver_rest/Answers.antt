@@ -9,4 +9,4 @@ returns-then-is_cut g c = λ begun fresh front is h.
 pub returns-else-is_cut : goal.returns-else-is_cut
 returns-else-is_cut g c = λ begun fresh front is h.
     delivers_behind (g.W.Sink.is_failed c.deliver.new.out) (g.W.Sink.contents begun) (g.W.Sink.contents c.args.out.now) (g.W.Sink.contents c.deliver.new.out) front (record { text = c.args.text.now; status = c.args.status }) c.deliver.result
-        (h.whole c.if-is_cut.false).1 c.deliver.ensures
+    (h.whole c.if-is_cut.false).1 c.deliver.ensures

@@ -21,7 +21,7 @@ returns-in-Ok g c =
     let run = c.in-Ok.ensures in
     let text = run.1 in
     let written = written_from_fresh (g.W.Sink.contents c.args.out.now) (g.W.Sink.contents c.command_answer.new.out) (g.W.Sink.is_failed c.args.out.now) (g.W.Sink.is_failed c.command_answer.new.out) c.args.written.now c.keep_all.new.self c.command_answer.new.written text
-        c.requires.fresh c.keep_all.ensures.kept c.keep_all.ensures.uncut run.3 in
+    c.requires.fresh c.keep_all.ensures.kept c.keep_all.ensures.uncut run.3 in
     let end = c.store_record.ensures before text c.events-first.ensures (run.3.kept [] c.keep_all.ensures.kept) in
     let own = from_start (g.H.FileStore.contents c.args.file_store.now) (g.H.FileStore.contents c.keep_sums.new.self) (g.H.FileStore.contents c.command_answer.new.file_store) (g.H.FileStore.stored c.args.file_store.now) (g.H.FileStore.stored c.keep_sums.new.self) (g.H.FileStore.stored c.command_answer.new.file_store) run.0 c.keep_sums.ensures.same c.keep_sums.ensures.kept run.2 in
     let begun = subst (λ (n : History). CommandRun (g.H.FileStore.contents c.keep_sums.new.self) c.args.command n between run.0 (behind text (answer_of c.in-Ok.answer))) c.keep_sums.ensures.still run.4 in
@@ -51,7 +51,7 @@ returns-in-Err g c =
     let run = c.in-Err.ensures in
     let text = run.1 in
     let written = written_from_fresh (g.W.Sink.contents c.args.out.now) (g.W.Sink.contents c.command_answer.new.out) (g.W.Sink.is_failed c.args.out.now) (g.W.Sink.is_failed c.command_answer.new.out) c.args.written.now c.keep_all.new.self c.command_answer.new.written text
-        c.requires.fresh c.keep_all.ensures.kept c.keep_all.ensures.uncut run.3 in
+    c.requires.fresh c.keep_all.ensures.kept c.keep_all.ensures.uncut run.3 in
     let own = from_start (g.H.FileStore.contents c.args.file_store.now) (g.H.FileStore.contents c.keep_sums.new.self) (g.H.FileStore.contents c.command_answer.new.file_store) (g.H.FileStore.stored c.args.file_store.now) (g.H.FileStore.stored c.keep_sums.new.self) (g.H.FileStore.stored c.command_answer.new.file_store) run.0 c.keep_sums.ensures.same c.keep_sums.ensures.kept run.2 in
     let begun = subst (λ (n : History). CommandRun (g.H.FileStore.contents c.keep_sums.new.self) c.args.command n between run.0 (behind text memory_answer)) c.keep_sums.ensures.still run.4 in
     let told = subst (λ (files : Option Files). CommandRun files c.args.command before between run.0 (behind text memory_answer)) c.keep_sums.ensures.same begun in (
