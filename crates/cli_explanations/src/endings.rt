@@ -162,7 +162,7 @@ fn explain_ending(
         Ending::NoSuchGrouping(count) => explain_number(out, *count),
         Ending::Unlisted(count) => explain_unlisted(out, options, *count),
         Ending::Board(fault) => explain_board(out, options, fault),
-        Ending::PiecesLeft(left) => explain_left(out, *left),
+        Ending::PiecesLeft(left) => explain_left(out, options, *left),
         Ending::PieceOpen(is_part) => explain_open_piece(out, *is_part),
         Ending::NoSuchPiece => explain_no_piece(out),
         Ending::Done => Ok(()),
