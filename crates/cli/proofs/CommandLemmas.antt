@@ -18,7 +18,6 @@ use Rattle.cli_runs.specs.Storing.{HasStored}
 use Rattle.written_output.specs.declared.written.Written.{Written}
 use Rattle.written_output.specs.Writing.{IsWritten}
 use Rattle.written_output.proofs.Texts.{written_none}
-use Rattle.cli_runs.proofs.StoreLemmas.{none_stored}
 use Rattle.cli_record.specs.RecordFiles.{record_name_of}
 use Rattle.cli_runs.specs.Run.{CommandEnds, CommandRun, IsEndAnswer, IsRunAnswer, RunsAsAsked}
 use Rattle.cli.specs.Ends.{said_of}

@@ -1,5 +1,5 @@
 -- What calls came to that write as they go on, over one step and the next.
-use Rattle.std.proofs.Common.{◌≡◌, ◌≢◌, ◌⊎◌, ◌++◌, ℕ, length, List, [], ◌∷◌, Option, Some, None, inl, inr, refl, sym, ap, subst, ◌∙◌}
+use Rattle.std.proofs.Common.{◌≡◌, ◌≢◌, ◌⊎◌, ◌++◌, ℕ, length, List, [], Option, Some, None, inl, inr, refl, sym, ap, subst, ◌∙◌}
 use Rattle.std.specs.Prelude.{Result, Ok, Err, Bool, option_map}
 use Rattle.std.specs.Result.{IsErrAnd}
 use Rattle.std.specs.Borrow.{Bor}
@@ -12,18 +12,16 @@ use Rattle.certificate_lines.specs.Rest.{IsTextMemory}
 use Rattle.certificate_lines.specs.declared.fault.TextFault.{TextFault}
 use Rattle.certificate_lines.specs.declared.fault.TextKind.TheVariants as text_kind
 use Rattle.board_laws.specs.Content.{Content}
-use Rattle.board_events.specs.Coming.{Held, nothing_held, PullsOnto, TellsFault}
+use Rattle.board_events.specs.Coming.{Held, nothing_held, TellsFault}
 use Rattle.board_texts.specs.Coming as texts
 use Rattle.desk_server.specs.Runs as desk
 use Rattle.board_report.specs.Rounds.{IsFirstRound}
-use Rattle.board_report.specs.BoardOutcome.{IsEnded}
 use Rattle.board_report.specs.declared.board_outcome.Shared.{Shared}
 use Rattle.board_server.specs.Serving.{ServesFrom}
-use Rattle.board_server.specs.Runs.{RunsFrom, RunEnds, HasNoBoard as NoBoard, IsBoardRun}
+use Rattle.board_server.specs.Runs.{RunsFrom, HasNoBoard as NoBoard, IsBoardRun}
 use Rattle.board_server.specs.declared.runs.ServeStop.{ServeStop}
 use Rattle.board_server.specs.declared.runs.ServeStop.TheVariants.{Board, Events}
 use Rattle.share_board.specs.declared.fault.BoardFault.{BoardFault}
-use Rattle.share_board.specs.declared.fault.BoardFault.TheVariants as board_fault
 use Rattle.share_board.specs.Rounds.{IsBoardFault}
 use Rattle.cli_words.specs.Words.{standard_input}
 use Rattle.cli_words.specs.declared.words.ServeWords.{ServeWords}
@@ -39,12 +37,12 @@ use Rattle.cli_answers.specs.declared.answer.Refusal.{Refusal}
 use Rattle.cli_answers.specs.declared.answer.Refusal.TheVariants.{Shown, Memory}
 use Rattle.cli_answers.specs.Answer.{Answered, success, memory_answer}
 use Rattle.cli_answers.specs.Answers.{answer_of, AnswerMeets, RefusalShows, IsShown, said_by}
-use Rattle.cli_answers.specs.Refusals.{file_store_answer, board_answer, events_answer, pieces_answer}
+use Rattle.cli_answers.specs.Refusals.{file_store_answer, pieces_answer}
 use Rattle.cli_runs.specs.Course.{Course, ◌>>=◌, value_step}
 use Rattle.cli_runs.specs.Reading.{GivenBack, open_step, read_step, read_one}
 use Rattle.cli_runs.specs.BoardCourse.{format_of, depth_of, limit_of_words}
 use Rattle.cli_runs.specs.ShareCourse.{share_answer}
-use Rattle.cli_runs.specs.ServeCourse.{ServedRun, HasServed, HasNoBoard, HasStood, HasRefused, HasFailed, RanOutOfMemory, IsServedRun, input_course, serve_course}
+use Rattle.cli_runs.specs.ServeCourse.{ServedRun, HasServed, HasFailed, RanOutOfMemory, IsServedRun, input_course, serve_course}
 use Rattle.cli_runs.specs.DeskCourse.{DeskRun, HasProved, IsDeskRun, texts_course, desk_course}
 use Rattle.cli_runs.specs.Spoken.{behind}
 use Rattle.cli_runs.specs.Storing.{named_file, said_after, store_steps}

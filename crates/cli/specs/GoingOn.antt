@@ -1,5 +1,5 @@
 -- What calls came to that write as they go on.
-use Rattle.std.specs.Prelude.{◌≡◌, ◌≢◌, ◌⊎◌, ℕ, List, [], Option, None, option_map, Result, Ok, Err}
+use Rattle.std.specs.Prelude.{◌≡◌, ◌≢◌, ◌⊎◌, ℕ, List, [], None, option_map, Result, Ok, Err}
 use Rattle.certificate_lines.specs.declared.fault.TextKind.TheVariants as text
 use Rattle.share_board.specs.declared.fault.BoardFault.TheVariants as board
 use Rattle.board_server.specs.declared.runs.ServeStop.{ServeStop}

@@ -1,7 +1,6 @@
 use Rattle.std.proofs.Common.{◌≡◌, ◌∙◌, [], Option, subst}
 use Rattle.std.specs.Prelude.{Ok, Err}
 use Rattle.county_problem.specs.ProblemValue.{ProblemValue}
-use Rattle.grouping_laws.specs.Grouping.{Grouping}
 use Rattle.cli_words.specs.declared.words.ServeWords.{ServeWords}
 use Rattle.cli_file_stores.specs.Files.{Files}
 use Rattle.cli_answers.specs.Answers.{AnswerMeets}

@@ -1,7 +1,7 @@
-use Rattle.std.proofs.Common.{◌≡◌, Option, inr, ap, refl, subst}
+use Rattle.std.proofs.Common.{Option, inr, ap, refl, subst}
 use Rattle.std.specs.Prelude.{Ok, Err}
 use Rattle.cli_file_stores.specs.Files.{Files}
-use Rattle.cli_file_stores.specs.FileStore.{IsRead, read_end}
+use Rattle.cli_file_stores.specs.FileStore.{IsRead}
 use Rattle.cli_words.specs.Words.{standard_input}
 use Rattle.cli.proofs.GoingOnLemmas.{read_back, run_stood, run_failed, run_stopped, shaped, input_ran, stood, refused}
 use Rattle.cli.proofs.board.serve_input.Goals as goal

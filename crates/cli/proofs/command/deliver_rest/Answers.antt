@@ -8,4 +8,4 @@ returns-then-written g c = λ begun fresh front is h.
 pub returns : goal.returns
 returns g c = λ begun fresh front is h.
     delivers_behind (g.W.Sink.is_failed c.deliver.new.out) (g.W.Sink.contents begun) (g.W.Sink.contents c.args.out.now) (g.W.Sink.contents c.deliver.new.out) front (record { text = c.args.text.now; status = c.args.status }) c.deliver.result
-        (h.whole c.if-written.false).1 c.deliver.ensures
+    (h.whole c.if-written.false).1 c.deliver.ensures

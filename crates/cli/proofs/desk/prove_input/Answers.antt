@@ -3,7 +3,7 @@ use Rattle.std.specs.Prelude.{Ok, Err}
 use Rattle.cli_words.specs.Words.{standard_input}
 use Rattle.cli_file_stores.specs.Files.{Files}
 use Rattle.cli_file_stores.specs.FileStore.{IsRead}
-use Rattle.cli_answers.specs.Answer.{Answered, success}
+use Rattle.cli_answers.specs.Answer.{success}
 use Rattle.cli_answers.specs.Answers.{answer_of, said_by}
 use Rattle.cli.proofs.GoingOnLemmas.{read_back, desk_done, desk_stopped, desk_failed, desked, texts_ran}
 use Rattle.cli.proofs.desk.prove_input.Goals as goal
