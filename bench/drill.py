@@ -68,7 +68,8 @@ UNRULY = """#!/usr/bin/env bash
 sleep "0.0$((RANDOM % 10))"
 case $((RANDOM % 12)) in
     0) kill -KILL $$ ;;
-    1 | 2) exec "$PROGRAM" "$@" > >(dd bs=1 "count=$((RANDOM % 3000))" status=none; kill -KILL $$) ;;
+    1 | 2)
+        exec "$PROGRAM" "$@" > >(dd bs=1 "count=$((RANDOM % 3000))" status=none; kill -KILL $$) ;;
     3) echo memory; exit 5 ;;
     4) echo "result 1 1 of noise"; exec "$PROGRAM" "$@" ;;
     5) echo "Last login: never"; exec "$PROGRAM" "$@" ;;
