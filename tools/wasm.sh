@@ -44,7 +44,7 @@ link() { # HEAP.o OUT.wasm LINKER-WORD..
     mv "$room/linked.wasm" "$out"
 }
 
-"$clang" "${target[@]}" -O2 -fintegrated-cc1 -Wno-override-module -ffunction-sections -fdata-sections -c -x ir "$1" \
+"$clang" "${target[@]}" -Os -fintegrated-cc1 -Wno-override-module -ffunction-sections -fdata-sections -c -x ir "$1" \
     -o "$room/program.o" 2>"$room/said" || { cat "$room/said" >&2; exit 1; }
 "$clang" "${target[@]}" "${for_heap[@]}" -c "$web/heap.c" -o "$room/heap.o" || exit 1
 link "$room/heap.o" "$2"
