@@ -156,6 +156,8 @@ test_programs() { # PROGRAM ..
     python3 tools/test_terminal.py --program "$1"
     heading "the ring of a board and desks"
     python3 tools/test_ring.py --program "$1"
+    heading "a search that goes on at a board"
+    python3 tools/test_resuming.py --program "$1"
 }
 
 # Changes cases at random for a time.

@@ -437,20 +437,31 @@ class Drill:
 
     def falsehoods(self) -> None:
         """Shares the events with false ones between, and checks what is joined."""
-        joined = best = refused = not_proofs = 0
+        refused = not_proofs = 0
+        certificates: list[Optional[str]] = []
         for _ in range(BOARDS):
             text = [it for event in self.quiet.events for it in (self.false_event(), event)]
             shared, left_out = self.board.share_what_is_read(text, self.quiet.events)
             not_proofs += shared.lines.count("not a proof")
             refused += left_out
-            if shared.certificate is not None:
-                joined += 1
-                best += self.board.best_groups(shared.certificate) == self.quiet.best
+            certificates.append(shared.certificate)
         told = f"{refused} texts refused, {not_proofs} times `not a proof`"
-        told += f", {joined} of {BOARDS} boards joined"
-        what = "with false events between, what is joined is proved of the same grouping"
-        self.expect(what, joined == best, told)
-        self.expect("some of these boards join", joined > 0)
+        does_join = self.expect_same_grouping("false events", certificates, told)
+        self.expect("some of these boards join", does_join)
+
+    def expect_same_grouping(
+        self, between: str, certificates: list[Optional[str]], told: str
+    ) -> bool:
+        """Expects that what boards joined is proved of the grouping of the quiet ring.
+
+        `between` names what they were given beside its events, and `told` is told. Each board has a
+        certificate or None. Returns whether one has a certificate.
+        """
+        joined = [it for it in certificates if it is not None]
+        is_same = all(self.board.best_groups(it) == self.quiet.best for it in joined)
+        what = f"with {between} between, what is joined is proved of the same grouping"
+        self.expect(what, is_same, f"{told}, {len(joined)} of {BOARDS} boards joined")
+        return bool(joined)
 
     # ---- parts ----
 
@@ -494,8 +505,8 @@ class Drill:
     def false_parts(self) -> None:
         """Shares the tree in parts with false ones between, and checks what is joined."""
         tree = proof_parts.tree_of(self.quiet.certificate)
-        joined = best = 0
         refused = [0, 0, 0]
+        certificates: list[Optional[str]] = []
         for _ in range(BOARDS):
             sent = proof_parts.sent_in_parts(tree, self.random)
             known = [it.text for it in sent]
@@ -503,16 +514,13 @@ class Drill:
             shared, left_out = self.board.share_what_is_read(texts, known)
             counts = [shared.lines.count(it) for it in ("not a proof", "not a part")]
             refused = [old + new for old, new in zip(refused, [left_out, *counts])]
-            if shared.certificate is not None:
-                joined += 1
-                best += self.board.best_groups(shared.certificate) == self.quiet.best
+            certificates.append(shared.certificate)
         told = f"{refused[0]} texts refused, {refused[1]} times `not a proof`"
-        told += f", {refused[2]} times `not a part`, {joined} of {BOARDS} boards joined"
-        what = "with false parts between, what is joined is proved of the same grouping"
-        self.expect(what, joined == best, told)
+        told += f", {refused[2]} times `not a part`"
+        does_join = self.expect_same_grouping("false parts", certificates, told)
         is_refused = refused[1] > 0 and refused[2] > 0
         self.expect(
-            "false parts are refused, and some of these boards join", joined > 0 and is_refused
+            "false parts are refused, and some of these boards join", does_join and is_refused
         )
 
     # ---- the board that goes on ----

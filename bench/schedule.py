@@ -5,7 +5,8 @@ usage: python3 bench/schedule.py FOLDER [--desks N,N,..]
 FOLDER is that of `tools/share.sh`, where a proof was joined. `times` has the round, the number and
 the seconds of each piece that was proved. Only the pieces of the last round count, since a new
 round drops those before it. A piece may begin once the event that opened it was taken. Each desk
-takes the open piece that took longest. The board's own time is left out.
+takes the open piece that took longest. The board's own time is left out. The pieces are those of
+the recorded run. With more desks the ring keeps more pieces open, so it would split others.
 A row has the desks, the seconds until the last piece is proved, how many times as fast that is as
 one desk, and the share of the time in which desks are idle.
 """

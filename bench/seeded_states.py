@@ -60,6 +60,7 @@ def grid(counties: int, draw: random.Random) -> tuple[Links, int]:
     links: Links = set()
 
     def link(one: int, other: int) -> None:
+        """Links two places, if the grid has both."""
         if one < counties and other < counties:
             links.add(in_order(one, other))
 

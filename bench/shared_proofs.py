@@ -79,7 +79,7 @@ def main() -> None:
     parser.add_argument("program")
     parser.add_argument("--only", default="")
     parser.add_argument("--jobs", default="1,2,4")
-    parser.add_argument("--steps", type=int, default=2_000_000)
+    parser.add_argument("--steps", type=int, default=10_000_000)
     asked = parser.parse_args()
     print("| Run | Seconds | Of `solve` | Proved | Split | Pieces, seconds | Idle |")
     print("|---|---|---|---|---|---|---|")

@@ -191,6 +191,11 @@ def is_certificate(text: bytes) -> bool:
     return re.fullmatch(CERTIFICATE, text.decode("latin-1")) is not None
 
 
+def are_resuming(text: bytes) -> bool:
+    """Returns whether a text is of the events by which a board goes on: a part, or none."""
+    return re.fullmatch(rf"(?:part 1 1\n{PART})?", text.decode("latin-1")) is not None
+
+
 def is_grouping(text: bytes) -> bool:
     """Returns whether a text spells a grouping."""
     return re.fullmatch(GROUPING, text.decode("latin-1")) is not None
@@ -519,11 +524,13 @@ INPUTS = [
     ("assignments", "--assignments"),
 ]
 INPUT = "|".join(dict.fromkeys(file for file, _ in INPUTS))
+# The words of files whose option names a file to store, by the commands where it does.
+STORED = {"certificate": ("solve", "share", "board"), "events": ("solve",)}
 ESCAPED, SUM = r"(?:[ -\[\]-~]|\\x[0-9A-F]{2})*", rf"{NUMBER} [0-9a-f]{{64}}"
 RECORD = (
     rf"countygroups record 1\nversion {ESCAPED}\n(?:word {ESCAPED}\n)*"
     rf"(?:read (?:{INPUT}) {SUM} {ESCAPED}\n)*"
-    rf"(?:stored (?:certificate|out|table|groupings|districts) {SUM} {ESCAPED}\n)*"
+    rf"(?:stored (?:certificate|out|table|groupings|districts|events) {SUM} {ESCAPED}\n)*"
     rf"status {NUMBER}\nanswer {ESCAPED}\n"
 )
 
@@ -561,7 +568,7 @@ def read_lines(words: Words, files: Files, record: bytes) -> List[bytes]:
     lines = []
     for file, option in INPUTS:
         name = named_by(words, option)
-        if name is None or file == "certificate" and words[0] in ("solve", "share", "board"):
+        if name is None or words[0] in STORED.get(file, ()):
             continue
         lines.append(read_line(file, name, held_by(words, files, option), record))
     if words[0] in ("board", "desk"):

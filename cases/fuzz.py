@@ -5,8 +5,8 @@ usage: fuzz.py [--program FILE ..] [--seconds N | --runs N] [--seed N] [--turn N
                [--limit SECONDS] [--memory MEGABYTES] [--keep FOLDER]
        fuzz.py --test
 
-Each turn takes a run of a case, changes some of its files and words, and gives it to each program:
-as a case on standard input, or as files in a folder. A find is
+Each turn takes a run of a case, changes some of its files and words, and gives it to each program.
+A program gets it as a case on standard input, or as files in a folder. A find is
 
     signal      the program was ended by a signal, as it is where a `prove!` fails
     hang        it took more than --limit seconds of processor time (20)
@@ -69,10 +69,13 @@ import cases  # noqa: E402
 import compare_checkers  # noqa: E402
 import given_files  # noqa: E402
 import program_runs  # noqa: E402
-from formats import TEXTS, assignments_in, districts_table_of, groupings_in  # noqa: E402
+import sample_listings  # noqa: E402
+from formats import TEXTS, are_resuming, assignments_in, districts_table_of  # noqa: E402
+from formats import groupings_in  # noqa: E402
 from formats import groupings_table_of, is_certificate, is_grouping, is_of_format  # noqa: E402
 from formats import is_record, is_told, read_lines, table_of  # noqa: E402
 from formats import sum_of, wrong_listing, wrong_record  # noqa: E402
+from script_words import ScriptWords  # noqa: E402
 from sweeps import named_by  # noqa: E402
 
 Words = List[str]
@@ -87,13 +90,17 @@ STORING = {
     "table": ("judge", "solve", "check"),
     "groupings": ("list",),
     "districts": ("audit",),
+    "events": ("solve",),
     "record": tuple(TEXTS),
 }
+# The options that store a file only behind an answer with groups.
+STORED_WITH_GROUPS = ("out", "table", "groupings", "events")
 # The options that some runs get besides, if each program has them: each with a command of it.
 MORE = {
     "table": "solve",
     "groupings": "list",
     "districts": "audit",
+    "events": "solve",
     "record": "solve",
     "which": "list",
 }
@@ -574,8 +581,9 @@ def pipes_of(run: Given) -> List[str]:
 def wrong_pipes(run: Given, plain: Made, piped: Made) -> Optional[str]:
     """Returns what is wrong with a run whose files are pipes, or None.
 
-    A pipe gives fewer bytes at once than a file. So a run that leaves a file before its end may
-    have read more or less of it, and its record may say so: each record is that of its own run.
+    `plain` is what the run made with plain files, and `piped` with pipes. A pipe gives fewer bytes
+    at once than a file. So a run that leaves a file before its end may have read more or less of
+    it. Its record may say so, since each record is that of its own run.
     """
     if (plain.text, plain.status) != (piped.text, piped.status):
         return f"pipes: {answer_told(piped)}; of plain files {answer_told(plain)}"
@@ -682,6 +690,8 @@ def is_whole(option: str, held: bytes, run: Given, made: Made) -> bool:
     if option == "districts":
         return text.startswith(b"findings ") and held == districts_table_of(words, files)
     forms = {"certificate": is_certificate, "out": is_grouping, "record": is_record}
+    if option == "events":
+        return are_resuming(held)
     return forms[option](held)
 
 
@@ -689,7 +699,9 @@ def is_stored(option: str, run: Given, made: Made) -> bool:
     """Returns whether a run that came to an answer stores what an option names."""
     if option == "certificate":
         return made.status in (0, 1) if run.words[0] == "solve" else made.status == 0
-    return b"\ncounts " in made.text if option in ("out", "table", "groupings") else True
+    if option == "events" and made.status != 3:
+        return False
+    return b"\ncounts " in made.text if option in STORED_WITH_GROUPS else True
 
 
 def wrong_outputs(run: Given, made: Made) -> Optional[str]:
@@ -1149,7 +1161,7 @@ def begun(why: Optional[str]) -> str:
 
 
 def tests_of_record() -> Tests:
-    """Yields tests of the record that docs/formats.md shows, and of changes to it."""
+    """Yields tests of a record by docs/formats.md, and of changes to it."""
     words, files = ["check", "--geo", "my geo.pl"], {"my geo.pl": b"abc"}
     record = b"countygroups record 1\nversion 1.2.3\nword check\nword --geo\nword my geo.pl\n"
     record += b"read geo 3 ba7816bf8f01cfea414140de5dae2223b00361a396177a9cb410ff61f20015ad"
@@ -1178,54 +1190,7 @@ def tests_of_record() -> Tests:
     yield "a record with a byte that isn't escaped", is_record(unescaped), False
 
 
-# The listing that docs/formats.md shows, up to its last line.
-LISTING = b"""people 600
-chamber 6
-seats left 6
-counties 6
-answer all
-counts 2 2
-best groupings 2
-shared groups 2
-group seats 1 people 100 counties 37011
-group seats 2 people 210 counties 37007 37009
-region 1 counties 3 alternatives 2
-alternative 1
-group seats 1 people 100 counties 37001
-group seats 2 people 190 counties 37003 37005
-alternative 2
-group seats 1 people 100 counties 37005
-group seats 2 people 190 counties 37001 37003
-"""
-# One of two regions, in which two of four combinations are listed.
-COUPLED = b"""people 600
-chamber 6
-seats left 6
-counties 6
-answer all
-counts 2 2
-best groupings 2
-shared groups 0
-region 1 counties 3 alternatives 2
-alternative 1
-group seats 1 people 100 counties 37001
-group seats 2 to 3 people 190 counties 37003 37005
-alternative 2
-group seats 1 people 100 counties 37005
-group seats 2 people 190 counties 37001 37003
-region 2 counties 3 alternatives 2
-alternative 1
-group seats 1 people 100 counties 37011
-group seats 2 people 210 counties 37007 37009
-alternative 2
-group seats 1 people 100 counties 37007
-group seats 2 people 210 counties 37009 37011
-grouping 1 alternatives 1 1
-grouping 2 alternatives 2 2
-"""
-
-
-EVERY = LISTING + b"every choice\n"
+EVERY, COUPLED = sample_listings.SIX.encode(), sample_listings.COUPLED.encode()
 NO_GROUPS = b"answer all\ncounts none\nbest groupings 1\nshared groups 0\nevery choice\n"
 
 
@@ -1698,8 +1663,7 @@ def fuzz(asked: argparse.Namespace, room: str) -> int:
 
 def words_given() -> argparse.Namespace:
     """Returns what the words of this script ask for."""
-    usage = (__doc__ or "").split("usage: ")[1].split("\n\n")[0]
-    parser = argparse.ArgumentParser(usage=usage, add_help=False)
+    parser = ScriptWords(__doc__)
     parser.add_argument("--program", action="append")
     parser.add_argument("--seconds", type=float, default=60)
     parser.add_argument("--runs", type=int)
@@ -1714,9 +1678,6 @@ def words_given() -> argparse.Namespace:
 
 def main() -> int:
     """Runs what the words ask for, and returns the exit status."""
-    if {"-h", "--help"} & {*sys.argv[1:]}:
-        print(__doc__, end="")
-        return 0
     asked = words_given()
     if asked.test:
         return test()

@@ -192,8 +192,8 @@ class Sweep:
     ) -> Optional[str]:
         """Returns what is wrong with the files that were found.
 
-        Each is as before or as after, or as the ordinary run stored it first; each that was there
-        is there, and each that was stored before this call or allocation.
+        Each is as `before` or as `after`, or as the ordinary run `plain` stored it first. Each that
+        was there is there, and so is each that was stored before this call or allocation.
         """
         for name, held in found.items():
             if held not in (before.get(name), after.get(name), *plain.stored.get(name, ())):

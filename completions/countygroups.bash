@@ -28,8 +28,8 @@ _countygroups() {
             with_value="--chamber --state --part --of --budget"
             ;;
         solve)
-            options="--geo --segment --chamber --state --part --of --record --adjacency --links --withdrawn --steps --certificate --out --table -h --help"
-            with_file="--geo --segment --record --adjacency --links --withdrawn --certificate --out --table"
+            options="--geo --segment --chamber --state --part --of --record --adjacency --links --withdrawn --steps --certificate --out --table --events -h --help"
+            with_file="--geo --segment --record --adjacency --links --withdrawn --certificate --out --table --events"
             with_value="--chamber --state --part --of --steps"
             ;;
         check)

@@ -53,6 +53,7 @@ complete -c countygroups -n '__fish_seen_subcommand_from solve' -l steps -x -d '
 complete -c countygroups -n '__fish_seen_subcommand_from solve' -l certificate -r -F -d 'The file to write the certificate to'
 complete -c countygroups -n '__fish_seen_subcommand_from solve' -l out -r -F -d 'The file to write the grouping to'
 complete -c countygroups -n '__fish_seen_subcommand_from solve' -l table -r -F -d 'The file to write the table of the counties and their groups to, as CSV'
+complete -c countygroups -n '__fish_seen_subcommand_from solve' -l events -r -F -d 'The file to write the events to that go on where the steps ran out'
 complete -c countygroups -n '__fish_seen_subcommand_from solve' -s h -l help -d 'Print help'
 
 complete -c countygroups -n '__fish_seen_subcommand_from check' -l geo -r -F -d 'The PL 94-171 geographic header'

@@ -16,10 +16,10 @@ its name, or by its number from 1. A file of two columns needs no header.
 empty label, ZZZ, NA, NaN, NULL, None and Unassigned say so by themselves.
 --out OUT stores the assignments there. Without it they are printed.
 
-What is mended: blanks and quotes around a field, `="001"`, `12.0` for the district 12, the prefix
-1000000US, a leading zero that all blocks lost, and lines that repeat a block with its district.
-What isn't, is refused with one sentence that names the line. Standard error tells how many blocks
-and districts there are.
+These are mended: blanks and quotes around a field, `="001"`, `12.0` for the district 12, and the
+prefix 1000000US. So are a leading zero that all blocks lost, and lines that repeat a block with its
+district. What isn't mended is refused with one sentence that names the line. Standard error tells
+how many blocks and districts there are.
 
 Statuses: 0 made, 1 the file can't be used, 2 these are no words of the tool.
 
@@ -35,7 +35,8 @@ import sys
 from dataclasses import dataclass, field
 from typing import Collection, Dict, List, Optional
 
-from county_table import Refused
+from refusal import Refused
+from script_words import ScriptWords
 from storing import put
 from table_columns import CodeColumn, Wanted, key_and_value
 from table_input import SCIENTIFIC, Table, is_digits, plain, plain_code, read_table, shown
@@ -209,11 +210,7 @@ def notes_on(table: Table, plan: Plan) -> List[str]:
 
 def parser() -> argparse.ArgumentParser:
     """Returns the parser of the tool's words."""
-    made = argparse.ArgumentParser(
-        description=__doc__,
-        usage=argparse.SUPPRESS,
-        formatter_class=argparse.RawDescriptionHelpFormatter,
-    )
+    made = ScriptWords(__doc__)
     made.add_argument("file", metavar="FILE")
     for option, name in (("block", "COLUMN"), ("district", "COLUMN"), ("member", "NAME")):
         made.add_argument(f"--{option}", metavar=name)

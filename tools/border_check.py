@@ -12,9 +12,10 @@ has a line:
 - two counties are adjacent in the file and have no edge in common, and no reason is given for it.
 
 --without-edge FILE names the pairs that need no edge, with the reason of each. Its lines have the
-layout of the adjacency file, with the reason in the fifth field: `over water`, or `a point in the
-generalised shapes`, perhaps with a colon and more words. It is a finding, too, if a listed pair
-isn't adjacent or has an edge, or if its reason is a point and there is no corner in common.
+layout of the adjacency file, with the reason in the fifth field. A reason is `over water` or `a
+point in the generalised shapes`, perhaps with a colon and more words. It is a finding, too, if a
+listed pair isn't adjacent or has an edge, or if its reason is a point and there is no corner in
+common.
 
 The fifth field of ADJACENCY may be a length. If some length is above 0, a pair of length 0 meets in
 a point by the file's own words, and needs no reason.
@@ -24,7 +25,6 @@ words or files can't be used, with a sentence on standard error.
 """
 from __future__ import annotations
 
-import argparse
 import itertools
 import math
 import re
@@ -34,7 +34,8 @@ from dataclasses import dataclass
 from typing import Dict, Iterator, List, NamedTuple, Set, Tuple
 
 from county_outlines import Outlines, Ring, Spot, read_rings
-from county_table import Refused
+from refusal import Refused
+from script_words import ScriptWords
 
 EARTH_RADIUS_KM = 6371.0088
 CODE = re.compile(r"[0-9]{5}")
@@ -272,9 +273,7 @@ def checked(adjacency: str, outlined: str, listed: str | None) -> Tuple[List[str
 
 def main(words: List[str]) -> int:
     """Prints the findings and the numbers of pairs, and returns the status."""
-    parser = argparse.ArgumentParser(
-        description=__doc__, formatter_class=argparse.RawDescriptionHelpFormatter
-    )
+    parser = ScriptWords(__doc__)
     parser.add_argument("adjacency", metavar="ADJACENCY")
     parser.add_argument("outlines", metavar="OUTLINES")
     parser.add_argument("--without-edge", metavar="FILE")

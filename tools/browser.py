@@ -1,7 +1,4 @@
-"""Drives a headless Chromium over a pipe, for tests of pages. It opens no port.
-
-`Browser.found()` is the program's path, or None where no Chromium is installed.
-"""
+"""Drives a headless Chromium over a pipe, for tests of pages. It opens no port."""
 from __future__ import annotations
 
 import base64
@@ -13,6 +10,8 @@ import subprocess
 import tempfile
 import time
 from typing import Any
+
+from installed import program_there
 
 SECONDS = 180
 NAMES = ("chromium", "chromium-browser", "google-chrome")
@@ -34,15 +33,9 @@ class Browser:
     """One page in a headless Chromium. What went wrong on its console is in `faults`, and each
     address that the page asked for in `events`."""
 
-    @staticmethod
-    def found() -> str | None:
-        """Returns the path of a Chromium, or None."""
-        return next((path for name in NAMES if (path := shutil.which(name))), None)
-
     def __init__(self) -> None:
-        program = self.found()
-        if program is None:
-            raise RuntimeError("no Chromium is installed")
+        """Starts the browser. Raises `NotThere` if no Chromium is installed."""
+        program = program_there(*NAMES)
         self.room = tempfile.mkdtemp(prefix="browser-")
         to_browser, self.to = os.pipe()
         self.back, from_browser = os.pipe()
@@ -50,6 +43,7 @@ class Browser:
         words += ["--remote-debugging-pipe", f"--user-data-dir={self.room}", "about:blank"]
 
         def join_pipes() -> None:
+            """Has the browser read from its file 3, and write to its file 4."""
             spare = os.dup(to_browser), os.dup(from_browser)
             os.dup2(spare[0], 3)
             os.dup2(spare[1], 4)
@@ -248,18 +242,15 @@ class Browser:
 
     def save_picture(self, path: str, is_whole: bool = True) -> None:
         """Stores a picture of the page."""
-        answer = self.ask("Page.captureScreenshot", captureBeyondViewport=is_whole)
-        with open(path, "wb") as file:
-            file.write(base64.b64decode(answer["data"]))
+        self.save(path, "Page.captureScreenshot", captureBeyondViewport=is_whole)
 
     def save_print(self, path: str, width: float, height: float) -> None:
         """Stores the page as it is printed on paper of this size in inches."""
-        answer = self.ask(
-            "Page.printToPDF",
-            paperWidth=width,
-            paperHeight=height,
-            printBackground=True,
-            preferCSSPageSize=True,
-        )
+        size = {"paperWidth": width, "paperHeight": height}
+        self.save(path, "Page.printToPDF", printBackground=True, preferCSSPageSize=True, **size)
+
+    def save(self, path: str, method: str, **values: Any) -> None:
+        """Stores the data with which a command of the browser's protocol answers."""
+        data = self.ask(method, **values)["data"]
         with open(path, "wb") as file:
-            file.write(base64.b64decode(answer["data"]))
+            file.write(base64.b64decode(data))

@@ -8,9 +8,9 @@ puts the script of web/host/worker.mjs into web/host/worker_source.mjs, so that 
 a worker without a second file. `node` writes a module that imports nothing but Node's own modules.
 
 A module becomes a function that returns its exports, and stands behind those that it imports. What
-is taken is what the modules of web/ need, and anything else is refused: each import and export
-stands at the beginning of a line, an import names what it takes, an export stands in front of a
-function, a class or a `const`, and no two modules import each other.
+is taken is what the modules of web/ need, and anything else is refused. Each import and export
+stands at the beginning of a line. An import names what it takes. An export stands in front of a
+function, a class or a `const`. No two modules import each other.
 """
 from __future__ import annotations
 
@@ -20,16 +20,14 @@ import sys
 from collections.abc import Callable
 from pathlib import Path
 
+from refusal import Refused, status_of
+
 HOST = Path(__file__).resolve().parent.parent / "web" / "host"
 
 IMPORT = re.compile(r'^import\s+(?P<names>[^"\';]+?)\s+from\s+"(?P<source>[^"]+)";\n', re.M)
 NAMED = re.compile(r"\{(?P<names>[^{}]*)\}")
 EXPORT = re.compile(r"^export (?P<kind>async function|function|class|const) (?P<name>\w+)", re.M)
 LEFT_OVER = re.compile(r"^(?:import|export)\b.*|\bimport\(\"[^\"]*\"\)\s*[;)]", re.M)
-
-
-class BundleError(Exception):
-    """Why modules can't be packed."""
 
 
 class Bundle:
@@ -52,7 +50,7 @@ class Bundle:
         if module in self.names:
             return self.names[module]
         if module in self.waiting:
-            raise BundleError(f"{module.name} imports itself, by other modules")
+            raise Refused(f"{module.name} imports itself, by other modules")
         self.waiting.append(module)
         text = self.texts[module] if module in self.texts else module.read_text(encoding="utf-8")
         body = IMPORT.sub(lambda found: self.imported(module, found), text)
@@ -60,11 +58,11 @@ class Bundle:
         body = EXPORT.sub(r"\g<kind> \g<name>", body)
         left_over = LEFT_OVER.search(body)
         if left_over:
-            raise BundleError(f"{module.name}: `{left_over[0]}` can't be packed")
+            raise Refused(f"{module.name}: `{left_over[0]}` can't be packed")
         self.waiting.pop()
         name = f"module_{re.sub(r'[^A-Za-z0-9]', '_', module.stem)}"
         if name in self.names.values():
-            raise BundleError(f"two modules are called {module.name}")
+            raise Refused(f"two modules are called {module.name}")
         self.names[module] = name
         returned = f"return {{ {', '.join(exports)} }};\n" if exports else ""
         self.parts.append(f"const {name} = (() => {{\n{body.strip()}\n{returned}}})();\n")
@@ -79,7 +77,7 @@ class Bundle:
             return ""
         named = NAMED.fullmatch(names)
         if not source.startswith(".") or not named:
-            raise BundleError(f"{module.name}: `{found[0].strip()}` can't be packed")
+            raise Refused(f"{module.name}: `{found[0].strip()}` can't be packed")
         taken = re.sub(r"(\w+)\s+as\s+(\w+)", r"\1: \2", named["names"].strip())
         return f"const {{ {taken} }} = {self.add((module.parent / source).resolve())};\n"
 
@@ -100,7 +98,7 @@ def page_script(entry: Path, host: Path = HOST, shortened: Callable[[str], str] 
     source = (host / "worker_source.mjs").resolve()
     text = shortened(script(entry, {source: f"export const workerSource = {worker};\n"}))
     if "</script" in text.lower():
-        raise BundleError(f"{entry.name} has the text `</script`, which would end it in a page")
+        raise Refused(f"{entry.name} has the text `</script`, which would end it in a page")
     return text
 
 
@@ -118,12 +116,7 @@ def main(words: list[str]) -> int:
     if len(words) != 2 or words[0] not in kinds:
         print(__doc__, end="", file=sys.stderr)
         return 2
-    try:
-        print(kinds[words[0]](Path(words[1])), end="")
-    except (BundleError, OSError) as error:
-        print(f"bundle.py: {error}", file=sys.stderr)
-        return 1
-    return 0
+    return status_of(lambda: print(kinds[words[0]](Path(words[1])), end=""))
 
 
 if __name__ == "__main__":

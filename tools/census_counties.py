@@ -5,7 +5,7 @@ import re
 from dataclasses import dataclass
 from typing import Dict, Iterator, List, Optional, Tuple
 
-from county_table import Refused
+from refusal import Refused
 from table_input import decoded
 
 COUNTY_LEVEL = [b"050", b"00"]

@@ -41,6 +41,7 @@ import check  # noqa: E402
 import program_runs  # noqa: E402
 import states  # noqa: E402
 from program_runs import Followed  # noqa: E402
+from script_words import ScriptWords  # noqa: E402
 
 # Cases that take long in Python, by their folder or the beginnings of their names.
 LONG = re.compile(r"/huge/|/long/(a_plain_text_of_a_million_marks|a_wide_text_of_a_million_raises)")
@@ -266,7 +267,7 @@ def compare_states(program: str, tally: Tally) -> None:
 
 def words_asked() -> argparse.Namespace:
     """Returns the words of the command. Ends with status 2 if they can't be run."""
-    parser = argparse.ArgumentParser(usage=__doc__.split("usage: ")[1].split("\n\n")[0])
+    parser = ScriptWords(__doc__)
     parser.add_argument("--all", action="store_true")
     parser.add_argument("--program")
     parser.add_argument("--chamber", type=int, action="append")

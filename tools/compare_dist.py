@@ -6,8 +6,8 @@ usage: compare_dist.py [--program FILE] [--wasm FILE]
 The files of `dist/` have to be those of `dist/SHA256SUMS`. If `crates/` is no longer the tree that
 `dist/BUILD` names, the commits by which `dist/` is behind are told, and nothing more is compared.
 If the kit is another one, that is told, and nothing more is compared.
---program FILE, --wasm FILE: else the program that was proved and built here, and what was compiled
-of its module for WebAssembly, have to be the files of `dist/` byte for byte.
+--program FILE, --wasm FILE: else these files have to be those of `dist/` byte for byte. They are
+the program that was proved and built here, and what was compiled of its module for WebAssembly.
 
 Statuses: 0 nothing differs, or `dist/` is behind; 1 something differs; 2 these words can't be
 followed.
@@ -22,6 +22,7 @@ from typing import Optional
 
 import dist_folder
 import gate_room
+from refusal import Refused
 
 DIST = "dist"
 NATIVE = "countygroups-x86_64-linux"
@@ -110,7 +111,7 @@ def main(words: list[str]) -> int:
     top = dist_folder.TOP
     try:
         wrong = compare(top, asked.program, asked.wasm)
-    except (dist_folder.Refused, OSError) as error:
+    except (Refused, OSError) as error:
         wrong = [str(error)]
     for line in wrong:
         print(f"compare_dist.py: {line}", file=sys.stderr)

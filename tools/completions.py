@@ -12,14 +12,13 @@ the files are stored, 1 what the program says can't be read, 2 these words can't
 """
 from __future__ import annotations
 
-import argparse
 import os
 import sys
 
-import help_texts
-from help_texts import Help, Option, ProgramHelp, Refused
+from help_script import Out, run_script
+from help_texts import TOP, Help, Option, ProgramHelp
 
-FOLDER = os.path.join(help_texts.TOP, "completions")
+FOLDER = os.path.join(TOP, "completions")
 NOTE = "# Made by tools/completions.py of what `{} --help` says."
 BASH = """{note}
 # Bash 4 or later completes the words of {name} once it has read this file.
@@ -213,25 +212,13 @@ def texts_of(program: ProgramHelp) -> dict[str, str]:
     }
 
 
-def main() -> int:
-    """Stores the files, and returns the status to end with."""
-    first, _, rest = (__doc__ or "").partition("\n\nusage: ")
-    parser = argparse.ArgumentParser(description=first, epilog=rest.partition("\n\n")[2])
-    parser.formatter_class = argparse.RawDescriptionHelpFormatter
-    parser.add_argument("--program", default=help_texts.PROGRAM_OF_DIST, metavar="FILE")
-    parser.add_argument("--out", default=FOLDER, metavar="FOLDER")
-    words = parser.parse_args()
-    try:
-        texts = texts_of(help_texts.read_program(words.program))
-        os.makedirs(words.out, exist_ok=True)
-        for name, text in texts.items():
-            with open(os.path.join(words.out, name), "w", encoding="utf-8") as file:
-                file.write(text)
-    except (Refused, OSError) as error:
-        print(f"completions.py: {error}", file=sys.stderr)
-        return 1
-    return 0
+def store(program: ProgramHelp, folder: str) -> None:
+    """Stores the files of completions of `program` in `folder`, which is made if it isn't there."""
+    os.makedirs(folder, exist_ok=True)
+    for name, text in texts_of(program).items():
+        with open(os.path.join(folder, name), "w", encoding="utf-8") as file:
+            file.write(text)
 
 
 if __name__ == "__main__":
-    sys.exit(main())
+    sys.exit(run_script(__doc__, Out(FOLDER, "FOLDER"), store))

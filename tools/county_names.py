@@ -5,7 +5,7 @@ import unicodedata
 from typing import Dict, List, Optional
 
 from census_counties import CensusCounty
-from county_table import Refused
+from refusal import Refused
 from table_columns import joined_name
 from table_input import Table, is_digits, plain_code, shown
 

@@ -8,7 +8,7 @@ import math
 from collections.abc import Iterator
 from typing import Any, Dict, List, Tuple
 
-from county_table import Refused
+from refusal import Refused
 
 Spot = Tuple[float, float]
 Ring = List[Spot]

@@ -8,14 +8,12 @@ import csv
 import re
 from dataclasses import dataclass
 
+from refusal import Refused
+
 HEADER = ["GEOID", "NAME", "POPULATION", "GROUP", "SEATS", "GROUP_POPULATION"]
 GEOID = re.compile(r"[0-9]{5}")
 NUMBER = re.compile(r"[0-9]{1,12}")
 GROUP = re.compile(r"W?[1-9][0-9]{0,5}")
-
-
-class Refused(Exception):
-    """Input that can't be used. Its text is one sentence, which names the file."""
 
 
 @dataclass(frozen=True)

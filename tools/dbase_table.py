@@ -9,8 +9,8 @@ from __future__ import annotations
 import struct
 from typing import Iterator, List, NamedTuple, Tuple
 
-from county_table import Refused
 from packed_file import Source
+from refusal import Refused
 
 HEAD_BYTES = 32
 LAST_DESCRIPTOR = b"\x0d"

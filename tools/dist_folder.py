@@ -9,9 +9,9 @@ they lie here and as they are committed, with every edit, as `tools/prove.sh FOL
 leaves them. LOG is what `rt ci` said there. Its last line has to count no failure.
 seal: writes DIST/BUILD and then DIST/SHA256SUMS for the files that lie in DIST.
 
-`BUILD` has three lines: `crates` with the git tree of `crates/`, `kit` with the line of
-`rt version`, and `proof` with the last line of the `rt ci` that proved the program. `SHA256SUMS`
-has a line for each other file, as `sha256sum` writes it.
+`BUILD` has three lines. `crates` has the git tree of `crates/`, `kit` the line of `rt version`, and
+`proof` the last line of the `rt ci` that proved the program. `SHA256SUMS` has a line for each other
+file, as `sha256sum` writes it.
 
 Statuses: 0 all is well, 1 the proof is another or the folder can't be sealed, 2 these words can't
 be followed.
@@ -29,15 +29,12 @@ from dataclasses import dataclass
 from typing import Optional
 
 import gate_room
+from refusal import Refused, status_of
 
 TOP = gate_room.TOP
 BUILD = "BUILD"
 SUMS = "SHA256SUMS"
 PASSED = re.compile(r"[1-9][0-9]* passed, 0 failed")
-
-
-class Refused(Exception):
-    """Why a proof or a folder isn't taken."""
 
 
 @dataclass(frozen=True)
@@ -174,20 +171,20 @@ def seal(top: str, dist: str, log: str) -> None:
         file.write(sums_text(dist))
 
 
+def follow(verb: str, folder: str, log: str) -> None:
+    """Seals `folder` if `verb` is `seal`. Else tells that the proof in it is one of this commit."""
+    if verb == "seal":
+        seal(TOP, folder, log)
+    else:
+        print(f"the proof is one of this commit's crates: {check_proof(TOP, folder, log)}")
+
+
 def main(words: list[str]) -> int:
     """Follows the words, and returns the status to end with."""
     if len(words) != 3 or words[0] not in ("check-proof", "seal"):
         print(__doc__, end="", file=sys.stderr)
         return 2
-    try:
-        if words[0] == "seal":
-            seal(TOP, words[1], words[2])
-        else:
-            print(f"the proof is one of this commit's crates: {check_proof(TOP, *words[1:])}")
-    except (Refused, gate_room.Refused, OSError) as error:
-        print(f"dist_folder.py: {error}", file=sys.stderr)
-        return 1
-    return 0
+    return status_of(lambda: follow(*words))
 
 
 if __name__ == "__main__":

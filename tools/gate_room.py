@@ -16,8 +16,9 @@ The newest commit's date stands for today's, so that each run over one commit ma
 there is no history, as in a shallow clone or without git, all edits are due. With --all-edits all
 are due too, and those of `tried/` stand beside them. With --no-edits none is due.
 
-Statuses: 0 the folder is made; 1 it isn't empty, an edit's name stands in both folders, or a
-source lies where no check reads it; 2 these words can't be followed.
+Statuses: 0 the folder is made, 1 it can't be made, 2 these words can't be followed. It can't be
+made if FOLDER isn't empty, if an edit's name stands in `must-fail/` and in `tried/`, or if a source
+lies where no check reads it.
 """
 from __future__ import annotations
 
@@ -30,6 +31,8 @@ import sys
 from dataclasses import dataclass
 from typing import Optional
 
+from refusal import Refused
+
 TOP = os.path.dirname(os.path.dirname(os.path.abspath(__file__)))
 DAYS = 3
 PARTS = 3
@@ -37,10 +40,6 @@ SECONDS_A_DAY = 86_400
 # The folders of a crate that a trial of its edits depends on.
 OF_EDITS = ("src", "specs", "proofs", "must-fail")
 SOURCES = (".rt", ".antt")
-
-
-class Refused(Exception):
-    """Why the folder can't be made."""
 
 
 @dataclass(frozen=True)

@@ -15,10 +15,10 @@ A county is a GEOID of five digits. With --state CODE, the state's FIPS code, it
 code of one to three digits. With --geo GEO, the geographic header, it may be a name, as `Wake` or
 `Wake County`. A county without a group is left out, as one of a withdrawn set has to be.
 
-If FILE has no seats, they are chosen by the people of the groups: --segment SEGMENT is segment 1,
---chamber SEATS the number of seats, and --part PART and --of OF the allowance, 1/20 if neither is
-given. If no number suits the people of a group, the nearest is written, and standard error says so.
-`judge` says what is wrong with the grouping.
+If FILE has no seats, they are chosen by the people of the groups. Then --segment SEGMENT is segment
+1, and --chamber SEATS the number of seats. --part PART and --of OF are the allowance, 1/20 if
+neither is given. If no number suits the people of a group, the nearest is written, and standard
+error says so. `judge` says what is wrong with the grouping.
 
 --member NAME chooses the table of a zip, if the zip has several.
 --out OUT stores the text there. Without it the text is printed. The groups stand in the order of
@@ -42,7 +42,9 @@ from typing import Callable, Dict, Iterable, List, Optional, Tuple
 
 from census_counties import read_counties, read_people
 from county_names import CODE_DIGITS, CountyNames, is_county
-from county_table import HEADER, Refused
+from county_table import HEADER
+from refusal import Refused
+from script_words import ScriptWords
 from seat_numbers import Chamber, choose_seats
 from storing import put
 from table_columns import CodeColumn, Wanted, key_and_value
@@ -258,11 +260,7 @@ def notes_on(table: Table, found: CountyGroups) -> List[str]:
 
 def parser() -> argparse.ArgumentParser:
     """Returns the parser of the tool's words."""
-    made = argparse.ArgumentParser(
-        description=__doc__,
-        usage=argparse.SUPPRESS,
-        formatter_class=argparse.RawDescriptionHelpFormatter,
-    )
+    made = ScriptWords(__doc__)
     made.add_argument("file", metavar="FILE")
     for name in ("county", "group", "seats"):
         made.add_argument(f"--{name}", metavar="COLUMN")
@@ -279,6 +277,7 @@ def number_from(least: int, most: int) -> Callable[[str], int]:
     """Returns a reader of the words that are a number from `least` to `most`."""
 
     def read(word: str) -> int:
+        """Returns the number that `word` has."""
         if not is_digits(word, *range(1, 5)) or not least <= int(word) <= most:
             raise argparse.ArgumentTypeError(f"{word} is no number from {least} to {most}")
         return int(word)

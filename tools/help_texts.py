@@ -11,14 +11,12 @@ import subprocess
 from dataclasses import dataclass
 from typing import Optional
 
+from refusal import Refused
+
 TOP = os.path.dirname(os.path.dirname(os.path.abspath(__file__)))
 PROGRAM_OF_DIST = os.path.join(TOP, "dist", "countygroups-x86_64-linux")
 OPTION = re.compile(r"\s+(?:-(\w), )?--([a-z0-9-]+)(?: <(\w+)>)?\s{2,}(\S.*)")
 COMMAND = re.compile(r"\s+([a-z][a-z0-9-]*)\s{2,}(\S.*)")
-
-
-class Refused(Exception):
-    """Why what a program says can't be read."""
 
 
 @dataclass(frozen=True)

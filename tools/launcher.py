@@ -12,6 +12,7 @@ import sys
 from pathlib import Path
 
 import bundle
+from refusal import status_of
 
 ENTRY = bundle.HOST / "launcher.mjs"
 FOR_WINDOWS = '@node "%~dp0countygroups.mjs" %*\r\n@exit /b %errorlevel%\r\n'
@@ -30,12 +31,7 @@ def main(words: list[str]) -> int:
     if len(words) != 1 or words[0].startswith("-"):
         print(__doc__, end="", file=sys.stderr)
         return 2
-    try:
-        write_launchers(Path(words[0]))
-    except (bundle.BundleError, OSError) as error:
-        print(f"launcher.py: {error}", file=sys.stderr)
-        return 1
-    return 0
+    return status_of(lambda: write_launchers(Path(words[0])))
 
 
 if __name__ == "__main__":

@@ -23,6 +23,8 @@ from pathlib import Path
 from typing import Any
 
 import desk_page
+from refusal import Refused
+from script_words import ScriptWords
 
 TOP = Path(__file__).resolve().parent.parent
 DATA = "data/nc2020"
@@ -49,10 +51,6 @@ DESCRIPTION = (
     "Every best way to group North Carolina’s counties for the Senate and the House, "
     "with a proof that the page itself can check."
 )
-
-
-class Refused(Exception):
-    """Why the page can't be made, in one sentence."""
 
 
 def run(words: list[str], room: Path) -> str:
@@ -154,11 +152,7 @@ def made_page(given: argparse.Namespace, room: Path) -> str:
 
 def main(words: list[str]) -> int:
     """Makes the page. 1 if something is missing, 2 if the words are others."""
-    parser = argparse.ArgumentParser(
-        usage=argparse.SUPPRESS,
-        description=__doc__,
-        formatter_class=argparse.RawDescriptionHelpFormatter,
-    )
+    parser = ScriptWords(__doc__)
     parser.add_argument("--program", required=True)
     parser.add_argument("--wasm", default=str(TOP / "dist" / "countygroups.wasm"))
     parser.add_argument("--build-file")

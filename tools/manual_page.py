@@ -11,13 +11,13 @@ can't be read, 2 these words can't be followed.
 """
 from __future__ import annotations
 
-import argparse
 import os
 import re
 import sys
 
 import help_texts
-from help_texts import Block, Help, Option, ProgramHelp, Refused
+from help_script import Out, run_script
+from help_texts import Block, Help, Option, ProgramHelp
 
 PAGE = os.path.join(help_texts.TOP, "docs", "countygroups.1")
 # What stands out in a text: words between backticks, options, and names of values.
@@ -140,23 +140,12 @@ def page_of(program: ProgramHelp) -> str:
     return "\n".join(lines) + "\n"
 
 
-def main() -> int:
-    """Stores the page, and returns the status to end with."""
-    first, _, rest = (__doc__ or "").partition("\n\nusage: ")
-    parser = argparse.ArgumentParser(description=first, epilog=rest.partition("\n\n")[2])
-    parser.formatter_class = argparse.RawDescriptionHelpFormatter
-    parser.add_argument("--program", default=help_texts.PROGRAM_OF_DIST, metavar="FILE")
-    parser.add_argument("--out", default=PAGE, metavar="FILE")
-    words = parser.parse_args()
-    try:
-        page = page_of(help_texts.read_program(words.program))
-        with open(words.out, "w", encoding="utf-8") as file:
-            file.write(page)
-    except (Refused, OSError) as error:
-        print(f"manual_page.py: {error}", file=sys.stderr)
-        return 1
-    return 0
+def store(program: ProgramHelp, path: str) -> None:
+    """Stores the man page of `program` under `path`."""
+    page = page_of(program)
+    with open(path, "w", encoding="utf-8") as file:
+        file.write(page)
 
 
 if __name__ == "__main__":
-    sys.exit(main())
+    sys.exit(run_script(__doc__, Out(PAGE, "FILE"), store))

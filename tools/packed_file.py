@@ -10,7 +10,7 @@ import zlib
 from dataclasses import dataclass
 from typing import IO, List, Optional, Union
 
-from county_table import Refused
+from refusal import Refused
 
 MOST_BYTES = 1_073_741_824
 MOST_NAMED = 20

@@ -5,13 +5,13 @@ usage: python3 tools/page.py TABLE LIST OUTLINES RECORD OUT.html
            [--enacted YEAR GROUPING] [--borders FILE]
 
 TABLE is a table of the counties, LIST the text that `countygroups list` wrote, OUTLINES GeoJSON
-with a GEOID for each county, and RECORD the record of a run (docs/formats.md). Where the files that
-the record names are found under their names with their sums, and dist/countygroups.wasm is there,
-the page carries them and the program: then it checks the proof, too. If a file can't be used, one
+with a GEOID for each county, and RECORD the record of a run (docs/formats.md). The page carries the
+files that the record names and the program, if they are found under their names with their sums,
+and dist/countygroups.wasm is there. Then it checks the proof, too. If a file can't be used, one
 sentence on standard error says why, and the status is 1. If the words are others, the status is 2.
 
 --enacted YEAR GROUPING has the page open on the grouping that was enacted in that year, if it is
-one of the best, and mark it: GROUPING is a grouping text. --borders FILE is a text which says where
+one of the best, and mark it. GROUPING is a grouping text. --borders FILE is a text which says where
 the adjacency file comes from.
 """
 from __future__ import annotations
@@ -27,8 +27,10 @@ from typing import Any
 import desk_page
 import page_checks
 from county_outlines import read_outlines
-from county_table import Group, Refused, read_table
+from county_table import Group, read_table
 from page_inputs import FileLine, Record, read_list, read_record
+from refusal import Refused
+from script_words import ScriptWords
 from storing import store
 
 TOP = Path(__file__).resolve().parent.parent
@@ -145,11 +147,7 @@ def page_of(groups: list[Group], record: Record, asked: argparse.Namespace) -> s
 
 def read_arguments(words: list[str]) -> argparse.Namespace:
     """Returns the words of the command line by name, or ends the program with status 2."""
-    head, _, rest = (__doc__ or "").partition("usage: ")
-    usage, _, told = rest.partition("\n\n")
-    parser = argparse.ArgumentParser(
-        usage=usage, description=head + told, formatter_class=argparse.RawDescriptionHelpFormatter
-    )
+    parser = ScriptWords(__doc__)
     for name in ("table", "list", "outlines", "record", "out"):
         parser.add_argument(name)
     parser.add_argument("--enacted", nargs=2)

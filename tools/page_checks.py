@@ -8,8 +8,9 @@ import math
 import re
 from fractions import Fraction
 
-from county_table import Group, Refused
+from county_table import Group
 from page_inputs import ListedGroup, Listing, Record
+from refusal import Refused
 
 COMMANDS = ("solve", "check", "list", "judge")
 PROBLEM_OPTIONS = [

@@ -8,7 +8,7 @@ import math
 import re
 from dataclasses import dataclass, field
 
-from county_table import Refused
+from refusal import Refused
 
 GROUP = r"group seats ([0-9]+)(?: to ([0-9]+))? people ([0-9]+) counties((?: [0-9]{5})+)"
 SHOWN = 60

@@ -18,30 +18,12 @@ sys.path.insert(0, str(Path(__file__).resolve().parent))
 
 import page as county_page  # noqa: E402
 from county_table import HEADER  # noqa: E402
+from sample_listings import SIX  # noqa: E402
 
 TOP = Path(__file__).resolve().parent.parent
 DATA = TOP / "data" / "nc2020"
 OUTLINES = str(DATA / "county_outlines.geojson")
 FILES = {"geo": "nc2020geo.pl", "segment1": "nc000012020.pl", "adjacency": "county_borders.txt"}
-SIX = """people 600
-chamber 6
-seats left 6
-counties 6
-answer all
-counts 2 2
-best groupings 2
-shared groups 2
-group seats 1 people 100 counties 37011
-group seats 2 people 210 counties 37007 37009
-region 1 counties 3 alternatives 2
-alternative 1
-group seats 1 people 100 counties 37001
-group seats 2 people 190 counties 37003 37005
-alternative 2
-group seats 1 people 100 counties 37005
-group seats 2 people 190 counties 37001 37003
-every choice
-"""
 PEOPLE = {"37001": 100, "37003": 90, "37005": 100, "37007": 105, "37009": 105, "37011": 100}
 Groups = Dict[Union[int, str], Tuple[int, List[str]]]
 GROUPS: Groups = {
@@ -60,6 +42,15 @@ SIX_WITHDRAWN = (
     SIX.replace("seats left 6\ncounties 6", "seats left 5\ncounties 5")
     .replace("counts 2 2", "counts 1 2")
     .replace("shared groups 2\ngroup seats 1 people 100 counties 37011\n", "shared groups 1\n")
+)
+
+# Two counties with the same people in a chamber of 39, which suit 19 seats and 20.
+TWO: List[List[Any]] = [["37001", "", 300, 1, 20, 300], ["37003", "", 300, 2, 19, 300]]
+TWO_LISTED = (
+    "people 600\nchamber 39\nseats left 39\ncounties 2\nanswer all\ncounts 2\n"
+    "best groupings 1\nshared groups 2\n"
+    "group seats 19 to 20 people 300 counties 37001\n"
+    "group seats 19 to 20 people 300 counties 37003\nevery choice\n"
 )
 
 

@@ -23,6 +23,8 @@ import sys
 import tempfile
 from dataclasses import dataclass
 
+from refusal import Refused
+
 TOOLS = os.path.dirname(os.path.abspath(__file__))
 PROGRAM = "countygroups"
 # The kit calls its clang without an environment, so the paths stand in the script.
@@ -32,10 +34,6 @@ for word in "$@"; do
 done
 exec -a "${{0%-script}}" {clang} "$@"
 """
-
-
-class Refused(Exception):
-    """Why no module is stored."""
 
 
 @dataclass(frozen=True)

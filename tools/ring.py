@@ -3,16 +3,22 @@
 
 usage: tools/ring.py FOLDER [--jobs N] [--steps N] [--sshlogin LOGIN].. [--srun] [--program FILE]
 
-FOLDER is one that `tools/share.sh` began. The board tells which pieces are open. Each desk gets one
-of them when it has answered the last, the largest first. What desks answer goes behind the journal
-FOLDER/events, and then to the board, until it joins the certificate FOLDER/certificate. The ring
-may be stopped or killed at any moment. Started again it gives the board its journal, and goes on.
+FOLDER is one that `tools/share.sh` began. The board tells which pieces are open. Each machine has
+places for desks. A place gets one of the pieces when it has answered the last, the largest first.
+What desks answer goes behind the journal FOLDER/events, and then to the board, until it joins the
+certificate FOLDER/certificate. The ring may be stopped or killed at any moment. Started again it
+gives the board its journal, and goes on.
 
-  --jobs N          how many desks each machine has (without it, as many as there are processors)
-  --steps N         the most steps for one piece (without it 10000000); what is left is split
+A place has a short desk and a long one, of which one works at a time. Each is started for its first
+piece. While fewer than 40 pieces are open for each place, the short desk gets the next one, and
+otherwise the long desk. Pieces that are being worked on count as open.
+
+  --jobs N          how many places each machine has (without it, as many as there are processors)
+  --steps N         the most steps of a long desk for one piece (without it 10000000); a short desk
+                    takes a hundredth of them, and at least one; what is left is split
   --sshlogin LOGIN  a machine for desks, which `ssh LOGIN` reaches; `:` is this one; it may stand
                     several times. The program and its files are copied there by rsync
-  --srun            desks are steps of the Slurm job in which the ring runs
+  --srun            places are steps of the Slurm job in which the ring runs
   --program FILE    the program (without it what COUNTYGROUPS names, or `countygroups`)
 
 Texts of events from elsewhere go into FOLDER/arrived under names that end in .events. What is no
@@ -21,7 +27,6 @@ otherwise that of the board.
 """
 from __future__ import annotations
 
-import argparse
 import os
 import queue
 import shlex
@@ -33,17 +38,17 @@ import time
 from collections import deque
 from typing import NamedTuple, Optional
 
-from ring_folder import EVENT, Folder, Named, Refused, named_by, read, tell, without_limit
+from refusal import Refused
+from ring_folder import EVENT, Folder, Named, named_by, read, tell, without_limit
 from ring_pieces import Piece, Pieces
-from ring_processes import MARK, FedProcess, Inbox, Process, Said, board_texts, desk_answers
+from ring_places import HERE, MOST_FAULTS, Place, is_short
+from ring_processes import FedProcess, Inbox, Process, Said, board_texts
+from script_words import ScriptWords
 
 BUDGET = 1_000_000_000
-# How often in a row a desk or the board may end by itself, or an answer may be turned down.
-MOST_FAULTS = 8
 SHOWN_EACH = 10.0
 # Replies behind which a piece no longer waits.
 SETTLED = (b"accepted", b"split into ", b"already ", b"old round", b"no such piece", b"new round ")
-HERE = ":"
 
 
 class Stopped(Exception):
@@ -68,54 +73,19 @@ class Sent(NamedTuple):
     piece: Optional[Piece]
 
 
-class Desk:
-    """A desk on a machine. Its process is started again if it ends."""
-
-    def __init__(self, login: str, steps: int) -> None:
-        self.login, self.steps = login, steps
-        self.process: Optional[Process] = None
-        self.piece: Optional[Piece] = None
-        self.round_text = b""
-        self.faults = 0
-        self.began = self.not_before = 0.0
-
-    def command(self, words: list[str], is_srun: bool) -> list[str]:
-        """Returns the command that starts it."""
-        words = [*words, "--steps", str(self.steps)]
-        if is_srun:
-            return ["srun", "--ntasks=1", "--nodes=1", "--exact", "--unbuffered", *words]
-        if self.login != HERE:
-            # (a machine that is gone is noticed, so that its piece goes to another desk)
-            alive = ["-o", "ServerAliveInterval=30", "-o", "BatchMode=yes"]
-            return ["ssh", *alive, self.login, "exec " + shlex.join(words)]
-        return words
-
-    def is_ready(self) -> bool:
-        """Returns whether it may get a piece."""
-        is_left_out = self.faults >= MOST_FAULTS
-        return self.piece is None and not is_left_out and time.monotonic() >= self.not_before
-
-    def end(self) -> None:
-        """Ends its process."""
-        if self.process:
-            self.process.kill()
-        self.process, self.round_text = None, b""
-
-    def count_fault(self) -> None:
-        """Notes that its process ended by itself, and has it wait before it starts again."""
-        self.end()
-        self.faults += 1
-        self.not_before = time.monotonic() + 0.1 * 2**self.faults
-
-
 class Ring:
-    """A board, desks, and the folder of their proof."""
+    """A board, the places of desks, and the folder of their proof."""
 
     def __init__(self, asked: Asked) -> None:
         self.asked = asked
         self.folder = Folder(asked.folder, asked.program)
         self.inbox: Inbox = queue.Queue()
-        self.desks = [Desk(it, asked.steps) for it in asked.logins for _ in range(asked.jobs)]
+        words = [asked.program, "desk", *without_limit(self.folder.words)]
+        self.places = [
+            Place(login, words, asked.steps, asked.is_srun, self.inbox)
+            for login in asked.logins
+            for _ in range(asked.jobs)
+        ]
         self.pieces = Pieces()
         self.sent: deque[Sent] = deque()
         self.round_text = b""
@@ -166,9 +136,9 @@ class Ring:
         """Adds a piece. A desk may have it already, if the board was started again."""
         _, number, piece = text.split(b"\n", 1)[0].split(b" ")
         name = Named(int(number), int(piece))
-        with_desks = {it.piece.name: it.piece for it in self.desks if it.piece}
+        with_desks = {it.piece.name: it.piece for it in self.places if it.piece}
         held = with_desks.get(name)
-        self.pieces.open(held or Piece(name, text, self.asked.steps), held is None)
+        self.pieces.open(held or Piece(name, text), held is None)
 
     def take_reply(self, sent: Sent, reply: bytes) -> None:
         """Drops the piece of an event, or puts it back if the board didn't take its answer."""
@@ -192,7 +162,7 @@ class Ring:
         if piece.turned_down >= MOST_FAULTS:
             raise Refused(f"the board turned {MOST_FAULTS} answers to that piece down")
         if reply.startswith(b"too many pieces"):
-            piece.steps *= 2
+            piece.steps = 2 * piece.given
         self.pieces.put_back(piece)
 
     def board_ended(self) -> Optional[int]:
@@ -212,60 +182,51 @@ class Ring:
     # ---- the desks ----
 
     def hand_out(self) -> None:
-        """Gives each desk without a piece one that is free."""
+        """Gives each place without a piece one that is free."""
         if self.replayed:
             return
-        for desk in self.desks:
-            if not desk.is_ready():
+        for place in self.places:
+            if not place.is_ready():
                 continue
             piece = self.pieces.take()
             if not piece:
                 return
-            self.give_piece(desk, piece)
+            count = sum(not it.is_left_out() for it in self.places)
+            place.give(piece, self.round_text, is_short(len(self.pieces.waiting), count))
 
-    def give_piece(self, desk: Desk, piece: Piece) -> None:
-        """Gives a desk a piece, and the mark behind it."""
-        if desk.steps < piece.steps:
-            desk.end()
-            desk.steps = piece.steps
-        if not desk.process:
-            words = [self.asked.program, "desk", *without_limit(self.folder.words)]
-            command = desk.command(words, self.asked.is_srun)
-            desk.process = Process(command, desk_answers, self.inbox)
-        text = piece.text + MARK
-        if desk.round_text != self.round_text:
-            desk.round_text = self.round_text
-            text = self.round_text + text
-        desk.piece, desk.began = piece, time.monotonic()
-        desk.process.give(text)
-
-    def hear_desk(self, desk: Desk, answer: Optional[bytes]) -> None:
-        """Takes what a desk answers to its piece, or its end."""
-        piece, desk.piece = desk.piece, None
+    def hear_desk(self, place: Place, said: Said) -> None:
+        """Takes what a desk of a place answers to its piece, or its end."""
+        answer = said.text
         if answer and answer != b"open\n" and not EVENT.match(answer):
             self.folder.set_aside("answer", answer)
             answer = None
+        piece = place.taken_from(said.by)
         if not answer:
-            desk.count_fault()
-            if desk.faults >= MOST_FAULTS:
-                tell(f"a desk at {desk.login} ended {MOST_FAULTS} times in a row: it is left out")
-            if piece:
-                piece.lost += 1
-                self.pieces.put_back(piece)
+            self.count_fault(place, said.by, piece)
             return
         if not piece:
             return
-        desk.faults = 0
+        place.faults = 0
         if answer == b"open\n":
-            self.ask_for_more(piece, 2 * desk.steps)
+            self.ask_for_more(piece)
             return
         self.send(answer, piece)
-        self.folder.keep_time(piece.name, time.monotonic() - desk.began)
+        self.folder.keep_time(piece.name, time.monotonic() - place.began)
 
-    def ask_for_more(self, piece: Piece, steps: int) -> None:
+    def count_fault(self, place: Place, process: Process, piece: Optional[Piece]) -> None:
+        """Ends a process that gave no answer, and puts the piece back that it had."""
+        place.count_fault(process)
+        if place.is_left_out():
+            tell(f"a desk at {place.login} ended {MOST_FAULTS} times in a row: it is left out")
+        if piece:
+            piece.lost += 1
+            self.pieces.put_back(piece)
+
+    def ask_for_more(self, piece: Piece) -> None:
         """Puts a piece back of which no branch was begun, for a desk with more steps."""
-        tell(f"{steps} steps for a piece from now on: with less, no branch was begun")
-        piece.steps = steps
+        piece.steps = 2 * piece.given
+        name = f"piece {piece.name.piece} of round {piece.name.round}"
+        tell(f"{name}: {piece.given} steps began no branch, so it gets {piece.steps}")
         self.pieces.put_back(piece)
 
     # ---- the ring ----
@@ -276,16 +237,16 @@ class Ring:
             if said.text is None:
                 return self.board_ended()
             self.hear_board(said.text)
-        for desk in self.desks:
-            if said.by is desk.process:
-                self.hear_desk(desk, said.text)
+        for place in self.places:
+            if place.has(said.by):
+                self.hear_desk(place, said)
         return None
 
     def look_around(self) -> None:
-        """Takes what has arrived, and stops if no desk is left."""
+        """Takes what has arrived, and stops if no place is left."""
         for text in self.folder.arrived():
             self.send(text, None)
-        if all(it.faults >= MOST_FAULTS for it in self.desks):
+        if all(it.is_left_out() for it in self.places):
             raise Refused("no desk is left")
 
     def show(self) -> None:
@@ -336,8 +297,8 @@ class Ring:
     def stop(self) -> None:
         """Ends the board and the desks."""
         self.board.kill()
-        for desk in self.desks:
-            desk.end()
+        for place in self.places:
+            place.stop()
 
 
 def copy_files(asked: Asked) -> None:
@@ -364,7 +325,7 @@ def positive(word: str) -> int:
 
 def asked_of() -> Asked:
     """Returns what the words of the command ask for."""
-    parser = argparse.ArgumentParser(usage=__doc__, add_help=False)
+    parser = ScriptWords(__doc__)
     parser.add_argument("folder")
     parser.add_argument("--jobs", type=positive, default=os.cpu_count() or 1)
     parser.add_argument("--steps", type=positive, default=10_000_000)
@@ -380,15 +341,14 @@ def asked_of() -> Asked:
 
 
 def stop_by_signal(*_: object) -> None:
-    """Stops the ring, as a signal asks."""
+    """Stops the ring, as a signal asks. A second signal doesn't disturb the stop."""
+    for number in (signal.SIGTERM, signal.SIGINT):
+        signal.signal(number, signal.SIG_IGN)
     raise Stopped
 
 
 def main() -> int:
     """Runs a ring, and returns its status."""
-    if {"-h", "--help"} & {*sys.argv[1:]}:
-        print(__doc__, end="")
-        return 0
     signal.signal(signal.SIGTERM, stop_by_signal)
     signal.signal(signal.SIGINT, stop_by_signal)
     ring = None

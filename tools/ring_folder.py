@@ -18,6 +18,8 @@ import subprocess
 import sys
 from typing import BinaryIO, Iterator, NamedTuple, Optional
 
+from refusal import Refused
+
 EVENT = re.compile(rb"(?m)^(?:hand|result|part|split|better|wider) [^\n]*\n")
 NAMES = re.compile(rb"(?:result|part|split) (\d+) (\d+)[ \n]")
 REFUSED = re.compile(r"refused events \w+ line (\d+)\n")
@@ -29,10 +31,6 @@ class Named(NamedTuple):
 
     round: int
     piece: int
-
-
-class Refused(Exception):
-    """What the ring can't do, in words for a person."""
 
 
 def tell(what: str) -> None:

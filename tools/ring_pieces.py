@@ -12,13 +12,15 @@ from ring_folder import Named
 class Piece:
     """A piece that waits: its text, and how it fared so far.
 
-    `steps` is how many a desk has to take for it, `lost` how often a desk ended over it, and
-    `turned_down` how often the board didn't take its answer.
+    `steps` is the fewest that a desk has to have for it, and `given` how many the last one had.
+    `lost` is how often a desk ended over it, and `turned_down` how often the board didn't take its
+    answer.
     """
 
     name: Named
     text: bytes
-    steps: int
+    steps: int = 1
+    given: int = 0
     lost: int = 0
     turned_down: int = 0
 

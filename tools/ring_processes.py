@@ -5,14 +5,20 @@ The board has one more thread, which writes to it. So the ring waits for nothing
 """
 from __future__ import annotations
 
+import fcntl
 import queue
 import subprocess
+import sys
 import threading
 from typing import IO, Callable, Iterator, NamedTuple, Optional
 
 # A piece that no round has. A desk answers it at once, so it marks the end of an answer before it.
 MARK = b"open 0 0\nend\n"
 MARK_ANSWER = b"no such piece\n"
+
+# The fcntl of Linux for the room of a pipe in bytes, which Python names since 3.10.
+SET_PIPE_SIZE = 1031
+PIPE_ROOM = 1 << 20
 
 Reader = Callable[[IO[bytes]], Iterator[bytes]]
 
@@ -91,11 +97,22 @@ class Process:
         self.process.wait()
 
 
+def widen(pipe: IO[bytes]) -> None:
+    """Gives a `pipe` room for 1 MiB, where the system has that."""
+    if sys.platform == "linux":
+        try:
+            fcntl.fcntl(pipe, SET_PIPE_SIZE, PIPE_ROOM)
+        except OSError:
+            pass
+
+
 class FedProcess(Process):
     """A process that is written to by a thread, however long it doesn't read."""
 
     def __init__(self, command: list[str], reader: Reader, inbox: Inbox) -> None:
         super().__init__(command, reader, inbox)
+        assert self.process.stdin
+        widen(self.process.stdin)
         self.texts: queue.Queue[bytes] = queue.Queue()
         threading.Thread(target=self.feed, daemon=True).start()
 

@@ -4,13 +4,14 @@ set -euo pipefail
 
 usage() {
     cat <<'TEXT'
-usage: tools/share.sh --folder FOLDER [--grouping FILE] [--jobs N] [--steps N] [--sshlogin LOGIN].. [-- WORDS OF THE PROBLEM]
+usage: tools/share.sh --folder FOLDER [--grouping FILE] [--events FILE] [--jobs N] [--steps N] [--sshlogin LOGIN].. [-- WORDS OF THE PROBLEM]
 
 Begins the folder of a shared proof, and runs `tools/ring.py` over it until the certificate is FOLDER/certificate. It may be stopped at any moment. If it
 is started again with the folder, it goes on where it was.
 
   --folder FOLDER   the folder for its files; it is made if it isn't there
   --grouping FILE   the grouping that is to be proved best, as `solve --out` stores it; a later start may leave it out
+  --events FILE     events that come first, as `solve --events` stores them; a later start has them
   -- WORDS          --geo, --segment, --chamber, --adjacency and the others that say what the problem is; a later start may leave them out
   --prepare         only begins the folder, as for `tools/share.slurm`
   --jobs, --steps, --sshlogin, --srun: as `tools/ring.py --help` has them
@@ -24,7 +25,7 @@ refuse() {
     exit 2
 }
 
-folder='' grouping='' is_prepared=no ring=() problem=()
+folder='' grouping='' events='' is_prepared=no ring=() problem=()
 
 # Refuses what is no whole number from 1.
 number() { # OPTION WORD
@@ -38,12 +39,13 @@ read_words() { # WORD..
             --) shift; problem=("$@"); return ;;
             --prepare) is_prepared=yes; shift; continue ;;
             --srun) ring+=(--srun); shift; continue ;;
-            --folder | --grouping | --jobs | --steps | --sshlogin) [ $# -gt 1 ] || refuse "$1 needs a word" ;;
+            --folder | --grouping | --events | --jobs | --steps | --sshlogin) [ $# -gt 1 ] || refuse "$1 needs a word" ;;
             *) usage >&2; refuse "it takes no word \`$1\`: the words of the problem stand behind \`--\`" ;;
         esac
         case $1 in
             --folder) folder=$2 ;;
             --grouping) grouping=$2 ;;
+            --events) events=$2 ;;
             --jobs | --steps) number "$1" "$2"; ring+=("$1" "$2") ;;
             --sshlogin) ring+=("$1" "$2") ;;
         esac
@@ -93,11 +95,21 @@ keep_problem() {
     [ -f "$folder/grouping" ] || refuse "the grouping is missing: give it by --grouping"
 }
 
+# Begins the journal with the events that are given, if there is none yet.
+keep_events() {
+    [ -n "$events" ] || return 0
+    [ -r "$events" ] || refuse "$events can't be read"
+    [ ! -f "$folder/events" ] || return 0
+    cp "$events" "$folder/events.part"
+    mv "$folder/events.part" "$folder/events"
+}
+
 main() {
     read_words "$@"
     [ -n "$folder" ] || { usage >&2; refuse "--folder is missing"; }
     mkdir -p "$folder"
     keep_problem
+    keep_events
     [ "$is_prepared" = no ] || exit 0
     exec python3 "$(dirname "$(realpath "$0")")/ring.py" "$folder" "${ring[@]}"
 }

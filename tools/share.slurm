@@ -6,9 +6,10 @@ usage() {
     cat <<'TEXT'
 usage: tools/share.slurm FOLDER [--steps N] [WORDS OF sbatch]
 
-Runs `tools/ring.py` over FOLDER in a Slurm job, and ends with it: 0 joined, 3 stopped. One task of the job is for the board, and each other one is a desk.
-FOLDER is begun by `tools/share.sh --folder FOLDER --prepare --grouping FILE -- WORDS OF THE PROBLEM`. FOLDER, the files of the problem and the program have
-to lie on every node under the same paths. A job that comes to its limit of time goes on in the next one:
+Runs `tools/ring.py` over FOLDER in a Slurm job, and ends with it: 0 joined, 3 stopped. One task of the job is for the board, and each other one is a place
+for desks. N is as `tools/ring.py --help` has it. FOLDER is begun by `tools/share.sh --folder FOLDER --prepare --grouping FILE -- WORDS OF THE PROBLEM`.
+FOLDER, the files of the problem, the program and the folder of this script have to lie on every node under the same paths. Each node needs `python3`, of
+3.9 or later. A job that comes to its limit of time goes on in the next one:
 
     until tools/share.slurm FOLDER --ntasks=64 --time=12:00:00; do [ $? -eq 3 ] || break; done
 

@@ -7,7 +7,7 @@ import sys
 import tempfile
 from typing import Optional
 
-from county_table import Refused
+from refusal import Refused
 
 
 def store(path: str, text: str) -> None:

@@ -3,7 +3,7 @@ from __future__ import annotations
 
 from typing import Callable, Dict, List, Optional, Sequence, Tuple
 
-from county_table import Refused
+from refusal import Refused
 from table_input import Table, is_digits, plain, shown
 
 # The digits of the states whose code begins with a zero.

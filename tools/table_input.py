@@ -14,9 +14,9 @@ import re
 from dataclasses import dataclass
 from typing import Callable, Iterable, Iterator, List, Optional, Tuple
 
-from county_table import Refused
 from dbase_table import is_dbase, read_layout, read_records
 from packed_file import Source, read_source
+from refusal import Refused
 
 DELIMITERS = "\t|;,"
 SAMPLE_LINES = 20

@@ -66,6 +66,15 @@ class Room(unittest.TestCase):
         return ran.returncode, ran.stdout
 
 
+class WithProgram(Room):
+    """Runs of the program over what tools make. Without a program they are passed over."""
+
+    def setUp(self) -> None:
+        super().setUp()
+        if not PROGRAMS:
+            self.skipTest("no program was given")
+
+
 def dbf(columns: Sequence[DbfColumn], records: Sequence[Sequence[str]], deleted: int = -1) -> bytes:
     """Returns a dBase III table in Latin-1. The record at the place `deleted` is a deleted one.
 

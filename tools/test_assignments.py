@@ -17,7 +17,7 @@ from typing import Dict, List, Optional, Union
 
 import assignments
 import example_plan
-from table_trial import DATA, PROGRAMS, TOP, DbfColumn, Ran, Room, dbf, run_tests
+from table_trial import DATA, TOP, DbfColumn, Ran, Room, WithProgram, dbf, run_tests
 
 ONE, TWO, THREE = "370010001001000", "370010001001001", "370030001001000"
 WANTED = f"BLOCKID|DISTRICT\n{ONE}|1\n{TWO}|1\n{THREE}|02\n"
@@ -356,13 +356,8 @@ def case_with(assigned: str) -> str:
     return f"{before}file baf\n{assigned}"
 
 
-class Audited(Made):
+class Audited(WithProgram, Made):
     """What the tool makes is audited by the program."""
-
-    def setUp(self) -> None:
-        super().setUp()
-        if not PROGRAMS:
-            self.skipTest("no program was given")
 
     def test_the_four_county_path(self) -> None:
         """Wants the findings of the case but for the block that stands twice, which is mended."""

@@ -11,33 +11,24 @@ import contextlib
 import io
 import os
 import shutil
-import subprocess
-import tempfile
 import unittest
 from typing import Optional
 from unittest import mock
 
 import compare_dist
 import dist_folder
+from refusal import Refused
+from trial_repository import InRepository, write
 
 KIT = "rattle-kit-0 logic 0"
 
 
-def write(path: str, text: str) -> None:
-    """Writes `text` to the file at `path`, and makes the folders above it."""
-    os.makedirs(os.path.dirname(path), exist_ok=True)
-    with open(path, "w", encoding="utf-8") as file:
-        file.write(text)
-
-
-@unittest.skipUnless(shutil.which("git"), "git isn't there")
-class TestCompareDist(unittest.TestCase):
+class TestCompareDist(InRepository):
     """A repository with one crate, and a `dist/` of its first commit."""
 
     def setUp(self) -> None:
-        self.room = tempfile.mkdtemp(prefix="compare-dist-")
-        self.addCleanup(shutil.rmtree, self.room)
-        self.top, self.built = f"{self.room}/top", f"{self.room}/built"
+        super().setUp()
+        self.built = f"{self.room}/built"
         self.kit: Optional[str] = KIT
         patch = mock.patch.object(dist_folder, "kit_line", self.kit_line)
         patch.start()
@@ -56,20 +47,6 @@ class TestCompareDist(unittest.TestCase):
     def kit_line(self) -> Optional[str]:
         """Stands for the line of `rt version`."""
         return self.kit
-
-    def git(self, *words: str) -> None:
-        """Runs git in the repository."""
-        who = {
-            f"GIT_{role}_{part}": "tester"
-            for role in ("AUTHOR", "COMMITTER")
-            for part in ("NAME", "EMAIL")
-        }
-        subprocess.run(["git", *words], cwd=self.top, check=True, env={**os.environ, **who})
-
-    def commit(self, what: str) -> None:
-        """Commits all files."""
-        self.git("add", ".")
-        self.git("commit", "-q", "-m", what)
 
     def compare(self, program: str = "", wasm: str = "") -> tuple[str, list[str]]:
         """Returns what is said, and what is wrong."""
@@ -159,7 +136,7 @@ class TestCompareDist(unittest.TestCase):
 
     def test_a_build_that_is_none_is_refused(self) -> None:
         write(f"{self.top}/dist/BUILD", "crates x\n")
-        with self.assertRaisesRegex(dist_folder.Refused, "one line each"):
+        with self.assertRaisesRegex(Refused, "one line each"):
             dist_folder.read_build(f"{self.top}/dist")
 
 

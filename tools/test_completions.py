@@ -12,25 +12,18 @@ over. On Debian the shells are the packages `bash`, `zsh` and `fish`.
 """
 from __future__ import annotations
 
-import argparse
 import os
 import pty
 import select
 import shutil
 import signal
 import subprocess
-import sys
 import tempfile
 import time
-import unittest
-from typing import Optional
 
 import completions
-import help_texts
-from help_texts import ProgramHelp
+from tested_program import OverHelp, run_tests
 
-# The program that is tested, and what it says of itself, as `main` has them of the words.
-PROGRAM = help_texts.PROGRAM_OF_DIST
 FILES = ("nc2020geo.pl", "north.txt", "senate.csv")
 ANSWER_SECONDS = 20.0
 BASH_ASKS = """
@@ -158,24 +151,18 @@ def ask_zsh(room: str, lines: list[str]) -> list[set[str]]:
 SHELLS = {"bash": ask_bash, "zsh": ask_zsh, "fish": ask_fish}
 
 
-class TestFiles(unittest.TestCase):
+class TestFiles(OverHelp):
     """The files of completions."""
 
     def test_they_are_those_of_the_program(self) -> None:
         """They are made of what the program says."""
-        for name, text in completions.texts_of(help_texts.read_program(PROGRAM)).items():
+        for name, text in completions.texts_of(self.help).items():
             with open(os.path.join(completions.FOLDER, name), encoding="utf-8") as file:
                 self.assertEqual(file.read(), text, f"run tools/completions.py: {name} differs")
 
 
-class TestShells(unittest.TestCase):
+class TestShells(OverHelp):
     """What the shells offer, in a folder with some files."""
-
-    help: ProgramHelp
-
-    @classmethod
-    def setUpClass(cls) -> None:
-        cls.help = help_texts.read_program(PROGRAM)
 
     def setUp(self) -> None:
         self.room = tempfile.mkdtemp(prefix="test-completions-")
@@ -228,19 +215,8 @@ class TestShells(unittest.TestCase):
         self.compare(wanted)
 
 
-def main(words: Optional[list[str]] = None) -> int:
-    """Runs the tests, says which shells are missing, and returns the status to end with."""
-    global PROGRAM
-    parser = argparse.ArgumentParser(description=(__doc__ or "").partition("\n")[0])
-    parser.add_argument("--program", default=PROGRAM, metavar="FILE")
-    PROGRAM = os.path.abspath(parser.parse_args(words).program)
+if __name__ == "__main__":
     for shell in SHELLS:
         if not shutil.which(shell):
             print(f"test_completions.py: {shell} isn't installed, so it wasn't asked")
-    tests = unittest.defaultTestLoader.loadTestsFromModule(sys.modules[__name__])
-    result = unittest.TextTestRunner(verbosity=0).run(tests)
-    return 0 if result.wasSuccessful() else 1
-
-
-if __name__ == "__main__":
-    sys.exit(main())
+    run_tests(__doc__)

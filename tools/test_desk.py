@@ -15,7 +15,6 @@ usage: python3 tools/test_desk.py [--page FILE] [--program FILE] [--wasm FILE] [
 If a Chromium or a Firefox isn't installed, its tests don't run, and a line says so. Statuses: 0 all
 is as wanted, 1 something isn't, 2 these words can't be run.
 """
-import argparse
 import contextlib
 import sys
 from pathlib import Path
@@ -23,13 +22,15 @@ from pathlib import Path
 TESTS = Path(__file__).resolve().parent.parent / "web" / "desk" / "test"
 sys.path.insert(0, str(TESTS))
 
-from desk_setting import ROOM, SETTING, NotThere, page  # noqa: E402
+from desk_setting import ROOM, SETTING, page  # noqa: E402
+from installed import NotThere  # noqa: E402
 from run_tests import run_tests  # noqa: E402
+from script_words import ScriptWords  # noqa: E402
 
 
 def read_words() -> str:
     """Takes the words of the command into the setting, and returns that of `--only`."""
-    parser = argparse.ArgumentParser(usage=__doc__, add_help=False)
+    parser = ScriptWords(__doc__)
     parser.add_argument("--page", type=Path, default=SETTING.page)
     parser.add_argument("--program", type=Path)
     parser.add_argument("--wasm", type=Path, default=SETTING.wasm)
@@ -45,9 +46,6 @@ def read_words() -> str:
 
 def main() -> int:
     """Runs the tests."""
-    if {"-h", "--help"} & {*sys.argv[1:]}:
-        print(__doc__, end="")
-        return 0
     word = read_words()
     with contextlib.suppress(NotThere):
         # (made once for all classes; if that can't be, the tests say so)

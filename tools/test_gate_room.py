@@ -7,12 +7,12 @@ It needs git for the tests of history, and says so where git isn't there.
 """
 import os
 import shutil
-import subprocess
-import tempfile
 import unittest
 
 import gate_room
-from gate_room import History, Refused
+from gate_room import History
+from refusal import Refused
+from trial_repository import InRepository, write
 
 DAY = 86_400
 # 1 December 2026, 12:00 UTC: day 335 of the year, and 335 modulo 3 is 2.
@@ -20,11 +20,10 @@ NOON = 1_796_126_400
 NAMES = ["ash", "birch", "cedar", "elm", "fir", "hazel"]
 
 
-def write(path: str, text: str) -> None:
-    """Writes `text` to the file at `path`, and makes the folders above it."""
-    os.makedirs(os.path.dirname(path), exist_ok=True)
-    with open(path, "w", encoding="utf-8") as file:
-        file.write(text)
+def dates(date: int) -> dict[str, str]:
+    """Returns what tells git that a commit is of a date, in seconds of Unix time."""
+    author = f"{NOON - 50 * DAY} +0000"
+    return {"GIT_AUTHOR_DATE": author, "GIT_COMMITTER_DATE": f"{date} +0000"}
 
 
 class TestDue(unittest.TestCase):
@@ -62,14 +61,11 @@ class TestDue(unittest.TestCase):
         self.assertEqual(gate_room.late_paths(log, NOON - 3 * DAY), ["crates/a", "crates/b"])
 
 
-@unittest.skipUnless(shutil.which("git"), "git isn't there")
-class TestHistory(unittest.TestCase):
+class TestHistory(InRepository):
     """The choice in repositories of four crates with edits."""
 
     def setUp(self) -> None:
-        self.room = tempfile.mkdtemp(prefix="gate-room-")
-        self.addCleanup(shutil.rmtree, self.room)
-        self.top = f"{self.room}/top"
+        super().setUp()
         for name in NAMES[:4]:
             write(f"{self.top}/crates/{name}/src/lib.rt", "1")
             write(f"{self.top}/crates/{name}/must-fail/a.edit", "1")
@@ -79,30 +75,16 @@ class TestHistory(unittest.TestCase):
         write(f"{self.top}/HANDLES", "Handles allowed: none.\n")
         write(f"{self.top}/.gitignore", "out/\n")
         self.git("init", "-q", "-b", "main")
-        self.commit(NOON - 10 * DAY)
+        self.commit_at(NOON - 10 * DAY)
 
-    def git(self, *words: str, date: int = NOON) -> None:
-        """Runs git in the repository, as somebody at a date."""
-        who = {
-            f"GIT_{role}_{part}": "tester"
-            for role in ("AUTHOR", "COMMITTER")
-            for part in ("NAME", "EMAIL")
-        }
-        when = {
-            "GIT_AUTHOR_DATE": f"{NOON - 50 * DAY} +0000",
-            "GIT_COMMITTER_DATE": f"{date} +0000",
-        }
-        subprocess.run(["git", *words], cwd=self.top, check=True, env={**os.environ, **who, **when})
-
-    def commit(self, date: int) -> None:
+    def commit_at(self, date: int) -> None:
         """Commits all files at a date."""
-        self.git("add", ".")
-        self.git("commit", "-q", "--allow-empty", "-m", "a change", date=date)
+        self.commit("a change", **dates(date))
 
     def change(self, path: str, date: int) -> None:
         """Changes a file and commits it at a date."""
         write(f"{self.top}/{path}", str(date))
-        self.commit(date)
+        self.commit_at(date)
 
     def history(self) -> History:
         """Returns the history, which has to be there."""
@@ -118,7 +100,7 @@ class TestHistory(unittest.TestCase):
         self.assertEqual(self.history(), History(frozenset({"ash"}), 335))
 
     def test_what_is_not_committed_counts(self) -> None:
-        self.commit(NOON)
+        self.commit_at(NOON)
         write(f"{self.top}/crates/ash/src/lib.rt", "changed")
         write(f"{self.top}/crates/elm/must-fail/new.edit", "new")
         self.assertEqual(self.history().changed, {"ash", "elm"})
@@ -128,11 +110,11 @@ class TestHistory(unittest.TestCase):
         self.change("crates/cedar/src/lib.rt", NOON - 9 * DAY)
         self.git("checkout", "-q", "main")
         self.change("crates/elm/src/lib.rt", NOON - 8 * DAY)
-        self.git("merge", "-q", "--no-edit", "side")
+        self.git("merge", "-q", "--no-edit", "side", **dates(NOON))
         self.assertEqual(self.history().changed, {"cedar"})
 
     def test_without_whole_history_there_is_none(self) -> None:
-        self.commit(NOON)
+        self.commit_at(NOON)
         shallow = f"{self.room}/shallow"
         self.git("clone", "-q", "--depth", "1", f"file://{self.top}", shallow)
         self.assertIsNone(gate_room.history_of(shallow))

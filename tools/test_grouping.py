@@ -16,7 +16,7 @@ from typing import Dict, List, Set, Tuple, Union
 import example_plan
 import grouping
 from seat_numbers import Chamber, choose_seats
-from table_trial import DATA, PROGRAMS, DbfColumn, Ran, Room, dbf, run_tests
+from table_trial import DATA, DbfColumn, Ran, Room, WithProgram, dbf, run_tests
 
 GEO = os.path.join(DATA, "nc2020geo.pl")
 SEGMENT = os.path.join(DATA, "nc000012020.pl")
@@ -145,13 +145,8 @@ class Enacted(Made):
         self.assertEqual(next(csv.reader(io.StringIO(text))), ["County", "Cluster"])
 
 
-class Judged(Made):
+class Judged(WithProgram, Made):
     """What the tool makes is judged by the program."""
-
-    def setUp(self) -> None:
-        super().setUp()
-        if not PROGRAMS:
-            self.skipTest("no program was given")
 
     def test_the_enacted_groupings(self) -> None:
         for name, chamber in CHAMBERS.items():

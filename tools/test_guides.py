@@ -14,7 +14,6 @@ Statuses: 0 each command printed what its page has, 1 one didn't, 2 these words 
 """
 from __future__ import annotations
 
-import argparse
 import os
 import re
 import subprocess
@@ -24,6 +23,7 @@ from dataclasses import dataclass
 from typing import Optional
 
 from help_texts import PROGRAM_OF_DIST, TOP
+from script_words import ScriptWords
 
 PAGES = (
     "README.md",
@@ -89,7 +89,7 @@ def wrong_in(page: str, program: str) -> tuple[int, list[str]]:
 
 def main(words: Optional[list[str]] = None) -> int:
     """Runs the commands of the pages, and returns the status to end with."""
-    parser = argparse.ArgumentParser(description=(__doc__ or "").partition("\n")[0])
+    parser = ScriptWords(__doc__)
     parser.add_argument("--program", default=PROGRAM_OF_DIST, metavar="FILE")
     parser.add_argument("pages", nargs="*", default=list(PAGES), metavar="PAGE")
     asked = parser.parse_args(words)

@@ -12,21 +12,17 @@ shows the page, and each word of the help texts has to stand there, in the same 
 """
 from __future__ import annotations
 
-import argparse
 import os
 import re
 import shutil
 import subprocess
-import sys
 import unittest
-from typing import Optional
 
 import help_texts
 import manual_page
-from help_texts import Help, ProgramHelp
+from help_texts import Help
+from tested_program import OverHelp, run_tests
 
-# The program that is tested, as `main` has it of the words.
-PROGRAM = help_texts.PROGRAM_OF_DIST
 IS_SHOWN = shutil.which("man") is not None and shutil.which("groff") is not None
 # The columns of the shown page: its lines are so long that no word is cut.
 COLUMNS = "2000"
@@ -52,27 +48,21 @@ def parts_of(of: Help) -> list[str]:
     return [plain(text) for text in [of.about, of.usage, *options, *blocks]]
 
 
-class TestPage(unittest.TestCase):
+class TestPage(OverHelp):
     """The page as it is stored, and as it is shown."""
-
-    program: ProgramHelp
-
-    @classmethod
-    def setUpClass(cls) -> None:
-        cls.program = help_texts.read_program(PROGRAM)
 
     def test_it_is_the_page_of_the_program(self) -> None:
         """The stored page is made of what the program says."""
         with open(manual_page.PAGE, encoding="utf-8") as file:
             page = file.read()
-        self.assertEqual(page, manual_page.page_of(self.program), "run tools/manual_page.py")
+        self.assertEqual(page, manual_page.page_of(self.help), "run tools/manual_page.py")
 
     @unittest.skipUnless(IS_SHOWN, "`man` or `groff` isn't installed")
     def test_it_has_the_words_of_the_help(self) -> None:
         """Every text of `--help` stands in the page that `man` shows, without a complaint."""
         page, complaints = shown_page()
         self.assertEqual(complaints, "")
-        helps = [self.program.top, *(of for _, of in self.program.commands)]
+        helps = [self.help.top, *(of for _, of in self.help.commands)]
         for of in helps:
             for text in parts_of(of):
                 with self.subTest(usage=of.usage, text=text):
@@ -82,9 +72,9 @@ class TestPage(unittest.TestCase):
     def test_each_command_has_its_part(self) -> None:
         """Behind the name and the first line of each command its own options follow."""
         page, _ = shown_page()
-        common = help_texts.common_options(self.program)
+        common = help_texts.common_options(self.help)
         end = page.index(" COMMANDS ")
-        for name, of in self.program.commands:
+        for name, of in self.help.commands:
             start = page.index(f" {name} {plain(of.about)}. ", end)
             for option in of.options:
                 if option not in common:
@@ -93,18 +83,7 @@ class TestPage(unittest.TestCase):
                     start = end
 
 
-def main(words: Optional[list[str]] = None) -> int:
-    """Runs the tests, and returns the status to end with."""
-    global PROGRAM
-    parser = argparse.ArgumentParser(description=(__doc__ or "").partition("\n")[0])
-    parser.add_argument("--program", default=PROGRAM, metavar="FILE")
-    PROGRAM = os.path.abspath(parser.parse_args(words).program)
+if __name__ == "__main__":
     if not IS_SHOWN:
         print("test_manual_page.py: `man` or `groff` isn't installed, so no page was shown")
-    tests = unittest.defaultTestLoader.loadTestsFromModule(sys.modules[__name__])
-    result = unittest.TextTestRunner(verbosity=0).run(tests)
-    return 0 if result.wasSuccessful() else 1
-
-
-if __name__ == "__main__":
-    sys.exit(main())
+    run_tests(__doc__)

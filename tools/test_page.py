@@ -13,8 +13,9 @@ import re
 import unittest
 from typing import Any
 
-from page_samples import GROUPS, OUTLINES, SIX, SIX_WITHDRAWN, WITHDRAWN, Groups, PageRoom
-from page_samples import file_line, record_of, small_table, written
+from page_samples import GROUPS, OUTLINES, SIX_WITHDRAWN, TWO, TWO_LISTED, WITHDRAWN, Groups
+from page_samples import PageRoom, file_line, record_of, small_table, written
+from sample_listings import SIX
 
 import page as county_page
 from county_table import HEADER
@@ -34,7 +35,7 @@ class Refusals(PageRoom):
         record: str | None = None,
         outlines: str | None = None,
     ) -> None:
-        """The run stores nothing, and says this sentence alone."""
+        """Wants a run that stores nothing, and says `sentence` alone."""
         own = table if table is not None else small_table(GROUPS)
         status, said, out = self.made(own, listed, record or record_of(6), outlines or self.squares)
         self.assertEqual((status, os.path.exists(out)), (1, False))
@@ -239,7 +240,7 @@ class Refusals(PageRoom):
         )
 
     def refuses_enacted(self, enacted: str, sentence: str) -> None:
-        """The run with this grouping as the enacted one says this sentence alone."""
+        """Wants a run with the grouping `enacted` that says `sentence` alone."""
         status, said, out = self.made(
             small_table(GROUPS),
             SIX,
@@ -300,14 +301,7 @@ class Made(PageRoom):
         self.assertEqual(self.made(table, SIX, record, self.squares)[0], 0)
 
     def test_several_numbers_of_seats(self) -> None:
-        rows = [["37001", "", 300, 1, 20, 300], ["37003", "", 300, 2, 19, 300]]
-        listed = (
-            "people 600\nchamber 39\nseats left 39\ncounties 2\nanswer all\ncounts 2\n"
-            "best groupings 1\nshared groups 2\n"
-            "group seats 19 to 20 people 300 counties 37001\n"
-            "group seats 19 to 20 people 300 counties 37003\nevery choice\n"
-        )
-        self.assertEqual(self.made(written(rows), listed, record_of(39), self.squares)[0], 0)
+        self.assertEqual(self.made(written(TWO), TWO_LISTED, record_of(39), self.squares)[0], 0)
 
 
 if __name__ == "__main__":

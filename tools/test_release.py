@@ -16,6 +16,7 @@ import tempfile
 import unittest
 
 import dist_folder
+from trial_repository import WHO, InRepository, write
 
 TOOLS = os.path.join(dist_folder.TOP, "tools")
 NEEDED = (
@@ -25,6 +26,7 @@ NEEDED = (
     "kit_links.sh",
     "program_module.py",
     "prove.sh",
+    "refusal.py",
     "release.sh",
 )
 RT = """#!/usr/bin/env bash
@@ -87,29 +89,18 @@ assert os.path.exists("docs/desk.html")
 """
 
 
-def write(path: str, text: str, is_program: bool = False) -> None:
-    """Writes `text` to the file at `path`, and makes the folders above it."""
-    os.makedirs(os.path.dirname(path), exist_ok=True)
-    with open(path, "w", encoding="utf-8") as file:
-        file.write(text)
-    if is_program:
-        os.chmod(path, 0o755)
-
-
 def read(path: str) -> str:
     """Returns the text of the file at `path`."""
     with open(path, encoding="utf-8") as file:
         return file.read()
 
 
-@unittest.skipUnless(shutil.which("git"), "git isn't there")
-class TestRelease(unittest.TestCase):
+class TestRelease(InRepository):
     """A repository with two programs and their edits, and a kit that stands beside it."""
 
     def setUp(self) -> None:
-        self.room = tempfile.mkdtemp(prefix="test-release-")
-        self.addCleanup(shutil.rmtree, self.room)
-        self.top, self.kit = f"{self.room}/top", f"{self.room}/kit"
+        super().setUp()
+        self.kit = f"{self.room}/kit"
         write(f"{self.kit}/bin/rt", RT, True)
         write(f"{self.kit}/bin/rtlib.py", "")
         write(f"{self.kit}/bin/rattle", RATTLE, True)
@@ -131,8 +122,8 @@ class TestRelease(unittest.TestCase):
         write(f"{self.top}/crates.txt", "countygroups:\nother:\n")
         write(f"{self.top}/HANDLES", "Handles allowed: none.\n")
         write(f"{self.top}/.gitignore", "out/\n__pycache__\n")
-        self.run_words("git", "init", "-q", "-b", "main")
-        self.commit()
+        self.git("init", "-q", "-b", "main")
+        self.commit("the first")
 
     def folder(self, name: str) -> str:
         """Makes a folder of the repository, and returns its path."""
@@ -141,19 +132,9 @@ class TestRelease(unittest.TestCase):
 
     def run_words(self, *words: str) -> subprocess.CompletedProcess[str]:
         """Runs words in the repository, with the kit on the path."""
-        who = {
-            f"GIT_{role}_{part}": "tester"
-            for role in ("AUTHOR", "COMMITTER")
-            for part in ("NAME", "EMAIL")
-        }
         path = f"{self.kit}/bin:{os.environ['PATH']}"
-        how = {**os.environ, **who, "PATH": path}
+        how = {**os.environ, **WHO, "PATH": path}
         return subprocess.run(words, cwd=self.top, env=how, capture_output=True, text=True)
-
-    def commit(self) -> None:
-        """Commits all files."""
-        self.run_words("git", "add", ".")
-        self.run_words("git", "commit", "-q", "-m", "a change")
 
     def prove(self, *words: str) -> subprocess.CompletedProcess[str]:
         """Proves into the folder `proved` beside the repository."""
@@ -232,7 +213,7 @@ class TestRelease(unittest.TestCase):
         self.prove("--all-edits")
         write(f"{self.top}/crates/other/src/main.rt", "changed")
         self.assertIn("as it is committed", self.release().stderr)
-        self.commit()
+        self.commit("a change")
         self.assertIn("crates/other/src/main.rt differs", self.release().stderr)
 
     def test_a_proof_that_failed_is_refused(self) -> None:

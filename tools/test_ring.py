@@ -6,10 +6,11 @@ usage: python3 tools/test_ring.py [--program FILE]
 --program FILE: a build of the program; by default that of `dist/`.
 
 The board and the desk get their texts one at a time through a pipe, each after the answer to the
-one before. Rings of two desks prove that North Carolina's Senate of 2023 is a best grouping. One is
-killed and its journal torn, one is stopped, one gets texts of events from elsewhere, one has its
-desks on another machine, for which stand-ins of `ssh` and `rsync` start them here, and one has them
-in a Slurm job, for which a stand-in of `srun` does.
+one before. Rings of two places prove that North Carolina's Senate of 2023 is a best grouping. One
+is killed and its journal torn, one is stopped, and one gets texts of events from elsewhere. One has
+its desks on another machine, for which stand-ins of `ssh` and `rsync` start them here. One has them
+in a Slurm job, for which a stand-in of `srun` does. In one a stand-in of the program notes the
+steps of each desk.
 """
 from __future__ import annotations
 
@@ -23,19 +24,30 @@ import time
 import unittest
 from typing import Iterator
 
-from help_texts import PROGRAM_OF_DIST, TOP
+from help_texts import TOP
 from ring_folder import Named, named_by, split_events, without_limit
 from ring_pieces import Piece, Pieces
+from ring_places import HERE, STEP, Desk, Place, is_short, short_steps
 from ring_processes import MARK, Inbox, Process, board_texts, desk_answers
+from tested_program import TESTED, run_tests
 
-# The program that is tested, as `main` has it of the words.
-PROGRAM = PROGRAM_OF_DIST
 SHARE = os.path.join(TOP, "tools", "share.sh")
 DATA = os.path.join(TOP, "data", "nc2020")
 PROBLEM = ["--geo", f"{DATA}/nc2020geo.pl", "--segment", f"{DATA}/nc000012020.pl"]
 PROBLEM += ["--adjacency", f"{DATA}/county_borders.txt", "--chamber", "50"]
 GROUPING = f"{DATA}/senate2023.grouping"
 MOST_SECONDS = 60
+# With the few steps a short desk needs more at times. With the many none does, and a ring of two
+# places uses both desks.
+FEW_STEPS, MANY_STEPS = 2000, 40_000
+# Runs a ring in which four open pieces for each place are enough for long desks.
+EARLY_LONG = """
+import sys
+import ring_places
+ring_places.ENOUGH_OPEN = 4
+import ring
+sys.exit(ring.main())
+"""
 
 # Three counties in a row, of which the middle one has half of the people. `cases/share` has them as
 # `wide_split_and_joined`.
@@ -63,6 +75,10 @@ SRUN = """#!/bin/bash
 echo srun "$@" >>"$TOLD"
 while [[ $1 == --* ]]; do shift; done
 exec "$@"
+"""
+NOTING = """#!/bin/bash
+echo "$@" >>"$TOLD"
+exec "$PROGRAM" "$@"
 """
 
 
@@ -103,7 +119,7 @@ class Pipes(InARoom):
         """Returns a process of the program, and what it says."""
         inbox: Inbox = queue.Queue()
         reader = board_texts if is_board else desk_answers
-        process = Process([PROGRAM, *command], reader, inbox)
+        process = Process([TESTED.program, *command], reader, inbox)
         self.addCleanup(process.process.wait)
         self.addCleanup(process.close)
         self.addCleanup(process.kill)
@@ -125,7 +141,7 @@ class Pipes(InARoom):
             for text in texts:
                 self.assertEqual(inbox.get(timeout=MOST_SECONDS).text, text)
         self.assertEqual(board.process.wait(MOST_SECONDS), 0)
-        words = [PROGRAM, "check", *self.words, "--certificate", self.certificate]
+        words = [TESTED.program, "check", *self.words, "--certificate", self.certificate]
         done = subprocess.run(words, capture_output=True, text=True)
         self.assertIn("\nanswer best\n", done.stdout)
 
@@ -141,25 +157,93 @@ class Pipes(InARoom):
         self.assertIsNone(inbox.get(timeout=MOST_SECONDS).text)
         self.assertEqual(desk.process.wait(MOST_SECONDS), 0)
 
+    def test_a_desk_ends_beside_one_at_work(self) -> None:
+        """If the idle desk of a place ends, the other one keeps its piece."""
+        inbox: Inbox = queue.Queue()
+        place = Place(HERE, [TESTED.program, "desk", *self.words], 1000, False, inbox)
+        self.addCleanup(place.stop)
+        place.give(Piece(Named(1, 1), WHOLE), ROUND, True)
+        said = inbox.get(timeout=MOST_SECONDS)
+        self.addCleanup(said.by.close)
+        self.assertTrue(place.taken_from(said.by))
+        self.assertTrue(place.is_ready())
+        piece = Piece(Named(1, 3), RAISED)
+        place.give(piece, ROUND, False)
+        said.by.process.kill()
+        texts = {it.by: it for it in (inbox.get(timeout=MOST_SECONDS) for _ in range(2))}
+        self.assertIsNone(texts.pop(said.by).text)
+        self.assertIsNone(place.taken_from(said.by))
+        place.count_fault(said.by)
+        self.assertFalse(place.has(said.by))
+        (answer,) = texts.values()
+        self.addCleanup(answer.by.close)
+        self.assertTrue(answer.text and answer.text.startswith(b"result 1 3\n"))
+        self.assertIs(place.taken_from(answer.by), piece)
+        self.assertEqual((place.faults, piece.given), (1, 1000))
+
+    def test_the_desks_of_a_step(self) -> None:
+        """Both desks of a step answer. At the end of its texts the step ends with 0."""
+        step, inbox = self.started_step(TESTED.program)
+        for steps, text, begins in [
+            (100, ROUND + WHOLE, b"result 1 1\n"),
+            (1000, ROUND + RAISED, b"result 1 3\n"),
+            (100, RAISED, b"result 1 3\n"),
+        ]:
+            step.give(b"steps %d\n" % steps + text + MARK)
+            said = inbox.get(timeout=MOST_SECONDS).text
+            self.assertTrue(said and said.startswith(begins), said)
+        step.close()
+        self.assertIsNone(inbox.get(timeout=MOST_SECONDS).text)
+        self.assertEqual(step.process.wait(MOST_SECONDS), 0)
+
+    def test_a_step_whose_desk_ends(self) -> None:
+        """If a desk of a step ends by itself, the step ends with 1."""
+        step, inbox = self.started_step("true")
+        step.give(b"steps 100\n")
+        self.assertIsNone(inbox.get(timeout=MOST_SECONDS).text)
+        self.assertEqual(step.process.wait(MOST_SECONDS), 1)
+
+    def started_step(self, program: str) -> tuple[Process, Inbox]:
+        """Returns the step of a place for desks of a program, and what they say."""
+        inbox: Inbox = queue.Queue()
+        command = [sys.executable, STEP, program, "desk", *self.words]
+        step = Process(command, desk_answers, inbox)
+        self.addCleanup(step.close)
+        self.addCleanup(step.kill)
+        return step, inbox
+
 
 class Rings(InARoom):
     """Tests of rings over North Carolina's Senate."""
 
+    def setUp(self) -> None:
+        super().setUp()
+        self.program = TESTED.program
+
     def command(self, *words: str) -> list[str]:
         """Returns the command that starts the ring."""
         command = [SHARE, "--folder", f"{self.room}/work", "--grouping", GROUPING, "--jobs", "2"]
-        return [*command, "--steps", "2000", *words, "--", *PROBLEM]
+        return [*command, "--steps", str(FEW_STEPS), *words, "--", *PROBLEM]
 
     def setting(self) -> dict[str, str]:
         """Returns the environment of a ring, where stand-ins come first on the path."""
         path = f"{self.room}:{os.environ['PATH']}"
-        told = f"{self.room}/told"
-        return {**os.environ, "COUNTYGROUPS": PROGRAM, "PATH": path, "TOLD": told}
+        told = {"TOLD": f"{self.room}/told", "PROGRAM": TESTED.program}
+        return {**os.environ, "COUNTYGROUPS": self.program, "PATH": path, **told}
 
     def run_ring(self, *words: str) -> subprocess.CompletedProcess[str]:
         """Runs a ring to its end."""
         return subprocess.run(
             self.command(*words), env=self.setting(), capture_output=True, text=True, timeout=600
+        )
+
+    def run_ring_of_both(self, *words: str) -> subprocess.CompletedProcess[str]:
+        """Runs a ring to its end that comes to long desks, too."""
+        self.assertEqual(self.run_ring("--prepare").returncode, 0)
+        command = [sys.executable, "-c", EARLY_LONG, f"{self.room}/work", "--jobs", "2"]
+        setting = {**self.setting(), "PYTHONPATH": os.path.dirname(SHARE)}
+        return subprocess.run(
+            [*command, *words], env=setting, capture_output=True, text=True, timeout=600
         )
 
     def start_ring(self) -> subprocess.Popen[str]:
@@ -181,8 +265,16 @@ class Rings(InARoom):
         """Expects that the ring has joined a certificate, and that `check` says best."""
         self.assertEqual(done.returncode, 0, done.stderr)
         words = [*PROBLEM, "--certificate", f"{self.room}/work/certificate"]
-        checked = subprocess.run([PROGRAM, "check", *words], capture_output=True, text=True)
+        checked = subprocess.run([TESTED.program, "check", *words], capture_output=True, text=True)
         self.assertIn("\nanswer best\n", checked.stdout)
+
+    def expect_both_kinds(self) -> None:
+        """Expects one or two short desks, and one or two long ones."""
+        told = [it for it in self.read("told").splitlines() if it.startswith("desk ")]
+        steps = [int(it.rsplit(" ", 1)[1]) for it in told]
+        self.assertEqual({*steps}, {short_steps(MANY_STEPS), MANY_STEPS})
+        for it in {*steps}:
+            self.assertLessEqual(steps.count(it), 2)
 
     def stand_in(self, name: str, text: str) -> None:
         """Stores a stand-in for a program."""
@@ -197,6 +289,13 @@ class Rings(InARoom):
         self.assertEqual(replies[-1], "joined")
         self.assertEqual(len(self.read("work/times").splitlines()), len(events))
         self.assertGreater(sum(it.startswith(b"part ") for it in events), 0)
+
+    def test_short_and_long_desks(self) -> None:
+        """A ring uses short desks and long ones, and no place starts one of them twice."""
+        self.stand_in("noting", NOTING)
+        self.program = f"{self.room}/noting"
+        self.expect_best(self.run_ring_of_both("--steps", str(MANY_STEPS)))
+        self.expect_both_kinds()
 
     def test_a_joined_folder(self) -> None:
         """A ring over a joined folder proves nothing once more."""
@@ -215,9 +314,10 @@ class Rings(InARoom):
         self.assertEqual(len(os.listdir(f"{self.room}/work/refused")), 1)
 
     def test_a_stopped_ring(self) -> None:
-        """A ring that was stopped ends with 3, and goes on."""
+        """A ring that was stopped ends with 3, and goes on. It may be told so twice."""
         ring = self.start_ring()
-        ring.send_signal(signal.SIGTERM)
+        for _ in range(2):
+            ring.send_signal(signal.SIGTERM)
         _, told = ring.communicate(timeout=MOST_SECONDS)
         self.assertEqual(ring.returncode, 3, told)
         self.expect_best(self.run_ring())
@@ -247,19 +347,25 @@ class Rings(InARoom):
         """Desks on another machine are started by `ssh`, and `rsync` copies what they need."""
         self.stand_in("ssh", SSH)
         self.stand_in("rsync", RSYNC)
-        self.expect_best(self.run_ring("--sshlogin", "elsewhere", "--sshlogin", ":"))
+        machines = ["--sshlogin", "elsewhere", "--sshlogin", ":"]
+        self.expect_best(self.run_ring_of_both("--steps", str(FEW_STEPS), *machines))
         told = self.read("told").splitlines()
         copied = next(it for it in told if it.startswith("rsync "))
         self.assertTrue(copied.endswith(" elsewhere:/"), copied)
         self.assertIn(f" {DATA}/nc2020geo.pl ", copied)
         desks = [it for it in told if " elsewhere exec " in it]
-        self.assertEqual(len(desks), 2)
+        for steps in (short_steps(FEW_STEPS), FEW_STEPS):
+            self.assertTrue(any(it.endswith(f" --steps {steps}") for it in desks))
 
     def test_desks_of_a_slurm_job(self) -> None:
-        """Desks of a Slurm job are started by `srun`."""
+        """Both desks of a place are one step of a Slurm job, which `srun` starts."""
         self.stand_in("srun", SRUN)
-        self.expect_best(self.run_ring("--srun"))
-        self.assertEqual(len(self.read("told").splitlines()), 2)
+        self.stand_in("noting", NOTING)
+        self.program = f"{self.room}/noting"
+        self.expect_best(self.run_ring_of_both("--srun", "--steps", str(MANY_STEPS)))
+        steps = [it for it in self.read("told").splitlines() if it.startswith("srun ")]
+        self.assertEqual(len(steps), 2)
+        self.expect_both_kinds()
 
     def test_desks_that_end_at_once(self) -> None:
         """If no desk can be started, the ring ends with 2."""
@@ -296,6 +402,34 @@ class Parts(unittest.TestCase):
         words = ["--geo", "g", "--limit", "5", "--links", "l", "--limit=6"]
         self.assertEqual(without_limit(words), ["--geo", "g", "--links", "l"])
 
+    def test_few_open_pieces_are_for_short_desks(self) -> None:
+        """A short desk gets a piece while fewer than forty are open for each place."""
+        for open_pieces, places in [(1, 1), (39, 1), (79, 2), (3999, 100)]:
+            self.assertTrue(is_short(open_pieces, places))
+        for open_pieces, places in [(40, 1), (80, 2), (4000, 100), (65536, 1)]:
+            self.assertFalse(is_short(open_pieces, places))
+
+    def test_short_desks_take_a_hundredth(self) -> None:
+        """A short desk has a hundredth of the steps, and at least one."""
+        self.assertEqual([short_steps(it) for it in (1, 199, 10_000_000)], [1, 1, 100_000])
+
+    def test_a_piece_may_need_more_steps(self) -> None:
+        """A short desk gets more steps for such a piece, unless the long one has them."""
+        place = Place(HERE, [], 1000, False, queue.Queue())
+        turns: list[tuple[int, bool, Desk, int]] = [
+            (1, True, place.short, 10),
+            (1, False, place.long, 1000),
+            (20, True, place.short, 20),
+            (1, True, place.short, 20),
+            (1000, True, place.long, 1000),
+            (2000, True, place.long, 2000),
+            (20, False, place.long, 2000),
+        ]
+        for needed, is_for_short, desk, steps in turns:
+            found = place.desk_for(Piece(Named(1, 1), b"", needed), is_for_short)
+            self.assertIs(found, desk)
+            self.assertEqual(desk.steps, steps)
+
     def test_the_largest_piece_comes_first(self) -> None:
         """The piece with the fewest closed counties comes first, and one that was lost later."""
         pieces = Pieces()
@@ -319,15 +453,5 @@ def drained(pieces: Pieces) -> Iterator[Piece]:
         piece = pieces.take()
 
 
-def main() -> None:
-    """Runs the tests with the program that the words name."""
-    global PROGRAM
-    words = sys.argv[1:]
-    if words[:1] == ["--program"] and len(words) > 1:
-        PROGRAM = os.path.realpath(words[1])
-        words = words[2:]
-    unittest.main(argv=[sys.argv[0], *words])
-
-
 if __name__ == "__main__":
-    main()
+    run_tests(__doc__)

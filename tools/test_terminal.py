@@ -13,19 +13,15 @@ pseudo terminals.
 """
 from __future__ import annotations
 
-import argparse
 import os
 import pty
 import subprocess
-import sys
 import tempfile
 import unittest
-from typing import NamedTuple, Optional
+from typing import NamedTuple
 
-import help_texts
+from tested_program import TESTED, run_tests
 
-# The program that is tested, as `main` has it of the words.
-PROGRAM = help_texts.PROGRAM_OF_DIST
 WRONG_WORDS = (
     ["size", "--segmnt", "seg"],
     ["size", "--geo", "g"],
@@ -67,7 +63,7 @@ def run_at(words: list[str], at_terminal: str) -> Said:
     ours, theirs = pty.openpty()
     with tempfile.TemporaryFile() as out, tempfile.TemporaryFile() as err:
         run = subprocess.Popen(
-            [PROGRAM, *words],
+            [TESTED.program, *words],
             stdin=subprocess.DEVNULL,
             stdout=theirs if at_terminal in ("output", "both") else out,
             stderr=theirs if at_terminal in ("error", "both") else err,
@@ -267,16 +263,5 @@ class Names(unittest.TestCase):
         self.assertEqual(self.told_at("judge", "--grouping", f"{self.room}/missing"), [])
 
 
-def main(words: Optional[list[str]] = None) -> int:
-    """Runs the tests, and returns the status to end with."""
-    global PROGRAM
-    parser = argparse.ArgumentParser(description=(__doc__ or "").partition("\n")[0])
-    parser.add_argument("--program", default=PROGRAM, metavar="FILE")
-    PROGRAM = os.path.abspath(parser.parse_args(words).program)
-    tests = unittest.defaultTestLoader.loadTestsFromModule(sys.modules[__name__])
-    result = unittest.TextTestRunner(verbosity=0).run(tests)
-    return 0 if result.wasSuccessful() else 1
-
-
 if __name__ == "__main__":
-    sys.exit(main())
+    run_tests(__doc__)

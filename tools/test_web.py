@@ -14,7 +14,6 @@ usage: python3 tools/test_web.py [--wasm FILE] [--refusing FILE] [--native FILE]
 It needs Node 20 or later. What else is missing is said, and the tests that need it are passed over.
 Statuses: 0 all is as wanted, 1 something isn't, 2 these words can't be run.
 """
-import argparse
 import sys
 from pathlib import Path
 
@@ -22,12 +21,13 @@ TESTS = Path(__file__).resolve().parent.parent / "web" / "test"
 sys.path.insert(0, str(TESTS))
 
 from run_tests import run_tests  # noqa: E402
+from script_words import ScriptWords  # noqa: E402
 from web_setting import SETTING  # noqa: E402
 
 
 def read_words() -> str:
     """Takes the words of the command into the setting, and returns that of `--only`."""
-    parser = argparse.ArgumentParser(usage=__doc__, add_help=False)
+    parser = ScriptWords(__doc__)
     parser.add_argument("--wasm", type=Path, default=SETTING.wasm)
     parser.add_argument("--refusing", type=Path)
     parser.add_argument("--native", type=Path)
@@ -45,9 +45,6 @@ def read_words() -> str:
 
 def main() -> int:
     """Runs the tests."""
-    if {"-h", "--help"} & {*sys.argv[1:]}:
-        print(__doc__, end="")
-        return 0
     ran = run_tests(TESTS, read_words(), SETTING.jobs)
     return 0 if ran.count and not ran.failed else 1
 

@@ -5,9 +5,9 @@ usage: python3 tools/trust_lines.py
 A row of a table names a file of definitions, some definitions in it, and how many lines these have:
 each from its comment to the next blank line. A last row says how many lines the table has in all.
 This script compares the numbers. It also tells each definition that a named one uses, if the page
-doesn't name it up to there, and no line `Below: ..` announces it: types that the code declares and
-the standard library aside. A table may use its own names. What is announced has to have a row.
-Statuses: 0 all agree, 1 something differs, or no file is named.
+doesn't name it up to there, and no line `Below: ..` announces it. It leaves out types that the code
+declares, and the standard library. A table may use its own names. What is announced has to have a
+row. Statuses: 0 all agree, 1 something differs, or no file is named.
 """
 from __future__ import annotations
 

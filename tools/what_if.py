@@ -6,10 +6,10 @@ usage: python3 tools/what_if.py --program FILE --geo FILE --segment FILE --adjac
            [--part PART --of OF] [--jobs JOBS]
 
 Each line of the borders is one of a links file: `+|CODE|CODE` adds a pair, `-|CODE|CODE` cuts one.
-Standard output is a CSV table: a line for the problem as it is, and then one for each border, with
-the number of best groupings, the number of groups that all of them share, the counts, and what
-differs from the first line. If a file can't be used, a sentence on standard error says why, and the
-status is 1.
+Standard output is a CSV table: a line for the problem as it is, and then one for each border. A
+line has the number of best groupings, the number of groups that all of them share, the counts, and
+what differs from the first line. If a file can't be used, a sentence on standard error says why,
+and the status is 1.
 """
 from __future__ import annotations
 
@@ -24,13 +24,12 @@ from concurrent.futures import ThreadPoolExecutor
 from dataclasses import dataclass
 from pathlib import Path
 
+from refusal import Refused
+from script_words import ScriptWords
+
 HEADER = ["SIGN", "COUNTY", "NEIGHBOR", "BEST_GROUPINGS", "SHARED_GROUPS", "COUNTS", "CHANGES"]
 LINK = re.compile(r"([+-])\|([0-9]{5})\|([0-9]{5})")
 OPTIONS = ["geo", "segment", "adjacency", "chamber", "withdrawn", "state", "part", "of"]
-
-
-class Refused(Exception):
-    """Why a file or an answer can't be used, in one sentence."""
 
 
 @dataclass(frozen=True)
@@ -115,11 +114,7 @@ class Runs:
 
 def arguments(words: list[str]) -> argparse.Namespace:
     """Returns the words of the command."""
-    parser = argparse.ArgumentParser(
-        usage=argparse.SUPPRESS,
-        description=__doc__,
-        formatter_class=argparse.RawDescriptionHelpFormatter,
-    )
+    parser = ScriptWords(__doc__)
     for name in ["program", "geo", "segment", "adjacency", "chamber", "borders"]:
         parser.add_argument(f"--{name}", required=True)
     for name in ["links", "withdrawn", "state", "part", "of"]:

@@ -1,4 +1,4 @@
-"""Runs the Python of README.md and of the guide as it stands, and compares what it prints."""
+"""Runs the Python of README.md as it stands, and compares what it prints."""
 from __future__ import annotations
 
 import contextlib
@@ -49,9 +49,6 @@ class Documents(unittest.TestCase):
 
     def test_readme(self) -> None:
         self.run_document("python/README.md")
-
-    def test_guide(self) -> None:
-        self.run_document("docs/guide_python.md")
 
 
 if __name__ == "__main__":

@@ -1,4 +1,4 @@
-# Runs the R of README.md and of the guide as it stands, and compares what it prints.
+# Runs the R of README.md as it stands, and compares what it prints.
 
 source("setting.R")
 
@@ -38,5 +38,4 @@ run_document <- function(name) {
 
 if (has_program && nzchar(data)) {
   test("README.md", run_document("r/README.md"))
-  test("the guide", run_document("docs/guide_r.md"))
 }

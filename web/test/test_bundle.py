@@ -6,6 +6,7 @@ from pathlib import Path
 from web_setting import HOST, run_node
 
 import bundle
+from refusal import Refused
 
 MODULES = {
     "one.mjs": 'import { two as second } from "./two.mjs";\n'
@@ -40,6 +41,7 @@ class Bundles(unittest.TestCase):
             self.write(name, text)
 
     def write(self, name: str, text: str) -> Path:
+        """Writes `text` to the file `name` of the room, and returns its path."""
         path = self.room / name
         path.parent.mkdir(exist_ok=True)
         path.write_text(text, encoding="utf-8")
@@ -54,7 +56,7 @@ class Bundles(unittest.TestCase):
     def test_what_is_not_packed_is_refused(self) -> None:
         for what, text in REFUSED.items():
             with self.subTest(what):
-                self.assertRaises(bundle.BundleError, bundle.script, self.write("entry.mjs", text))
+                self.assertRaises(Refused, bundle.script, self.write("entry.mjs", text))
 
     def test_a_page_has_the_worker(self) -> None:
         packed = bundle.page_script(HOST / "browser_process.mjs")

@@ -6,7 +6,9 @@ import tempfile
 import unittest
 from pathlib import Path
 
-from web_setting import SETTING, WEB, NotThere, run_node
+from web_setting import SETTING, WEB, run_node
+
+from installed import NotThere
 
 TEST = WEB / "test"
 EXPORTS = TEST / "heap_exports.c"
@@ -49,6 +51,7 @@ class Heap(unittest.TestCase):
             return run_node(TEST / "heap_test.mjs", compile_heap(heap, room), str(SETTING.seed))
 
     def text(self) -> str:
+        """Returns the text of the heap."""
         return (WEB / "heap.c").read_text(encoding="ascii")
 
     def test_heap(self) -> None:

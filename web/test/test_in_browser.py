@@ -7,15 +7,14 @@ import json
 import shutil
 import subprocess
 import tempfile
-import unittest
 from pathlib import Path
 from typing import Any
 
-from web_setting import DATA, HOST, WEB, chosen, make_launcher, program_there, wasm
+from web_setting import DATA, HOST, WEB, chosen, make_launcher, wasm
 from test_cases import all_cases
 
 import bundle
-from browser import Browser
+from browser_trial import InBrowser
 from cases import Case
 
 FILES = ("nc2020geo.pl", "nc000012020.pl", "county_borders.txt")
@@ -41,24 +40,17 @@ def page_of(before: str = "", script: str = "") -> str:
     return PAGE.format(before=before, script=script or bundle.page_script(ENTRY), program=packed)
 
 
-class InPage(unittest.TestCase):
+class InPage(InBrowser):
     """Runs in one browser."""
-
-    browser: Any
-    room: Path
 
     @classmethod
     def setUpClass(cls) -> None:
-        program_there("chromium")
-        room = tempfile.TemporaryDirectory()
-        cls.addClassCleanup(room.cleanup)
-        cls.room = Path(room.name)
-        cls.browser = Browser()
-        cls.addClassCleanup(cls.browser.close)
+        super().setUpClass()
         cls.open_page(page_of())
 
     @classmethod
     def open_page(cls, text: str) -> None:
+        """Opens a page of this text."""
         path = cls.room / "page.html"
         path.write_text(text, encoding="utf-8")
         cls.browser.open(str(path))
@@ -94,7 +86,7 @@ class InPage(unittest.TestCase):
         return None if left == case.stored else f"{name}: other files: {sorted(left)}"
 
     def check_quiet(self) -> None:
-        """Nothing stands on the console, and the page asked for no other file."""
+        """Wants nothing on the console, and that the page asked for no other file."""
         self.assertEqual(self.browser.faults, [])
         own = ("file:", "blob:", "data:", "loaded")
         self.assertEqual([it for it in self.browser.events if not it.startswith(own)], [])
@@ -104,6 +96,7 @@ class Chambers(InPage):
     """Both chambers of 2020 beside the launcher."""
 
     def files(self) -> dict[str, bytes]:
+        """Returns the files of North Carolina 2020 by their names."""
         return {name: (DATA / name).read_bytes() for name in FILES}
 
     def test_solve_check_and_list(self) -> None:
@@ -130,7 +123,7 @@ class Chambers(InPage):
         self.check_quiet()
 
     def check_progress(self, made: Any) -> None:
-        """Each line of progress has its form."""
+        """Wants each line of progress in its form."""
         for line in made["progress"]:
             self.assertRegex(line, r"\Acountygroups: groups of up to \d+ counties, .* steps\Z")
 
@@ -184,6 +177,7 @@ class Selected(InPage):
     """Files of the disk that a person chose."""
 
     def choose(self, *paths: Path) -> None:
+        """Has a person choose the files at `paths`."""
         root = self.browser.ask("DOM.getDocument")["root"]["nodeId"]
         node = self.browser.ask("DOM.querySelector", nodeId=root, selector="#files")["nodeId"]
         chosen_files = [str(path) for path in paths]
@@ -197,6 +191,7 @@ class Selected(InPage):
         return self.browser.value(f"unpackModule(PROGRAM).then((it) => run(it, {asked}, {named}))")
 
     def copies(self) -> list[Path]:
+        """Returns the paths of copies of both Census files in the room."""
         paths = [self.room / name for name in FILES[:2]]
         for path in paths:
             path.write_bytes((DATA / path.name).read_bytes())

@@ -8,34 +8,34 @@ import sys
 import tempfile
 import threading
 import time
-import unittest
 from pathlib import Path
 from typing import IO
 
-from web_setting import CASES, DATA, SETTING, TOP, NotThere, make_launcher, native, run_node
+from web_setting import CASES, DATA, SETTING, TOP, make_launcher, native, run_node
+
+from class_room import InRoom
+from installed import NotThere
 
 PROBLEM = ["--geo", "nc2020geo.pl", "--segment", "nc000012020.pl"]
 BORDERS = ["--adjacency", "county_borders.txt"]
 MOST_BESIDE_NODE = 64 << 20
 
 
-class Launched(unittest.TestCase):
+class Launched(InRoom):
     """Runs by the launcher, in a folder with the files of North Carolina 2020."""
 
-    room: Path
     program: Path
 
     @classmethod
     def setUpClass(cls) -> None:
-        room = tempfile.TemporaryDirectory()
-        cls.addClassCleanup(room.cleanup)
-        cls.room = Path(room.name)
+        super().setUpClass()
         cls.program = make_launcher(cls.room)
 
     def setUp(self) -> None:
         self.folder = self.fresh_folder()
 
     def fresh_folder(self) -> Path:
+        """Returns a new folder of the room, with the files of North Carolina 2020."""
         folder = Path(tempfile.mkdtemp(dir=self.room))
         for name in ("nc2020geo.pl", "nc000012020.pl", "county_borders.txt"):
             (folder / name).write_bytes((DATA / name).read_bytes())
@@ -80,6 +80,7 @@ class Natively(Launched):
     """The same words by the launcher and by the program of this machine."""
 
     def runs(self, chamber: str) -> list[list[str]]:
+        """Returns the words of runs over a chamber. The later ones read what is stored first."""
         problem = [*PROBLEM, *BORDERS, "--chamber", chamber]
         given = ["--certificate", "certificate"]
         stored = ["--out", "grouping", "--table", "table", "--record"]
@@ -143,6 +144,7 @@ class Streams(Launched):
     def size(
         self, geo: str, given: bytes | None = None, to: int | IO[bytes] = subprocess.PIPE
     ) -> "subprocess.CompletedProcess[bytes]":
+        """Runs `size` over the header `geo`, with `given` as its input, and writes to `to`."""
         words = ["size", "--geo", geo, *PROBLEM[2:], "--chamber", "50"]
         return self.launch(*words, given=given, to=to)
 
@@ -232,6 +234,7 @@ class Alone(Launched):
             module.write_bytes(held)
 
     def check_refused(self) -> None:
+        """Wants the launcher to refuse the module beside it."""
         done = self.launch("--version")
         self.assertEqual((done.returncode, done.stdout), (126, b""))
         self.assertRegex(done.stderr, b"\\Acountygroups: countygroups.wasm beside .*\n\\Z")

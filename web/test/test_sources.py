@@ -10,7 +10,9 @@ import subprocess
 import unittest
 from pathlib import Path
 
-from web_setting import HOST, TOP, WEB, program_there, run_node, wasm
+from web_setting import HOST, TOP, WEB, run_node, wasm
+
+from installed import program_there
 
 MOST_LINES = 40
 MOST_COLUMNS = 100
@@ -82,6 +84,7 @@ class Calls(unittest.TestCase):
     """One list of the calls: that which the linker is told, the host's, and the module's."""
 
     def listed(self) -> set[str]:
+        """Returns the calls of `calls.txt`."""
         return set((HOST / "calls.txt").read_text(encoding="ascii").split())
 
     def test_the_host_has_the_listed_calls(self) -> None:

@@ -10,11 +10,11 @@ from collections.abc import Mapping
 from pathlib import Path
 from typing import Any
 
-from web_setting import DATA, HOST, SETTING, TOP, WEB
-from web_setting import NotThere, chosen, make_launcher, program_there
+from web_setting import DATA, HOST, SETTING, TOP, WEB, chosen, make_launcher
 from test_cases import all_cases
 
 from cases import Case
+from installed import NotThere, program_there
 from program_runs import Followed, Refusal
 from sweeps import Sweep
 

@@ -5,7 +5,6 @@ import random
 import shutil
 import subprocess
 import sys
-import unittest
 from collections.abc import Sequence
 from dataclasses import dataclass
 from pathlib import Path
@@ -21,6 +20,7 @@ for folder in ("tools", "cases"):
     sys.path.insert(0, str(TOP / folder))
 
 import launcher  # noqa: E402
+from installed import NotThere, program_there  # noqa: E402
 
 
 @dataclass
@@ -38,10 +38,6 @@ class Setting:
 SETTING = Setting()
 
 
-class NotThere(unittest.SkipTest):
-    """Says what is missing, so that a test can't be run."""
-
-
 def wasm() -> Path:
     """Returns the file of the program's WebAssembly."""
     if not SETTING.wasm.is_file():
@@ -54,18 +50,6 @@ def native() -> Path:
     if SETTING.native is None:
         raise NotThere("no program of this machine was named (--native)")
     return SETTING.native
-
-
-def program_there(*names: str) -> str:
-    """Returns the path of the first program of these names that is installed."""
-    for name in names:
-        path = shutil.which(name)
-        if path:
-            return path
-    raise NotThere(f"there is no `{names[0]}`: Debian has it as the package {PACKAGES[names[0]]}")
-
-
-PACKAGES = {"chromium": "chromium", "node": "nodejs", "tsc": "node-typescript"}
 
 
 def run_node(*words: str | Path, timeout: float = SECONDS) -> "subprocess.CompletedProcess[str]":

@@ -2,8 +2,7 @@
 
 ghost use Rattle.std.specs.Prelude.{◌≡◌, ℕ, ◌&&◌, not, nat_lt, List, IfOk, OnOk, Some, None, if◌then◌else◌};
 ghost use Rattle.std.specs.BTreeSet.{contains};
-ghost use Rattle.adjacency_reader.specs.Pairs.{by_codes, names, ArePairs};
-ghost use Rattle.adjacency_reader.specs.Links.{is_on};
+ghost use Rattle.adjacency_reader.specs.{Pairs.{by_codes, names, ArePairs}, Links.is_on};
 ghost use Rattle.adjacency_reader.specs.Adjacency.{joined_by, AreLinked, AreAdjacent};
 
 use crate::links::{Link, Sign};

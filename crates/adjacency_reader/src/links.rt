@@ -2,9 +2,8 @@
 
 ghost use Rattle.std.specs.Prelude.{◌≡◌};
 ghost use Rattle.field_lines.specs.Values.{GivesUnless, AddsUnless};
-ghost use Rattle.grouping_reader.specs.Faults.{IsCodeLineMemory};
+ghost use Rattle.grouping_reader.specs.{Faults.IsCodeLineMemory, declared.fault.CodeLineKind.TheVariants.Memory};
 ghost use Rattle.adjacency_reader.specs.Links.{sign_of, link_on, link_list};
-ghost use Rattle.grouping_reader.specs.declared.fault.CodeLineKind.TheVariants.{Memory};
 
 use county_codes::CountyCode;
 use field_lines::{Lines, field_at};

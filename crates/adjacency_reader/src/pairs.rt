@@ -1,7 +1,6 @@
 //! The adjacent pairs of listed counties, read from the Census Bureau's county adjacency file.
 
-ghost use Rattle.std.specs.Prelude.{◌≡◌, ℕ, ◌&&◌, ◌||◌, nat_lt, IfOk, OnOk, filter};
-ghost use Rattle.std.specs.Ordering.{nat_cmp};
+ghost use Rattle.std.specs.{Prelude.{◌≡◌, ℕ, ◌&&◌, ◌||◌, nat_lt, IfOk, OnOk, filter}, Ordering.nat_cmp};
 ghost use Rattle.std.specs.List.Sorted.{IsStrictlySortedBy};
 ghost use Rattle.std.specs.BTreeSet.{contains as set_contains};
 ghost use Rattle.grouping_laws.specs.Sets.{contains};

@@ -2,9 +2,8 @@
 
 ghost use Rattle.std.specs.Prelude.{◌≡◌};
 ghost use Rattle.field_lines.specs.Values.{GivesUnless, AddsUnless};
-ghost use Rattle.grouping_reader.specs.Faults.{IsCodeLineMemory};
+ghost use Rattle.grouping_reader.specs.{Faults.IsCodeLineMemory, declared.fault.CodeLineKind.TheVariants.Memory};
 ghost use Rattle.adjacency_reader.specs.Rows.{row_on, is_header, row_list};
-ghost use Rattle.grouping_reader.specs.declared.fault.CodeLineKind.TheVariants.{Memory};
 
 use county_codes::CountyCode;
 use field_lines::{Lines, field_at, five_digits};

@@ -2,9 +2,8 @@
 
 ghost use Rattle.std.specs.Prelude.{◌≡◌};
 ghost use Rattle.field_lines.specs.Values.{GivesUnless, AddsUnless};
-ghost use Rattle.grouping_reader.specs.Faults.{IsCodeLineMemory};
+ghost use Rattle.grouping_reader.specs.{Faults.IsCodeLineMemory, declared.fault.CodeLineKind.TheVariants.Memory};
 ghost use Rattle.adjacency_reader.specs.WithdrawnSets.{set_on, withdrawn_list};
-ghost use Rattle.grouping_reader.specs.declared.fault.CodeLineKind.TheVariants.{Memory};
 
 use county_codes::Withdrawn;
 use field_lines::Lines;

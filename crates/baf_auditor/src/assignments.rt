@@ -2,8 +2,7 @@
 
 ghost use Rattle.std.specs.Prelude.{◌≡◌, ◌≤◌, IfOk, OnOk, vec_len};
 ghost use Rattle.field_lines.specs.Values.{GivesUnless};
-ghost use Rattle.baf_auditor.specs.Assignments.{IsAssignmentMemory, AddsUnlessMemory, has_pipe, delimiter_of};
-ghost use Rattle.baf_auditor.specs.Assignments.{is_assignment_header, assignment_on, rows_after, assignment_list};
+ghost use Rattle.baf_auditor.specs.Assignments.{IsAssignmentMemory, AddsUnlessMemory, has_pipe, delimiter_of, is_assignment_header, assignment_on, rows_after, assignment_list};
 ghost use Rattle.baf_auditor.specs.declared.fault.AssignmentKind.TheVariants.{Memory};
 
 use crate::fault::{AssignmentFault, AssignmentKind};

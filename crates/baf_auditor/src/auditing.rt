@@ -1,12 +1,10 @@
 //! The audit of a plan over a problem and a grouping: all findings, in their order.
 
 ghost use Rattle.std.specs.Prelude.{◌≡◌, ◌≢◌, ◌<◌, ◌≤◌, ◌↔◌, [], ◌∷◌, length, map, All, IfOk, OnOk, MatchOption};
-ghost use Rattle.std.specs.List.Sorted.{IsStrictlyIncreasing};
-ghost use Rattle.std.specs.BTreeMap.{btree_map_len, keys};
+ghost use Rattle.std.specs.{List.Sorted.IsStrictlyIncreasing, BTreeMap.{btree_map_len, keys}};
 ghost use Rattle.county_codes.specs.Limits.{most_counties};
 ghost use Rattle.grouping_laws.specs.Grouping.{Lawful};
-ghost use Rattle.county_problem.specs.ProblemValue.{problem_of};
-ghost use Rattle.county_problem.specs.Judging.{IsFault};
+ghost use Rattle.county_problem.specs.{ProblemValue.problem_of, Judging.IsFault};
 ghost use Rattle.county_problem.specs.declared.grouping_fault.GroupingFault.TheVariants.{Memory};
 ghost use Rattle.baf_auditor.specs.Findings.{drawn_sets, plan_of, IsFinding, AreAll, AreFindings};
 ghost use Rattle.baf_auditor.specs.Kinds.{AddsOfDistricts, IsClean};

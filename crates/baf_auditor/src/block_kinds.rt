@@ -1,13 +1,9 @@
 //! Census blocks at fault by themselves: unlisted ones, those that two lines name, and unassigned ones with people.
 
-ghost use Rattle.std.specs.Prelude.{◌≡◌, ◌<◌, ℕ, IfOk, All, is_none, nat_lt, ◌&&◌, not, map};
-ghost use Rattle.std.specs.List.{filter_map};
-ghost use Rattle.std.specs.List.Sorted.{IsStrictlyIncreasing, IsStrictlySortedBy};
-ghost use Rattle.std.specs.Ordering.{nat_cmp};
-ghost use Rattle.std.specs.BTreeMap.{get};
+ghost use Rattle.std.specs.{Prelude.{◌≡◌, ◌<◌, ℕ, IfOk, All, is_none, nat_lt, ◌&&◌, not, map}, List.filter_map};
+ghost use Rattle.std.specs.{List.Sorted.{IsStrictlyIncreasing, IsStrictlySortedBy}, Ordering.nat_cmp, BTreeMap.get};
 ghost use Rattle.baf_auditor.specs.Findings.{plan_of, drawn_sets, AreCodesWith, IsUnknown, IsTwice, IsUnassigned};
-ghost use Rattle.baf_auditor.specs.Naming.{has_district};
-ghost use Rattle.baf_auditor.specs.Listing.{kept, listing};
+ghost use Rattle.baf_auditor.specs.{Naming.has_district, Listing.{kept, listing}};
 
 use crate::assignments::Assignment;
 use crate::block_list::listed_blocks;

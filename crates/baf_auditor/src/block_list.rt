@@ -1,12 +1,9 @@
 //! The listed census blocks with their people, and the set of counties in which a block lies.
 
-ghost use Rattle.std.specs.Prelude.{◌≡◌, ◌<◌, ◌+◌, ℕ, Some, IfOk, IfSome, OnOk, All, length};
-ghost use Rattle.std.specs.List.{position_from};
-ghost use Rattle.std.specs.Ordering.{nat_cmp};
-ghost use Rattle.std.specs.BTreeMap.{get};
+ghost use Rattle.std.specs.{Prelude.{◌≡◌, ◌<◌, ◌+◌, ℕ, Some, IfOk, IfSome, OnOk, All, length}, List.position_from};
+ghost use Rattle.std.specs.{Ordering.nat_cmp, BTreeMap.get};
 ghost use Rattle.grouping_laws.specs.Sets.{contains};
-ghost use Rattle.baf_auditor.specs.Findings.{county_of_block, drawn_sets};
-ghost use Rattle.baf_auditor.specs.Listing.{place_of, after_block, listing};
+ghost use Rattle.baf_auditor.specs.{Findings.{county_of_block, drawn_sets}, Listing.{place_of, after_block, listing}};
 
 use county_codes::{CountyCode, Group, Grouping, Withdrawn, has_code};
 use county_problem::Problem;

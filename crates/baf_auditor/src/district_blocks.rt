@@ -1,9 +1,7 @@
 //! The listed census blocks that a plan gives to districts, by label and code.
 
-ghost use Rattle.std.specs.Prelude.{◌≡◌, ◌≤◌, ◌+◌, ℕ, List, IfOk, OnOk, length};
-ghost use Rattle.std.specs.Ordering.{nat_cmp};
-ghost use Rattle.std.specs.List.Sorted.{IsStrictlySortedBy};
-ghost use Rattle.std.specs.BTreeMap.{get, btree_map_len, keys};
+ghost use Rattle.std.specs.{Prelude.{◌≡◌, ◌≤◌, ◌+◌, ℕ, List, IfOk, OnOk, length}, Ordering.nat_cmp};
+ghost use Rattle.std.specs.{List.Sorted.IsStrictlySortedBy, BTreeMap.{get, btree_map_len, keys}};
 ghost use Rattle.baf_auditor.specs.Giving.{by_label, after_given, giving};
 
 use crate::assignments::Assignment;

@@ -1,11 +1,8 @@
 //! The counties in which each district has census blocks.
 
-ghost use Rattle.std.specs.Prelude.{◌≡◌, ◌<◌, ◌||◌, ℕ, List, All, IfOk, OnOk};
-ghost use Rattle.std.specs.List.Sorted.{IsStrictlySortedBy};
-ghost use Rattle.std.specs.BTreeMap.{keys};
-ghost use Rattle.std.specs.BTreeSet.{contains};
-ghost use Rattle.baf_auditor.specs.Giving.{by_label};
-ghost use Rattle.baf_auditor.specs.Districts.{shows_county, has_county};
+ghost use Rattle.std.specs.{Prelude.{◌≡◌, ◌<◌, ◌||◌, ℕ, List, All, IfOk, OnOk}, List.Sorted.IsStrictlySortedBy};
+ghost use Rattle.std.specs.{BTreeMap.keys, BTreeSet.contains};
+ghost use Rattle.baf_auditor.specs.{Giving.by_label, Districts.{shows_county, has_county}};
 
 use crate::block_list::county_of_block;
 use crate::label::Label;

@@ -1,15 +1,10 @@
 //! The districts of a plan: the people of each, and the sets and the counties in which it has census blocks.
 
-ghost use Rattle.std.specs.Prelude.{◌≡◌, ◌<◌, ◌≤◌, ◌++◌, All, IfOk, OnOk, length, map};
-ghost use Rattle.std.specs.List.{filter_map};
-ghost use Rattle.std.specs.List.Sorted.{IsStrictlyIncreasing, IsStrictlySortedBy};
-ghost use Rattle.std.specs.Option.{option_to_list};
-ghost use Rattle.std.specs.Ordering.{nat_cmp};
-ghost use Rattle.std.specs.Cmp.Lexicographic.{slice_cmp};
-ghost use Rattle.std.specs.BTreeMap.{keys};
+ghost use Rattle.std.specs.{Prelude.{◌≡◌, ◌<◌, ◌≤◌, ◌++◌, All, IfOk, OnOk, length, map}, List.filter_map};
+ghost use Rattle.std.specs.{List.Sorted.{IsStrictlyIncreasing, IsStrictlySortedBy}, Option.option_to_list};
+ghost use Rattle.std.specs.{Ordering.nat_cmp, Cmp.Lexicographic.slice_cmp, BTreeMap.keys};
 ghost use Rattle.field_lines.specs.Fault.{most_lines};
-ghost use Rattle.baf_auditor.specs.Findings.{plan_of};
-ghost use Rattle.baf_auditor.specs.Districts.{name_at, of_label, IsListedBy, AreListedBy};
+ghost use Rattle.baf_auditor.specs.{Findings.plan_of, Districts.{name_at, of_label, IsListedBy, AreListedBy}};
 ghost use Rattle.baf_auditor.specs.DistrictList.{AreDistricts};
 
 use crate::assignments::Assignment;

@@ -1,11 +1,8 @@
 //! The sets of counties in which each district has census blocks.
 
 ghost use Rattle.std.specs.Prelude.{◌≡◌, ◌<◌, ◌≤◌, ◌+◌, ℕ, List, All, IfOk, OnOk, length, map};
-ghost use Rattle.std.specs.List.Sorted.{IsStrictlySortedBy};
-ghost use Rattle.std.specs.BTreeMap.{get, btree_map_len, keys};
-ghost use Rattle.baf_auditor.specs.Findings.{drawn_sets};
-ghost use Rattle.baf_auditor.specs.Giving.{by_label};
-ghost use Rattle.baf_auditor.specs.Districts.{after_shown, standing};
+ghost use Rattle.std.specs.{List.Sorted.IsStrictlySortedBy, BTreeMap.{get, btree_map_len, keys}};
+ghost use Rattle.baf_auditor.specs.{Findings.drawn_sets, Giving.by_label, Districts.{after_shown, standing}};
 
 use crate::block_list::place_of_block;
 use crate::label::Label;

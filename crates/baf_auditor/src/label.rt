@@ -34,8 +34,7 @@ impl Model for Label {
 }
 
 impl PartialEq for Label {
-    ghost use Rattle.std.specs.Prelude.{nat_eq};
-    ghost use Rattle.std.specs.Cmp.{partial_equiv_from_equiv};
+    ghost use Rattle.std.specs.{Prelude.nat_eq, Cmp.partial_equiv_from_equiv};
     ghost use Rattle.std.specs.Cmp.Lexicographic.{pointwise, nat_list_eq_equiv};
 
     ghost eq = { pointwise nat_eq };
@@ -54,9 +53,7 @@ impl Eq for Label {
 }
 
 impl PartialOrd for Label {
-    ghost use Rattle.std.specs.Prelude.{Some};
-    ghost use Rattle.std.specs.Ordering.{nat_cmp};
-    ghost use Rattle.std.specs.Cmp.Lexicographic.{slice_cmp, texts_po};
+    ghost use Rattle.std.specs.{Prelude.Some, Ordering.nat_cmp, Cmp.Lexicographic.{slice_cmp, texts_po}};
 
     ghost partial_cmp = { λ x y. Some (slice_cmp nat_cmp x y) };
 
@@ -69,8 +66,7 @@ impl PartialOrd for Label {
 
 /// Labels are compared byte by byte.
 impl Ord for Label {
-    ghost use Rattle.std.specs.Prelude.{refl};
-    ghost use Rattle.std.specs.Ordering.{nat_cmp};
+    ghost use Rattle.std.specs.{Prelude.refl, Ordering.nat_cmp};
     ghost use Rattle.std.specs.Cmp.Lexicographic.{slice_cmp, nat_list_cmp_total, texts_ties};
 
     ghost cmp = { slice_cmp nat_cmp };

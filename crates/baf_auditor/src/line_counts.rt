@@ -1,8 +1,6 @@
 //! What the lines of an assignment file say of each census block that they name.
 
-ghost use Rattle.std.specs.Prelude.{◌≡◌, ℕ, IfOk, OnOk};
-ghost use Rattle.std.specs.Ordering.{nat_cmp};
-ghost use Rattle.std.specs.BTreeMap.{get};
+ghost use Rattle.std.specs.{Prelude.{◌≡◌, ℕ, IfOk, OnOk}, Ordering.nat_cmp, BTreeMap.get};
 ghost use Rattle.baf_auditor.specs.Naming.{naming, named_again, after_line};
 
 use crate::assignments::Assignment;

@@ -1,12 +1,8 @@
 //! The people of each district, and the findings of districts with too few people or too many.
 
-ghost use Rattle.std.specs.Prelude.{◌≡◌, ◌≤◌, ◌^◌, ◌++◌, ℕ, List, IfOk, OnOk};
-ghost use Rattle.std.specs.List.{filter_map};
-ghost use Rattle.std.specs.List.Sorted.{IsStrictlySortedBy};
-ghost use Rattle.std.specs.Option.{unwrap_or, option_to_list};
-ghost use Rattle.std.specs.Ordering.{nat_cmp};
-ghost use Rattle.std.specs.Cmp.Lexicographic.{slice_cmp};
-ghost use Rattle.std.specs.BTreeMap.{get, btree_map_len, keys};
+ghost use Rattle.std.specs.{Prelude.{◌≡◌, ◌≤◌, ◌^◌, ◌++◌, ℕ, List, IfOk, OnOk}, List.filter_map};
+ghost use Rattle.std.specs.{List.Sorted.IsStrictlySortedBy, Option.{unwrap_or, option_to_list}, Ordering.nat_cmp};
+ghost use Rattle.std.specs.{Cmp.Lexicographic.slice_cmp, BTreeMap.{get, btree_map_len, keys}};
 ghost use Rattle.baf_auditor.specs.Districts.{with_people, district_people, size_finding};
 
 use crate::finding::Finding;

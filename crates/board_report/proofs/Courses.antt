@@ -9,7 +9,7 @@ use Rattle.board_laws.specs.Content.{Content, Event}
 use Rattle.share_board.specs.declared.board.Board.{Board}
 use Rattle.share_board.specs.BoardValue.{IsOf, Keeps}
 use Rattle.share_board.specs.Rounds.{IsOpening}
-use Rattle.board_events.specs.Replies.{reply_line}
+use Rattle.board_report.specs.ReplyLines.{reply_line}
 use Rattle.branch_bound.specs.declared.piece.Piece.{Piece}
 use Rattle.board_report.specs.Taking.{TakesEvents, EventsAreTaken, HasTaken, HasTold, HasHeard}
 use Rattle.board_report.specs.BoardOutcome.{IsEnded, IsShared}

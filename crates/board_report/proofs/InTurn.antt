@@ -11,7 +11,7 @@ use Rattle.share_board.specs.declared.reply.Reply.{Reply as ReplyHeld}
 use Rattle.share_board.specs.declared.reply.Reply.TheVariants as held
 use Rattle.share_board.specs.BoardValue.{IsOf, Follows, Keeps, reply_of}
 use Rattle.share_board.specs.Replies.{IsReply}
-use Rattle.board_events.specs.Replies.{reply_line}
+use Rattle.board_report.specs.ReplyLines.{reply_line}
 use Rattle.board_report.specs.Taking.{TakesEvents, NoneRefused, HasTaken, HasTold, HasHeard}
 
 takes_more : (p : Problem) (depth budget : ℕ) (b c d : Content) (events : List Event) (replies : List Reply) (event : Event) (answer : Reply) → TakesEvents p depth budget b events replies c → IsReply p depth budget c event answer → Leads p depth c event answer d

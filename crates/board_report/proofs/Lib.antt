@@ -1,3 +1,16 @@
+pub mod LinesBack
+pub mod LinesRead
+pub mod FaultLaws
+pub mod FaultPlaces
+pub mod FaultTold
+pub mod OneList
+pub mod FrontEvents
+pub mod ReadOnly
+pub mod Written
+pub mod SomeEvents
+pub mod FaultKinds
+pub mod FrontOnly
+pub mod EventForms
 pub mod InTurn
 pub mod Ends
 pub mod FirstRounds

@@ -12,7 +12,7 @@ use Rattle.certificate_text.specs.Spelling.{IsSpelling}
 use Rattle.board_laws.specs.Skeleton.{joined}
 use Rattle.board_laws.specs.Content.{Content, Event, Reply}
 use Rattle.share_board.specs.OpenPieces.{AreOpen}
-use Rattle.board_events.specs.Replies.{reply_line}
+use Rattle.board_report.specs.ReplyLines.{reply_line}
 use Rattle.board_report.specs.Taking.{EventsAreTaken}
 use Rattle.board_report.specs.declared.board_outcome.Shared.{Shared}
 

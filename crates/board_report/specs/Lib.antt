@@ -1,5 +1,14 @@
+pub mod EventLines
+pub mod EventSpelling
+pub mod EventFaults
+pub mod LaterLines
+pub mod EventsWritten
+pub mod ReplyLines
+pub mod ComingEvents
+pub mod EventLaws
 pub mod Rounds
 pub mod Taking
 pub mod BoardOutcome
 pub mod PieceText
 pub mod PieceAnswers
+pub mod Resuming

@@ -6,8 +6,8 @@ use Rattle.board_laws.specs.Content.{Event, result, part_piece, better, wider}
 use Rattle.partial_trees.specs.PartialValue.{partial_of}
 use Rattle.branch_bound.specs.declared.piece.Piece.{Piece}
 use Rattle.branch_bound.specs.declared.piece.Piece.TheVariants.{Proved, Better, Wider, Open}
-use Rattle.board_events.specs.Lines.{greatest}
-use Rattle.board_events.specs.Spelling.{text_of_event, HasSpelling}
+use Rattle.board_report.specs.EventLines.{greatest}
+use Rattle.board_report.specs.EventSpelling.{text_of_event, HasSpelling}
 
 -- the event that gives the answer to a board, for a round and a piece of these numbers; none, if no branch was begun
 abbrev pub event_in : ℕ → ℕ → Piece → Option Event

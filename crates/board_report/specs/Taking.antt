@@ -9,7 +9,7 @@ use Rattle.share_board.specs.declared.board.Board.{Board}
 use Rattle.share_board.specs.BoardValue.{IsOf}
 use Rattle.share_board.specs.Replies.{IsReply}
 use Rattle.share_board.specs.Rounds.{IsOpening}
-use Rattle.board_events.specs.Replies.{reply_line}
+use Rattle.board_report.specs.ReplyLines.{reply_line}
 
 -- each reply is the first that applies, and leads on
 abbrev pub TakesEvents : Problem → (depth budget : ℕ) → Content → List Event → List Reply → Content → Type 0

@@ -3,10 +3,10 @@
 ghost use Rattle.std.specs.Prelude.{◌≡◌, ◌≤◌, ℕ, [], ◌∷◌, IfOk, IfSome, option_map};
 ghost use Rattle.certificate_lines.specs.Lines.{most};
 ghost use Rattle.share_board.specs.Events.{event_of};
-ghost use Rattle.board_events.specs.Spelling.{text_of_event, HasSpelling, EventsAreSpelled};
+ghost use Rattle.board_report.specs.EventSpelling.{text_of_event, HasSpelling, EventsAreSpelled};
 ghost use Rattle.board_report.specs.PieceText.{event_in, piece_text_of, HasText};
 
-use board_events::write_event;
+use crate::event_writing::write_event;
 use branch_bound::Piece;
 use certificate_data::Format;
 use certificate_lines::WriteFault;
@@ -27,7 +27,7 @@ fn answer_event(piece: Piece, round: u32, number: u32) -> Option<Event>
 }
 
 /// Returns the text of an event that has one.
-fn event_lines(
+pub(crate) fn event_lines(
     alloc: Global,
     event: &Event,
     format: Format,

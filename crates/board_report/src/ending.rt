@@ -1,7 +1,6 @@
 //! How a board stands, and the certificate that its pieces join to.
 
-ghost use Rattle.std.specs.Prelude.{◌≡◌, ℕ, ◌++◌, List, length, IfOk, OnOk};
-ghost use Rattle.std.specs.List.{flat_map};
+ghost use Rattle.std.specs.{Prelude.{◌≡◌, ℕ, ◌++◌, List, length, IfOk, OnOk}, List.flat_map};
 ghost use Rattle.certificate_text.specs.Spelling.{IsSpelling};
 ghost use Rattle.certificate_data.specs.TreeValue.{certificate_of};
 ghost use Rattle.county_problem.specs.ProblemValue.{problem_of};

@@ -1,18 +1,33 @@
-//! The board of a command before its events.
+//! The board of a command before its events, and the order of its counties.
 
 ghost use Rattle.std.specs.Prelude.{◌≡◌, ℕ, ◌≤◌, length, IfOk, MatchResult};
 ghost use Rattle.county_problem.specs.ProblemValue.{problem_of};
 ghost use Rattle.board_laws.specs.Content.{Content};
-ghost use Rattle.share_board.specs.BoardValue.{IsOf};
-ghost use Rattle.share_board.specs.Rounds.{IsOpening, IsBoardFault};
+ghost use Rattle.share_board.specs.{BoardValue.IsOf, Rounds.{IsOpening, IsBoardFault}};
 ghost use Rattle.board_report.specs.Rounds.{IsFirstRound, round_by_code};
 
 use crate::shape::BoardShape;
 use county_codes::{Grouping, listed_codes};
-use county_problem::Problem;
+use county_problem::{OrderFault, Ordered, Problem};
 use place_sets::CountySet;
 use share_board::{Board, BoardFault};
-use std::alloc::Global;
+use std::alloc::{AllocError, Global};
+
+/// Returns the counties of a `problem` in the order of ascending codes.
+///
+/// # Errors
+///
+/// Returns an error if memory was refused.
+pub fn ordered_by_code<'a>(alloc: Global, problem: &'a Problem) -> Result<Ordered<'a>, AllocError>
+    ensures { IfOk result (λ o. o ≡ record { problem = problem.now; order = (problem_of problem.now).counties }) }
+{
+    let order = listed_codes(alloc, problem.counties())?;
+    match Ordered::build(alloc, problem, &order) {
+        Ok(ordered) => Ok(ordered),
+        Err(OrderFault::Memory) => Err(AllocError),
+        Err(OrderFault::WrongOrder) => unreachable!(),
+    }
+}
 
 /// Creates a board that no event has come to yet, for the proof that `target` is best. Its order is that of ascending
 /// codes, and one event may cost `budget` steps.

@@ -3,10 +3,8 @@
 ghost use Rattle.std.specs.Prelude.{◌≡◌, ℕ, ◌≤◌, length, map, MatchResult};
 ghost use Rattle.county_problem.specs.ProblemValue.{problem_of};
 ghost use Rattle.certificate_data.specs.Round.{Round as RoundValue};
-ghost use Rattle.share_board.specs.Events.{event_of};
-ghost use Rattle.share_board.specs.Rounds.{IsBoardFault};
-ghost use Rattle.board_report.specs.Rounds.{IsFirstRound};
-ghost use Rattle.board_report.specs.BoardOutcome.{IsShared};
+ghost use Rattle.share_board.specs.{Events.event_of, Rounds.IsBoardFault};
+ghost use Rattle.board_report.specs.{Rounds.IsFirstRound, BoardOutcome.IsShared};
 
 use crate::board_outcome::Shared;
 use crate::ending::ended;

@@ -3,13 +3,11 @@
 ghost use Rattle.std.specs.Prelude.{◌≡◌, ◌≢◌, ℕ, ◌++◌, ◌≤◌, Bool, false, List, length, map, OnOk};
 ghost use Rattle.county_problem.specs.ProblemValue.{problem_of};
 ghost use Rattle.board_laws.specs.Content.{Content, Reply as ReplyValue, Memory};
-ghost use Rattle.share_board.specs.BoardValue.{IsOf, Follows, Keeps, AreBoardLists, reply_of};
-ghost use Rattle.share_board.specs.Events.{event_of};
+ghost use Rattle.share_board.specs.{BoardValue.{IsOf, Follows, Keeps, AreBoardLists, reply_of}, Events.event_of};
 ghost use Rattle.share_board.specs.Replies.{IsReply};
-ghost use Rattle.board_events.specs.Replies.{reply_line};
-ghost use Rattle.board_report.specs.Taking.{HasTold, HasHeard};
+ghost use Rattle.board_report.specs.{ReplyLines.reply_line, Taking.{HasTold, HasHeard}};
 
-use board_events::push_reply;
+use crate::reply_lines::push_reply;
 use place_sets::CountySet;
 use search_groups::PartLists;
 use share_board::{Board, Event, Reply};

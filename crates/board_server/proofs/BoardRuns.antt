@@ -1,9 +1,7 @@
 -- A run of a board, from its opening to its end.
 use Rattle.std.proofs.Common.{◌≡◌, ℕ, ◌⊎◌, Bool, true, List, [], ◌∷◌, ◌++◌, length, refl, sym, ap, ◌∙◌, subst, inl, inr, Result, Ok, Err}
-use Rattle.grouping_laws.specs.Problem.{Problem, IsProblem}
+use Rattle.grouping_laws.specs.Problem.{Problem}
 use Rattle.grouping_laws.specs.Grouping.{Grouping}
-use Rattle.grouping_laws.specs.GroupsFrom.{IsOrder}
-use Rattle.grouping_laws.proofs.Digits.{often_member}
 use Rattle.grouping_laws.proofs.Elements.{has_from_contains, contains_from_has}
 use Rattle.county_problem.specs.ProblemValue.{problem_of}
 use Rattle.county_problem.specs.declared.problem.Problem.{Problem as ProblemHeld}
@@ -20,7 +18,7 @@ use Rattle.share_board.specs.declared.fault.BoardFault.TheVariants.{Memory}
 use Rattle.share_board.specs.BoardValue.{IsOf}
 use Rattle.share_board.specs.OpenPieces.{AreOpen}
 use Rattle.share_board.specs.Rounds.{IsOpening, IsBoardFault}
-use Rattle.board_events.specs.Coming.{Held, nothing_held, TellsFault}
+use Rattle.board_report.specs.ComingEvents.{Held, nothing_held, TellsFault}
 use Rattle.board_report.specs.BoardOutcome.{IsEnded}
 use Rattle.board_report.specs.declared.board_outcome.Shared.{Shared}
 use Rattle.board_server.specs.Telling.{IsRoundTold}
@@ -30,10 +28,6 @@ use Rattle.board_server.specs.Serving.{ServesFrom, HasServed, IsDone, EndsBy}
 use Rattle.board_server.specs.Runs.{RunsFrom, RunEnds, IsBoardRun}
 use Rattle.board_server.specs.declared.runs.ServeStop.{ServeStop}
 use Rattle.board_server.specs.declared.runs.ServeStop.TheVariants.{Board as BoardStop, Events as EventStop}
-
--- the codes of a problem's counties are an order of them
-pub listed_order : (p : Problem) (order : List ℕ) → IsProblem p → order ≡ p.counties → IsOrder p order
-listed_order p order is e = subst (IsOrder p) (sym e) (λ c. often_member p.counties c (is.once c))
 
 -- where no piece waits, none is found
 none_found : (skeleton : Skeleton) (found : List ℕ) → AreOpen skeleton found → waiting skeleton ≡ [] → length found ≡ 0

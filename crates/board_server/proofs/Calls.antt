@@ -10,8 +10,8 @@ use Rattle.share_board.specs.declared.reply.Reply.TheVariants as held
 use Rattle.share_board.specs.Events.{event_of}
 use Rattle.share_board.specs.BoardValue.{IsOf, Follows, Keeps, reply_of}
 use Rattle.share_board.specs.Replies.{IsReply}
-use Rattle.board_events.specs.Coming.{IsPrompt}
-use Rattle.board_events.specs.Replies.{reply_line}
+use Rattle.board_report.specs.ComingEvents.{IsPrompt}
+use Rattle.board_report.specs.ReplyLines.{reply_line}
 use Rattle.board_server.specs.Telling.{IsSaidBehind, HasSmallNumbers}
 use Rattle.written_output.specs.Writing.{IsWritten}
 use Rattle.board_server.specs.Served.{Moment, Reads, TakesOne, TellsOne}
@@ -43,13 +43,13 @@ small_numbers order test depth problem b event held.Memory board f = tt
 
 module _ {C : Type 0} (test : C → ℕ → Bool) (b : Content) (old new : Moment C) (event : EventHeld) (answer : Option EventHeld) (reply : ReplyHeld C) where
   -- the event was taken
-  pub takes_one : answer ≡ Some event → Reads old new (Ok answer) → IsPrompt 65536 old.given new.given (Ok answer) new.served.reader
+  pub takes_one : answer ≡ Some event → Reads old new (Ok answer) → IsPrompt 1048576 old.given new.given (Ok answer) new.served.reader
       → IsReply (problem_of old.served.board.problem) old.served.board.depth old.served.board.budget b (event_of event) (reply_of old.served.board.round.order test reply)
       → Follows test old.served.board.depth old.served.board.problem b (event_of event) (reply_of old.served.board.round.order test reply) new.served.board → TakesOne test b old new
   takes_one some reads prompt says follows = record {
     event = event;
     reads = subst (λ z. Reads old new (Ok z)) some reads;
-    prompt = subst (λ z. IsPrompt 65536 old.given new.given (Ok z) new.served.reader) some prompt;
+    prompt = subst (λ z. IsPrompt 1048576 old.given new.given (Ok z) new.served.reader) some prompt;
     reply = reply_of old.served.board.round.order test reply;
     says = says;
     next = follows.0;
@@ -58,7 +58,7 @@ module _ {C : Type 0} (test : C → ℕ → Bool) (b : Content) (old new : Momen
   }
 
   -- and told
-  pub tells_one : answer ≡ Some event → Reads old new (Ok answer) → IsPrompt 65536 old.given new.given (Ok answer) new.served.reader
+  pub tells_one : answer ≡ Some event → Reads old new (Ok answer) → IsPrompt 1048576 old.given new.given (Ok answer) new.served.reader
       → IsReply (problem_of old.served.board.problem) old.served.board.depth old.served.board.budget b (event_of event) (reply_of old.served.board.round.order test reply)
       → Follows test old.served.board.depth old.served.board.problem b (event_of event) (reply_of old.served.board.round.order test reply) new.served.board → Keeps old.served.board new.served.board
       → (text written : List ℕ)

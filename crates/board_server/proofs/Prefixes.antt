@@ -2,7 +2,7 @@
 use Rattle.std.proofs.Common.{ℕ, List, [], ◌∷◌, ◌++◌, refl, sym, ap, ◌∙◌, append_assoc}
 use Rattle.grouping_laws.specs.Problem.{Problem}
 use Rattle.board_laws.specs.Content.{Content, Event, Reply}
-use Rattle.board_events.specs.Replies.{reply_line}
+use Rattle.board_report.specs.ReplyLines.{reply_line}
 use Rattle.board_report.specs.Taking.{TakesEvents}
 use Rattle.board_server.specs.Serving.{TakesAndTells}
 use Rattle.board_server.specs.Laws.{HasPrefix, TextsHavePrefixes, RepliesAreShared}

@@ -1,5 +1,5 @@
 -- Events that are read, taken and told in turn.
-use Rattle.std.proofs.Common.{◌≡◌, ◌≢◌, ℕ, ◌+◌, ◌≤◌, ◌⊎◌, Bool, List, [], ◌∷◌, ◌++◌, length, length-append, refl, sym, ap, ◌∙◌, subst, arith, append_assoc, append-nil, inl, inr, Ok, Err, None}
+use Rattle.std.proofs.Common.{◌≡◌, ◌≢◌, ℕ, ◌+◌, ◌≤◌, ◌⊎◌, Bool, List, [], ◌∷◌, ◌++◌, length, length-append, refl, sym, ap, ◌∙◌, subst, arith, append_assoc, append-nil, inl, inr, Result, Ok, Err, None}
 use Rattle.std.proofs.lemmas.List.{flat_map_more}
 use Rattle.std.proofs.lemmas.List.Elements.{filter-append}
 use Rattle.place_sets.proofs.AllLists.{all_append}
@@ -16,17 +16,17 @@ use Rattle.share_board.specs.declared.board.Board.{Board}
 use Rattle.share_board.specs.Events.{event_of}
 use Rattle.share_board.specs.BoardValue.{IsOf}
 use Rattle.share_board.specs.Replies.{IsReply}
-use Rattle.board_events.specs.Coming.{Held, PullsOnto, TakesEvent, TellsFault, lines_in}
-use Rattle.board_events.specs.Replies.{reply_line}
-use Rattle.board_events.specs.Spelling.{text_of_event, text_of_events, HasSpelling}
-use Rattle.board_events.proofs.ComingLaws.{pulls_none, pulls_more}
+use Rattle.board_report.specs.ComingEvents.{Held, PullsOnto, TakesEvent, TellsFault, lines_in}
+use Rattle.board_report.specs.ReplyLines.{reply_line}
+use Rattle.board_report.specs.EventSpelling.{text_of_event, text_of_events, HasSpelling}
+use Rattle.board_texts.proofs.WholeLines.{pulls_none, pulls_more}
 use Rattle.board_server.specs.Telling.{IsSaidBehind}
 use Rattle.written_output.specs.Writing.{IsWritten}
 use Rattle.board_server.specs.declared.served_board.ServedBoard.{ServedBoard}
 use Rattle.board_server.specs.declared.served_board.Served.{Served}
 use Rattle.board_server.specs.declared.served_board.Served.TheVariants.{Taken, Ended}
 use Rattle.board_server.specs.Served.{Moment, KeepsServed, IsQuiet, TakesNone, TakesOne, TellsOne, ServesNext}
-use Rattle.board_server.specs.Serving.{SomeWaits, TakesAndTells, ServesFrom, IsDone, IsThere, HasServed, HasFewBehind}
+use Rattle.board_server.specs.Serving.{SomeWaits, TakesAndTells, ServesFrom, IsDone, IsThere, EndsBy, HasServed, HasFewBehind}
 use Rattle.written_output.proofs.Texts.{written_none, written_both}
 
 -- no piece waits where the number of those that wait is 0
@@ -123,7 +123,7 @@ few_first : (held : List ℕ) → length held ≤ length held
 few_first held = omega arith
 
 -- the bytes behind an event that was read are few
-few_more : (held : List ℕ) (before after : Given) (old new bytes one : List ℕ) → PullsOnto before after old bytes → bytes ≡ one ++ new → (after ≡ before) ⊎ (length new ≤ 65536) → HasFewBehind held old → HasFewBehind held new
+few_more : (held : List ℕ) (before after : Given) (old new bytes one : List ℕ) → PullsOnto before after old bytes → bytes ≡ one ++ new → (after ≡ before) ⊎ (length new ≤ 1048576) → HasFewBehind held old → HasFewBehind held new
 few_more held before after old new bytes one pulls text (inr few) was = inl few
 few_more held before after old new bytes one pulls text (inl same) was = go was
   where
@@ -242,68 +242,53 @@ module _ {C : Type 0} (test : C → ℕ → Bool) (b : Content) (old now : Momen
     prompt = λ gone. absurd (some gone);
   }
 
+  -- where bytes were pulled meanwhile and nothing was written, while a piece waits
+  done_pulled : (new : Moment C) (answer : Result (Unit {0}) TextFault) (bytes : List ℕ) → SomeWaits come.last → PullsOnto now.given new.given now.served.reader.bytes bytes → IsQuiet now new
+      → EndsBy test old.served.format old.served.counties (problem_of board.problem) board.depth board.budget come.last (record { bytes = bytes; lines = now.served.reader.lines }) new answer → HasServed test b old new answer
+  done_pulled new answer bytes some pulls quiet ends = record {
+    text = come.text;
+    last = come.last;
+    left = record { bytes = bytes; lines = now.served.reader.lines };
+    serves = pulled_there new.given bytes pulls;
+    written = quiet_there new quiet;
+    ends = ends;
+    prompt = λ gone. absurd (some gone);
+  }
+
   -- at the end of the source
   pub done_ended : (new : Moment C) → SomeWaits come.last → TakesNone now new (Ok None) → HasServed test b old new (Ok tt)
   done_ended new some none =
-      let left : Held = record { bytes = none.reads.bytes; lines = now.served.reader.lines } in
-      record {
-        text = come.text;
-        last = come.last;
-        left = left;
-        serves = pulled_there new.given none.reads.bytes none.reads.pulls;
-        written = quiet_there new none.quiet;
-        ends = (record { is = subst (λ (z : Board C). IsOf test z come.last) (sym none.board) come.is; reader = none.reads.next.2 }, inr (some, none.reads.next.0, none.reads.next.1));
-        prompt = λ gone. absurd (some gone);
-      }
+      let is = subst (λ (z : Board C). IsOf test z come.last) (sym none.board) come.is in
+      done_pulled new (Ok tt) none.reads.bytes some none.reads.pulls none.quiet (record { is = is; reader = none.reads.next.2 }, inr (some, none.reads.next.0, none.reads.next.1))
 
   -- at a fault
   pub done_fault : (new : Moment C) (fault : TextFault) → SomeWaits come.last → TakesNone now new (Err fault) → HasServed test b old new (Err fault)
   done_fault new fault some none =
       let left : Held = record { bytes = none.reads.bytes; lines = now.served.reader.lines } in
-      record {
-        text = come.text;
-        last = come.last;
-        left = left;
-        serves = pulled_there new.given none.reads.bytes none.reads.pulls;
-        written = quiet_there new none.quiet;
-        ends = (
-          some,
-          inl (
-            record { is = subst (λ (z : Board C). IsOf test z come.last) (sym none.board) come.is; reader = none.reads.next.stays },
-            tells_there left new.served.reader new.given.ended fault none.reads.next,
-          ),
-        );
-        prompt = λ gone. absurd (some gone);
-      }
+      let is = subst (λ (z : Board C). IsOf test z come.last) (sym none.board) come.is in
+      done_pulled new (Err fault) none.reads.bytes some none.reads.pulls none.quiet
+      (some, inl (record { is = is; reader = none.reads.next.stays }, tells_there left new.served.reader new.given.ended fault none.reads.next))
 
   -- where an event was taken and not told
   pub done_untold : (new : Moment C) (fault : TextFault) → SomeWaits come.last → IsTextMemory fault → TakesOne test come.last now new → IsQuiet now new → HasServed test b old new (Err fault)
   done_untold new fault some memory took quiet =
       let left : Held = record { bytes = took.reads.bytes; lines = now.served.reader.lines } in
       let event = event_of took.event in
-      record {
-        text = come.text;
-        last = come.last;
-        left = left;
-        serves = pulled_there new.given took.reads.bytes took.reads.pulls;
-        written = quiet_there new quiet;
-        ends = (
-          some,
-          inr (
-            memory,
-            record {
-              event = event;
-              takes = takes_there left new.served.reader event took.reads.next;
-              reply = took.reply;
-              says = says_there event took.reply took.says;
-              next = took.next;
-              leads = leads_there event took.reply took.next took.leads;
-              is = took.is;
-            },
-          ),
-        );
-        prompt = λ gone. absurd (some gone);
-      }
+      done_pulled new (Err fault) took.reads.bytes some took.reads.pulls quiet (
+        some,
+        inr (
+          memory,
+          record {
+            event = event;
+            takes = takes_there left new.served.reader event took.reads.next;
+            reply = took.reply;
+            says = says_there event took.reply took.says;
+            next = took.next;
+            leads = leads_there event took.reply took.next took.leads;
+            is = took.is;
+          },
+        ),
+      )
 
 -- what was kept twice is kept
 pub keeps_then : {C : Type 0} (before mid later : ServedBoard C) → KeepsServed before mid → KeepsServed mid later → KeepsServed before later

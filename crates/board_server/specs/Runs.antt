@@ -10,7 +10,7 @@ use Rattle.board_laws.specs.Content.{Content}
 use Rattle.share_board.specs.Rounds.{IsOpening, IsBoardFault}
 use Rattle.share_board.specs.declared.fault.BoardFault.{BoardFault}
 use Rattle.share_board.specs.declared.fault.BoardFault.TheVariants as fault
-use Rattle.board_events.specs.Coming.{Held, nothing_held, TellsFault}
+use Rattle.board_report.specs.ComingEvents.{Held, nothing_held, TellsFault}
 use Rattle.board_report.specs.BoardOutcome.{IsEnded}
 use Rattle.board_report.specs.declared.board_outcome.Shared.{Shared}
 use Rattle.board_server.specs.Telling.{IsRoundTold}

@@ -9,8 +9,8 @@ use Rattle.share_board.specs.Events.{event_of}
 use Rattle.share_board.specs.declared.event.Event.{Event as EventHeld}
 use Rattle.share_board.specs.BoardValue.{IsOf, Keeps}
 use Rattle.share_board.specs.Replies.{IsReply}
-use Rattle.board_events.specs.Coming.{ReadsNext, IsPrompt}
-use Rattle.board_events.specs.Replies.{reply_line}
+use Rattle.board_report.specs.ComingEvents.{ReadsNext, IsPrompt}
+use Rattle.board_report.specs.ReplyLines.{reply_line}
 use Rattle.board_server.specs.Telling.{IsSaidBehind}
 use Rattle.written_output.specs.Writing.{IsWritten}
 use Rattle.written_output.specs.declared.written.Written.{Written}
@@ -52,7 +52,7 @@ pub record TakesNone {C : Type 0} (old new : Moment C) (answer : Result (Option 
 pub record TakesOne {C : Type 0} (test : C → ℕ → Bool) (b : Content) (old new : Moment C) : Type 0 where
   pub event : EventHeld
   pub reads : Reads old new (Ok (Some event))
-  pub prompt : IsPrompt 65536 old.given new.given (Ok (Some event)) new.served.reader
+  pub prompt : IsPrompt 1048576 old.given new.given (Ok (Some event)) new.served.reader
   pub reply : Reply
   pub says : IsReply (problem_of old.served.board.problem) old.served.board.depth old.served.board.budget b
       (event_of event) reply

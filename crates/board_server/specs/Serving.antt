@@ -11,9 +11,9 @@ use Rattle.board_laws.specs.Skeleton.{waiting}
 use Rattle.board_laws.specs.Content.{Content, Event, Reply, Leads}
 use Rattle.share_board.specs.BoardValue.{IsOf}
 use Rattle.share_board.specs.Replies.{IsReply}
-use Rattle.board_events.specs.Coming.{Held, PullsOnto, TakesEvent, TellsFault, lines_in}
-use Rattle.board_events.specs.Replies.{reply_line}
-use Rattle.board_events.specs.Spelling.{text_of_events, HasSpelling}
+use Rattle.board_report.specs.ComingEvents.{Held, PullsOnto, TakesEvent, TellsFault, lines_in}
+use Rattle.board_report.specs.ReplyLines.{reply_line}
+use Rattle.board_report.specs.EventSpelling.{text_of_events, HasSpelling}
 use Rattle.board_server.specs.Telling.{IsSaidBehind}
 use Rattle.written_output.specs.Writing.{IsWritten}
 use Rattle.board_server.specs.Served.{Moment}
@@ -79,7 +79,7 @@ EndsBy test format counties p depth budget last left new (Err fault) =
 
 -- at most the bytes of one pull stand behind the events, unless more were held before
 abbrev pub HasFewBehind : (held left : List ℕ) → Type 0
-HasFewBehind held left = (length left ≤ 65536) ⊎ (length left ≤ length held)
+HasFewBehind held left = (length left ≤ 1048576) ⊎ (length left ≤ length held)
 
 -- Events were read, taken and told, until it ended so. Nothing is pulled once no piece waits.
 pub record HasServed {C : Type 0} (test : C → ℕ → Bool) (b : Content) (old new : Moment C)

@@ -1,25 +1,23 @@
 //! A board from its opening to its end.
 
-ghost use Rattle.std.specs.Prelude.{◌≡◌, ◌≤◌, ℕ, List, [], length, IfOk, OnOk, OnErr};
+ghost use Rattle.std.specs.Prelude.{◌≡◌, ◌≤◌, ℕ, List, [], length, OnOk, OnErr};
 ghost use Rattle.county_problem.specs.ProblemValue.{problem_of};
 ghost use Rattle.certificate_data.specs.Round.{Round as RoundValue};
 ghost use Rattle.board_laws.specs.Content.{Content};
-ghost use Rattle.share_board.specs.BoardValue.{IsOf};
-ghost use Rattle.share_board.specs.declared.fault.BoardFault.TheVariants.{Memory};
+ghost use Rattle.share_board.specs.{BoardValue.IsOf, declared.fault.BoardFault.TheVariants.Memory};
 ghost use Rattle.board_report.specs.Rounds.{IsFirstRound};
 ghost use Rattle.written_output.specs.Writing.{HasWritten};
-ghost use Rattle.board_server.specs.Telling.{IsRoundTold};
-ghost use Rattle.board_server.specs.Runs.{IsBoardRun};
+ghost use Rattle.board_server.specs.{Telling.IsRoundTold, Runs.IsBoardRun};
 ghost use Rattle.board_server.specs.declared.runs.ServeStop.TheVariants.{Board as BoardStop};
 
 use crate::served_board::ServedBoard;
 use crate::serving::serve;
 use crate::telling::push_round_and_pieces;
-use board_report::{BoardShape, Shared, ended, opened_board};
+use board_report::{BoardShape, Shared, ended, opened_board, ordered_by_code};
 use certificate_lines::TextFault;
 use cli_file_stores::Sink;
-use county_codes::{Grouping, listed_codes};
-use county_problem::{OrderFault, Ordered, Problem};
+use county_codes::Grouping;
+use county_problem::{Ordered, Problem};
 use field_lines::Source;
 use place_sets::{CountySet, MaskSet, Places, fits_mask};
 use share_board::{Board, BoardFault};
@@ -40,18 +38,6 @@ impl From<AllocError> for ServeStop {
 
     fn from(_e: AllocError) -> ServeStop {
         ServeStop::Board(BoardFault::Memory)
-    }
-}
-
-/// Builds the order of ascending codes.
-fn ordered_by_code(alloc: Global, problem: &Problem) -> Result<Ordered, AllocError>
-    ensures { IfOk result (λ o. o ≡ record { problem = problem.now; order = (problem_of problem.now).counties }) }
-{
-    let order = listed_codes(alloc, problem.counties())?;
-    match Ordered::build(alloc, problem, &order) {
-        Ok(ordered) => Ok(ordered),
-        Err(OrderFault::Memory) => Err(AllocError),
-        Err(OrderFault::WrongOrder) => unreachable!(),
     }
 }
 

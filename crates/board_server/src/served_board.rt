@@ -2,9 +2,9 @@
 
 ghost use Rattle.std.specs.Prelude.{◌≡◌};
 ghost use Rattle.share_board.specs.BoardValue.{AreBoardLists};
-ghost use Rattle.board_events.specs.Coming.{nothing_held};
+ghost use Rattle.board_report.specs.ComingEvents.{nothing_held};
 
-use board_events::EventReader;
+use board_report::EventReader;
 use certificate_data::Format;
 use place_sets::CountySet;
 use search_groups::PartLists;

@@ -2,19 +2,16 @@
 
 ghost use Rattle.std.specs.Prelude.{◌≡◌, ◌≤◌, ◌++◌, ℕ, List, false, length, IfOk};
 ghost use Rattle.county_problem.specs.ProblemValue.{problem_of};
-ghost use Rattle.certificate_lines.specs.Lines.{most};
-ghost use Rattle.certificate_lines.specs.Rest.{IsTextMemory};
+ghost use Rattle.certificate_lines.specs.{Lines.most, Rest.IsTextMemory};
 ghost use Rattle.board_laws.specs.Content.{Content};
 ghost use Rattle.share_board.specs.BoardValue.{IsOf, AreBoardLists, reply_of};
-ghost use Rattle.board_events.specs.Coming.{is_read_fault};
-ghost use Rattle.board_events.specs.Replies.{reply_line};
-ghost use Rattle.board_server.specs.Telling.{IsSaidBehind, HasSmallNumbers};
-ghost use Rattle.board_server.specs.Served.{KeepsServed, ServesNext};
+ghost use Rattle.board_report.specs.{ComingEvents.is_read_fault, ReplyLines.reply_line};
+ghost use Rattle.board_server.specs.{Telling.{IsSaidBehind, HasSmallNumbers}, Served.{KeepsServed, ServesNext}};
 ghost use Rattle.board_server.specs.Serving.{HasServed};
 
 use crate::served_board::{Served, ServedBoard};
 use crate::telling::push_said;
-use board_events::push_reply;
+use board_report::push_reply;
 use certificate_lines::{TextFault, TextKind};
 use cli_file_stores::Sink;
 use county_problem::Ordered;

@@ -1,12 +1,10 @@
 //! What is told of a board: its round, and the pieces that wait.
 
-ghost use Rattle.std.specs.Prelude.{◌≡◌, ◌+◌, ◌≤◌, ◌++◌, ℕ, List, OnOk, IfOk};
-ghost use Rattle.std.specs.List.{range_with_len};
+ghost use Rattle.std.specs.{Prelude.{◌≡◌, ◌+◌, ◌≤◌, ◌++◌, ℕ, List, OnOk, IfOk}, List.range_with_len};
 ghost use Rattle.county_problem.specs.ProblemValue.{problem_of};
 ghost use Rattle.board_laws.specs.Content.{Content};
 ghost use Rattle.share_board.specs.BoardValue.{IsOf, reply_of};
-ghost use Rattle.board_server.specs.Telling.{IsToldIfWaiting, ArePiecesTold, IsRoundTold, IsSaidBehind};
-ghost use Rattle.board_server.specs.Telling.{HasSmallNumbers};
+ghost use Rattle.board_server.specs.Telling.{IsToldIfWaiting, ArePiecesTold, IsRoundTold, IsSaidBehind, HasSmallNumbers};
 
 use board_report::waiting_state;
 use board_texts::push_round;

@@ -1,5 +1,5 @@
 -- The first fault of the lines at the front of a text: where it stands, of which kinds it is, and that it stays.
-use Rattle.std.proofs.Common.{◌≡◌, ℕ, zero, suc, ◌+◌, ◌≤◌, Bool, true, false, List, [], ◌∷◌, ◌++◌, codes, drop, length, Result, Ok, Err, refl, ap, subst, ◌∙◌, arith}
+use Rattle.std.proofs.Common.{◌≡◌, ℕ, zero, suc, ◌+◌, ◌≤◌, Bool, true, false, List, [], ◌∷◌, ◌++◌, codes, drop, length, Result, Ok, Err, refl, ap, sym, subst, ◌∙◌, arith}
 use Rattle.field_lines.specs.RawPieces.{RawLine}
 use Rattle.county_codes.specs.declared.group.Group.{Group}
 use Rattle.grouping_laws.specs.Grouping.{Grouping}
@@ -21,7 +21,7 @@ use Rattle.piece_states.proofs.ReadSteps.{told_by_line}
 use Rattle.board_texts.specs.RoundReading.{round_on, groups_before, groups_from, round_with, round_from}
 use Rattle.board_texts.specs.BoardText.{BoardTextTold, Round, Open, names_round, in_form, text_from}
 use Rattle.board_texts.proofs.GroupLines.{groups_by_line}
-use Rattle.board_texts.proofs.TextsBack.{round_by_first, piece_by_first, by_form}
+use Rattle.board_texts.proofs.TextsBack.{by_form}
 
 -- The fault stands on one of the lines or behind the last, and is one of a line. If lines are not missing, it stays
 -- whatever lines come behind.
@@ -95,6 +95,13 @@ told_missing n fault front same = subst (λ (f : TextFault). IsTold n [] f front
   stays = λ whole. absurd (whole refl);
 })
 
+-- what a first line tells with the lines behind it
+abbrev by_first : {F X Y : Type 0} → (F → List RawLine → Result Y TextFault) → (F → Result Y TextFault → Result X TextFault) → List RawLine → Result F TextKind → Result X TextFault
+by_first {X = X} behind with_first lines r = elim r as (λ _. Result X TextFault) [
+  | Ok first ↦ with_first first (behind first lines)
+  | Err kind ↦ Err (text_fault_at kind 1)
+]
+
 same_fault : {X : Type 0} (a b : TextFault) → ◌≡◌ {A = Result X TextFault} (Err a) (Err b) → a ≡ b
 same_fault a b h = cc
 
@@ -140,37 +147,36 @@ module _ (fault : TextFault) where
       go same none (Err kind) e said k =
           told_here n piece lines kind fault (told_from closing n) said (same_fault (text_fault_at kind n) fault k) (λ more. ap (told_by_line closing n (lines ++ more)) e)
 
+  -- a first line, and what is read of the lines behind it
+  first_told : {F X Y : Type 0} (on : List (List ℕ) → Result F TextKind) (behind : F → List RawLine → Result Y TextFault) (with_first : F → Result Y TextFault → Result X TextFault) (front : List RawLine → Result X TextFault)
+      → ((words : List (List ℕ)) → Said (on words)) → front [] ≡ Err (text_fault_at CutShort 1) → ((piece : RawLine) (lines : List RawLine) → front (piece ∷ lines) ≡ by_first behind with_first lines (by_words on piece))
+      → ((first : F) (other : TextFault) → with_first first (Err other) ≡ Err other) → ((first : F) (r : Result Y TextFault) → with_first first r ≡ Err fault → r ≡ Err fault)
+      → ((first : F) (lines : List RawLine) → behind first lines ≡ Err fault → IsTold 2 lines fault (behind first)) → (lines : List RawLine) → front lines ≡ Err fault → IsTold 1 lines fault front
+  first_told on behind with_first front said missing step kept err later [] h = told_missing 1 fault front (same_fault (text_fault_at CutShort 1) fault (sym missing ∙ h))
+  first_told {F = F} on behind with_first front said missing step kept err later (piece ∷ lines) h = go (by_words on piece) refl (words_then_said on piece said)
+    where
+      go : (r : Result F TextKind) → by_words on piece ≡ r → Said r → IsTold 1 (piece ∷ lines) fault front
+      go (Ok first) e s =
+          told_further 1 piece lines fault (behind first) front
+          (λ more m. step piece (lines ++ more) ∙ ap (by_first behind with_first (lines ++ more)) e ∙ ap (with_first first) m ∙ kept first fault)
+          (later first lines (err first (behind first lines) (sym (ap (by_first behind with_first lines) e) ∙ sym (step piece lines) ∙ h)))
+      go (Err kind) e s =
+          told_here 1 piece lines kind fault front s (same_fault (text_fault_at kind 1) fault (sym (ap (by_first behind with_first lines) e) ∙ sym (step piece lines) ∙ h))
+          (λ more. step piece (lines ++ more) ∙ ap (by_first behind with_first (lines ++ more)) e)
+
   round_err : (first : ℕ × ℕ × ℕ) (r : Result Grouping TextFault) → round_with first r ≡ Err fault → r ≡ Err fault
   round_err first (Ok target) h = cc
   round_err first (Err other) h = cc
 
   pub round_told_at : (lines : List RawLine) → round_from lines ≡ Err fault → IsTold 1 lines fault round_from
-  round_told_at [] h = told_missing 1 fault round_from (same_fault (text_fault_at CutShort 1) fault h)
-  round_told_at (piece ∷ lines) h = go (by_words round_on piece) refl (words_then_said round_on piece round_said) h
-    where
-      go : (r : Result (ℕ × ℕ × ℕ) TextKind) → by_words round_on piece ≡ r → Said r → round_by_first lines r ≡ Err fault → IsTold 1 (piece ∷ lines) fault round_from
-      go (Ok first) e said k =
-          told_further 1 piece lines fault (groups_from first.2 2) round_from
-          (λ more m. ap (round_by_first (lines ++ more)) e ∙ ap (round_with first) m)
-          (groups_told first.2 2 lines (round_err first (groups_from first.2 2 lines) k))
-      go (Err kind) e said k =
-          told_here 1 piece lines kind fault round_from said (same_fault (text_fault_at kind 1) fault k) (λ more. ap (round_by_first (lines ++ more)) e)
+  round_told_at = first_told round_on (λ first. groups_from first.2 2) round_with round_from round_said refl (λ piece lines. refl) (λ first other. refl) round_err (λ first. groups_told first.2 2)
 
   piece_err : (first : ℕ × ℕ) (r : Result Told TextFault) → piece_with first r ≡ Err fault → r ≡ Err fault
   piece_err first (Ok told) h = cc
   piece_err first (Err other) h = cc
 
   pub piece_told_at : (lines : List RawLine) → piece_from lines ≡ Err fault → IsTold 1 lines fault piece_from
-  piece_told_at [] h = told_missing 1 fault piece_from (same_fault (text_fault_at CutShort 1) fault h)
-  piece_told_at (piece ∷ lines) h = go (by_words open_on piece) refl (words_then_said open_on piece open_said) h
-    where
-      go : (r : Result (ℕ × ℕ) TextKind) → by_words open_on piece ≡ r → Said r → piece_by_first lines r ≡ Err fault → IsTold 1 (piece ∷ lines) fault piece_from
-      go (Ok first) e said k =
-          told_further 1 piece lines fault (told_from true 2) piece_from
-          (λ more m. ap (piece_by_first (lines ++ more)) e ∙ ap (piece_with first) m)
-          (told_told true 2 lines (piece_err first (told_from true 2 lines) k))
-      go (Err kind) e said k =
-          told_here 1 piece lines kind fault piece_from said (same_fault (text_fault_at kind 1) fault k) (λ more. ap (piece_by_first (lines ++ more)) e)
+  piece_told_at = first_told open_on (λ first. told_from true 2) piece_with piece_from open_said refl (λ piece lines. refl) (λ first other. refl) piece_err (λ first. told_told true 2)
 
   form_err : {X : Type 0} (form : X → BoardTextTold) (r : Result X TextFault) → in_form form r ≡ Err fault → r ≡ Err fault
   form_err form (Ok told) h = cc

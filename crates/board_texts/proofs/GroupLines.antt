@@ -23,7 +23,7 @@ groups_by_line left n pieces r = elim r as (λ _. Result Grouping TextFault) [
   | Err kind ↦ Err (text_fault_at kind n)
 ]
 
--- the groups that were read from one place to another, where so many are left
+-- the groups that were read from one place to another, with the number of those that are left
 pub record GroupsRead (count : ℕ) (start : Rest) (groups : Grouping) (left : ℕ) (rest : Rest) : Type 0 where
   pub gives : groups_from count start.number (lines_of start) ≡ groups_before groups (groups_from left rest.number (lines_of rest))
   pub text : start.text ≡ text_of_items (map Grouped groups) ++ rest.text

@@ -44,7 +44,7 @@ module _ (left : ℕ) (group : Group) (groups : Grouping) where
       let parts = subst (λ (w : List Wanted). AllFit w (map Grouped (group ∷ groups))) (wanted_first left) all in
       (parts.0, subst (λ (w : List Wanted). AllFit w (map Grouped groups)) (wanted_behind left) parts.1)
 
--- so many groups, which fit
+-- groups that fit, with their number
 pub record AreGroups (left : ℕ) (groups : Grouping) : Type 0 where
   pub number : length groups ≡ left
   pub each : AllFit (groups_wanted left) (map Grouped groups)

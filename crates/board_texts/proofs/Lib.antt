@@ -5,6 +5,6 @@ pub mod TextsBack
 pub mod FaultsTold
 pub mod WholeLines
 pub mod ComingLaws
-pub mod FrontOnly
+pub mod BoardForm
 pub mod TextLaws
 pub mod Examples

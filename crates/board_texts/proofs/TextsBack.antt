@@ -105,7 +105,7 @@ some_bytes (Open piece) =
     let words = open_words piece.round piece.piece in
     omega (arith, length-append (line_of words) (text_of_told piece.told), length-append (join_with_byte 32 words) (10 ∷ []))
 
--- so many bytes are read
+-- a text that is read has at least one byte
 pub some_read : {X : Type 0} (view : X → BoardTextTold) (many : X → ℕ) (text : List ℕ) (r : Result X TextFault) → IfOk r (λ x. take (many x) text ≡ text_of (view x)) → IfOk r (λ x. 0 < many x)
 some_read view many text (Ok x) is = omega (arith, some_bytes (view x), ap length is, length-take (many x) text)
 some_read view many text (Err fault) is = tt

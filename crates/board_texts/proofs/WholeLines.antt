@@ -5,12 +5,16 @@ use Rattle.std.proofs.lemmas.Bool.{cases_Bool}
 use Rattle.std.proofs.Math.Seq.{take-append_seam, take-append-add}
 use Rattle.std.proofs.lemmas.List.{take-append-drop, take-append-le, take-take}
 use Rattle.std.proofs.lemmas.List.Splits.{slice_split-cons_yes, slice_split-cons_no, join_with_byte-slice_split}
-use Rattle.field_lines.specs.RawPieces.{RawLine, is_lf, numbered, raw_lines_from}
+use Rattle.field_lines.specs.RawPieces.{RawLine, is_lf, numbered, raw_lines, raw_lines_from}
 use Rattle.field_lines.specs.Source.{Given}
 use Rattle.field_lines.proofs.SplitLemmas.{parts_of}
 use Rattle.certificate_lines.specs.Spelling.{item_line, item_words, text_of_items}
 use Rattle.certificate_lines.specs.declared.item.Item.{Item}
-use Rattle.board_texts.specs.Coming.{PullsOnto}
+use Rattle.board_texts.specs.TextForms.{EndsWithLf, PullsOnto}
+
+-- nothing was pulled
+pub pulls_none : (given : Given) (held : List ℕ) → PullsOnto given given held held
+pulls_none given held = record { pulled = []; given = sym (append-nil given.bytes); text_is = sym (append-nil held) }
 
 -- one pull behind another
 pub pulls_more : (before mid after : Given) (held text more : List ℕ) → PullsOnto before mid held text → PullsOnto mid after text more → PullsOnto before after held more
@@ -58,7 +62,7 @@ split_at_lf (b ∷ text) later =
     (cases_Bool (is_lf b))
 
 -- pieces that an LF ends, the first of which has the number n
-abbrev pub ended_pieces : ℕ → List (List ℕ) → List RawLine
+abbrev ended_pieces : ℕ → List (List ℕ) → List RawLine
 ended_pieces n [] = []
 ended_pieces n (part ∷ parts) = record { number = n; bytes = part; ended = true } ∷ ended_pieces (n + 1) parts
 
@@ -75,13 +79,21 @@ ended_first n (first ∷ next ∷ parts) part more =
     ∙ ap (λ (k : ℕ). ended_pieces n (first ∷ next ∷ parts) ++ numbered k (part ∷ more)) same
 
 -- the pieces of whole lines stand in front of the pieces behind them
-pub lines_first : (n : ℕ) (text later : List ℕ) → raw_lines_from n (text ++ 10 ∷ later) ≡ ended_pieces n (slice_split is_lf text) ++ raw_lines_from (n + length (slice_split is_lf text)) later
+lines_first : (n : ℕ) (text later : List ℕ) → raw_lines_from n (text ++ 10 ∷ later) ≡ ended_pieces n (slice_split is_lf text) ++ raw_lines_from (n + length (slice_split is_lf text)) later
 lines_first n text later =
     let parts = slice_split is_lf text in
     let behind = parts_of is_lf later in
     ap (numbered n) (split_at_lf text later ∙ ap (λ (ps : List (List ℕ)). parts ++ ps) behind.is)
     ∙ ended_first n parts behind.first behind.more
     ∙ ap (λ (ps : List (List ℕ)). ended_pieces n parts ++ numbered (n + length parts) ps) (sym behind.is)
+
+-- what is read of whole lines, and of whatever lines come behind them, is read of their text with any bytes behind it
+pub lines_stay : {R : Type 0} (read : List RawLine → R) (r : R) → ((pieces : List RawLine) → read pieces ≡ r → (later : List RawLine) → read (pieces ++ later) ≡ r)
+    → (front later : List ℕ) → read (raw_lines (front ++ 10 ∷ [])) ≡ r → read (raw_lines (front ++ 10 ∷ later)) ≡ r
+lines_stay read r stays front later h =
+    let pieces = ended_pieces 1 (slice_split is_lf front) in
+    let own : read pieces ≡ r = ap read (sym (append-nil pieces)) ∙ ap read (sym (lines_first 1 front [])) ∙ h in
+    ap read (lines_first 1 front later) ∙ stays pieces own (raw_lines_from (1 + length (slice_split is_lf front)) later)
 
 -- a text has at most as many lines as bytes
 parts_few : (n : ℕ) (parts : List (List ℕ)) → length (numbered n parts) ≤ length (join_with_byte 10 parts)
@@ -97,11 +109,6 @@ pub at_least : (a b : ℕ) → (a ≤ b) ⊎ (b < a)
 at_least zero b = inl (omega arith)
 at_least (suc a) zero = inr (omega arith)
 at_least (suc a) (suc b) = ⊎_elim (λ low. inl (omega (arith, low))) (λ high. inr (omega (arith, high))) (at_least a b)
-
--- an LF ends the text
-pub record EndsWithLf (text : List ℕ) : Type 0 where
-  pub front : List ℕ
-  pub is : text ≡ front ++ 10 ∷ []
 
 -- a text in front of one that an LF ends
 pub lf_stays : (front text : List ℕ) → EndsWithLf text → EndsWithLf (front ++ text)

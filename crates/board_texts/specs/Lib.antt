@@ -2,6 +2,7 @@ pub mod RoundText
 pub mod RoundReading
 pub mod BoardText
 pub mod TextValue
+pub mod TextForms
 pub mod Coming
 pub mod Laws
 pub mod Examples

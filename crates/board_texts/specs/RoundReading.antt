@@ -27,7 +27,7 @@ abbrev pub groups_before : Grouping → Result Grouping TextFault → Result Gro
 groups_before groups (Ok later) = Ok (groups ++ later)
 groups_before groups (Err fault) = Err fault
 
--- the groups on so many lines, the first of which has the number n, or the first fault
+-- the groups on this number of lines, the first of which has the number n, or the first fault
 abbrev pub groups_from : ℕ → ℕ → List RawLine → Result Grouping TextFault
 groups_from zero n pieces = Ok []
 groups_from (suc left) n [] = Err (text_fault_at CutShort n)

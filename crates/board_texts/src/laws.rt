@@ -1,8 +1,7 @@
 //! Laws of the texts of a board: the function does nothing, and its contract is the law.
 
 ghost use Rattle.std.specs.Prelude.{◌≡◌};
-ghost use Rattle.board_texts.specs.RoundText.{text_of_round};
-ghost use Rattle.board_texts.specs.Examples.{first_round, round_text};
+ghost use Rattle.board_texts.specs.{RoundText.text_of_round, Examples.{first_round, round_text}};
 ghost use Rattle.board_texts.specs.Laws.{BoardTextsAreRead};
 
 /// States what is told at the front of a text, and which text an example has. What is spelled is told, whatever stands

@@ -1,12 +1,9 @@
 //! Texts of a board, read from their lines.
 
 ghost use Rattle.std.specs.Prelude.{◌≡◌, ◌≤◌, ◌<◌, ◌++◌, ℕ, List, Err, map, length, take, IfOk, IfErr};
-ghost use Rattle.field_lines.specs.RawPieces.{raw_lines};
-ghost use Rattle.field_lines.specs.Values.{GivesUnless};
-ghost use Rattle.certificate_lines.specs.Items.{by_words};
-ghost use Rattle.certificate_lines.specs.Reading.{IsUnlessMemory};
-ghost use Rattle.certificate_lines.specs.Rest.{IsTextMemory, ReadsLine, lines_of};
-ghost use Rattle.certificate_lines.specs.Spelling.{text_of_items};
+ghost use Rattle.field_lines.specs.{RawPieces.raw_lines, Values.GivesUnless};
+ghost use Rattle.certificate_lines.specs.{Items.by_words, Reading.IsUnlessMemory};
+ghost use Rattle.certificate_lines.specs.{Rest.{IsTextMemory, ReadsLine, lines_of}, Spelling.text_of_items};
 ghost use Rattle.certificate_lines.specs.declared.item.Item.TheVariants as item;
 ghost use Rattle.board_texts.specs.RoundText.{text_of_round, HasRoundText};
 ghost use Rattle.board_texts.specs.RoundReading.{round_on, groups_from, round_from};

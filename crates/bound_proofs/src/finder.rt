@@ -1,12 +1,9 @@
 //! The search for a valid leaf: a stuck leaf, the seats leaf, or a bound leaf of count lines.
 
-ghost use Rattle.std.specs.Prelude.{◌≡◌, ◌≤◌, map, length, IfOk, MatchOption};
-ghost use Rattle.std.specs.Vec.{vec_items};
+ghost use Rattle.std.specs.{Prelude.{◌≡◌, ◌≤◌, map, length, IfOk, MatchOption}, Vec.vec_items};
 ghost use Rattle.connected_sets.specs.Graphs.{graph_problem, graph_order, graph_places, IsGraph};
-ghost use Rattle.certificate_data.specs.RoundValue.{round_of};
-ghost use Rattle.certificate_laws.specs.Leaves.{IsValidLeaf};
-ghost use Rattle.certificate_laws.specs.Search.{HasNoLeaf};
-ghost use Rattle.certificate_data.specs.TreeValue.{leaf_of};
+ghost use Rattle.certificate_data.specs.{RoundValue.round_of, TreeValue.leaf_of};
+ghost use Rattle.certificate_laws.specs.{Leaves.IsValidLeaf, Search.HasNoLeaf};
 ghost use Rattle.state_groups.specs.PlacedValues.{state_at, IsPlaced};
 ghost use Rattle.bound_proofs.specs.CountLeaves.{AreListsFrom};
 
@@ -14,7 +11,7 @@ use crate::bound::bounding_lines;
 use certificate_data::{Leaf, Round};
 use connected_sets::CountyGraph;
 use place_sets::CountySet;
-use search_groups::stuck_county;
+use search_groups::{SearchInput, stuck_county};
 use state_groups::State;
 use state_judge::judge_seats;
 use std::alloc::AllocError;
@@ -58,7 +55,7 @@ pub fn find_leaf<C: CountySet>(
     if judge_seats(graph, state)?.is_none() {
         return Ok(Some(Leaf::Seats));
     }
-    match bounding_lines(graph.alloc, graph.ordered, round, state, lists)? {
+    match bounding_lines(&SearchInput { graph, round }, state, lists)? {
         Some(lines) => Ok(Some(Leaf::Bound(lines))),
         None => Ok(None),
     }

@@ -1,8 +1,6 @@
 //! Count lines. The quota of one is the size of a group, and each county of a group that fits has weight 1.
 
-ghost use Rattle.std.specs.Prelude.{◌≡◌, ℕ, ◌≤◌, map, length, IfOk};
-ghost use Rattle.std.specs.Vec.{vec_items};
-ghost use Rattle.std.specs.List.{list_any};
+ghost use Rattle.std.specs.{Prelude.{◌≡◌, ℕ, ◌≤◌, map, length, IfOk}, Vec.vec_items, List.list_any};
 ghost use Rattle.county_problem.specs.ProblemValue.{problem_of};
 ghost use Rattle.certificate_data.specs.Round.{Round as RoundValue};
 ghost use Rattle.certificate_laws.specs.State.{State as StateValue};

@@ -1,7 +1,11 @@
 -- Partial trees of what a search has proved when its steps run out.
-use Rattle.std.proofs.Common.{◌≡◌, ℕ, ◌+◌, ◌-◌, ◌≤◌, ◌<◌, inl, inr, List, [], ◌∷◌, ◌++◌, length, map, drop, get_or, take as firsts, take_all, Vec, Global, Option, None, Result, Ok, Err, IfOk, refl, sym, ap, ◌∙◌, subst, arith, append_assoc, append-nil}
+use Rattle.std.proofs.Common.{◌≡◌, ℕ, ◌+◌, ◌-◌, ◌≤◌, ◌<◌, inl, inr, List, [], ◌∷◌, ◌++◌, length, map, drop, get_or, take as firsts, take_all, Vec, Global, Option, Some, None, Result, Ok, Err, IfOk, IfSome, refl, sym, ap, ◌∙◌, subst, arith, append_assoc, append-nil}
 use Rattle.std.specs.List.{AllByRecursion}
-use Rattle.std.proofs.lemmas.List.{map-append, take-append-drop, drop_more, length-drop}
+use Rattle.std.specs.Iterator.{Yields}
+use Rattle.std.specs.Vec.Iter.{into_iter_items, into_iter_len, into_iter_steps}
+use Rattle.std.proofs.lemmas.Iterator.Adapters.{YieldsList-from_vec}
+use Rattle.std.proofs.lemmas.Iterator.Consumers.{YieldsList-end}
+use Rattle.std.proofs.lemmas.List.{map-append, map-id, take-append-drop, drop_more, length-drop}
 use Rattle.std.proofs.lemmas.List.Elements.{All-from_recursion}
 use Rattle.place_sets.proofs.AllLists.{all_append}
 use Rattle.county_codes.specs.Limits.{most_counties}
@@ -37,6 +41,8 @@ use Rattle.partial_trees.proofs.PartialLists.{made_tree, made_takes, made_take, 
 use Rattle.branch_bound.specs.declared.outcome.SearchOutcome.{SearchOutcome}
 use Rattle.branch_bound.specs.declared.outcome.SearchOutcome.TheVariants as outcome
 use Rattle.branch_bound.specs.Searching.{AreTakesOf, IsOutcome}
+use Rattle.branch_bound.specs.declared.piece.Piece.TheVariants.{Open}
+use Rattle.branch_bound.specs.Pieces.{IsPiece}
 use Rattle.branch_bound.specs.Parts.{whole_takes, whole_branch, whole_branches, IsOpenPart}
 use Rattle.branch_bound.proofs.Joining.{all_parts}
 
@@ -92,6 +98,10 @@ line_more bs b parts news takes are pushed so part =
     ∙ so (begun_onto q part)
     ∙ ap (whole_branches bs) (made_takes (out-Branch b).county (out-Branch b).limit takes part ∙ ap (λ z. begun (out-Branch b).county (out-Branch b).limit z part) all ∙ sym (whole_made b part))
     ∙ sym (branches_more bs b part)
+
+-- a loop over a `Vec` that has ended had all its items
+pub all_yielded : {A Z : Type 0} (s : _) (xs yielded : List A) (t u : _) (r : Option A) → into_iter_items s ≡ xs → into_iter_len s ≡ length xs → Yields (into_iter_steps {X = A} {Z = Z}) s yielded t → r ≡ None → into_iter_steps {X = A} {Z = Z} t r u → yielded ≡ xs
+all_yielded s xs yielded t u r items len by none steps = sym (map-id yielded) ∙ (YieldsList-end (YieldsList-from_vec {s = s} xs items len) yielded t by r u none steps).0
 
 -- a partial tree behind whole branches
 pub behind_whole : (t : PartialTreeHeld) (branches : Vec PartialBranch Global) (lines : List PartialBranch) (bs : List Branch) → branches.items ≡ lines ++ (out-PartialTree t).branches.items → ((part : PartialTree) → list_onto lines part ≡ whole_branches bs part)
@@ -276,3 +286,8 @@ begun_part p round s t some is = (go (out-PartialTree t).branches.items (rest_of
     go : (bs : List PartialBranch) (rest part : PartialTree) → (bs ≡ [] → ⊥) → part ≡ list_onto bs rest → 1 ≤ open_leaves part → IsPart part
     go [] rest part none e leaves = absurd (none refl)
     go (PartialBranch' county limit shape takes ∷ bs) rest part none e leaves = subst IsPart (sym e) (subst (λ z. 1 ≤ open_leaves z) e leaves)
+
+-- and what a solver answers with it, if there is one
+pub open_answer : (p : Problem) (round : Round) (s : State) (r : Option PartialTreeHeld) → IfSome r (λ t. IsPart (partial_of t) × IsPartProof p round s (partial_of t) × BranchesAreOpen (partial_of t)) → IsPiece p round s (Open r)
+open_answer p round s None is = tt
+open_answer p round s (Some part) is = is

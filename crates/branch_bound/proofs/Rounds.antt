@@ -33,7 +33,9 @@ use Rattle.certificate_text.specs.TreeItems.{HasLines, TargetHasLines}
 use Rattle.certificate_text.proofs.Texts.{have_texts}
 use Rattle.search_ends.specs.GivenLeaf.{IsGivenLeaf}
 use Rattle.branch_bound.specs.Searching.{IsProof}
-use Rattle.branch_bound.specs.Solving.{round_over, IsTarget}
+use Rattle.partial_trees.specs.declared.tree.PartialTree.{PartialTree}
+use Rattle.branch_bound.specs.Resuming.{round_over}
+use Rattle.branch_bound.specs.Solving.{IsTarget}
 use Rattle.branch_bound.specs.Answers.{Certifies, IsFoundOpen, IsSolveAnswer, SolveIsRight, HasCompleteTree, SaysWhether}
 use Rattle.branch_bound.proofs.Orders.{stands_in_order}
 use Rattle.branch_bound.specs.declared.answer.Answer.{Answer}
@@ -98,28 +100,20 @@ shown p format target c is = subst (Conclusion p) is.target_is (certificate_show
 pub answer_names_best : (p : Problem) (limit : ℕ) (a : Answer) → IsSolveAnswer p limit a → SolveIsRight p a
 answer_names_best p limit (Best g c) is = shown p Wide (Some g.groups.items) c is.1
 answer_names_best p limit (Impossible c) is = tt
-answer_names_best p limit (Open found steps) is = tt
+answer_names_best p limit (Open found part steps) is = tt
 
-found_possible : (p : Problem) (limit : ℕ) (found : Option GroupingHeld) → IsFoundOpen p limit found → 1 ≤ limit → IsImpossible p → ⊥
-found_possible p limit None is some none = absurd (omega (arith, is, some))
-found_possible p limit (Some g) is some none = none g.groups.items is.0
+found_possible : (p : Problem) (limit : ℕ) (found : Option GroupingHeld) (part : Option PartialTree) → IsFoundOpen p limit found part → 1 ≤ limit → IsImpossible p → ⊥
+found_possible p limit None part is some none = absurd (omega (arith, is.0, some))
+found_possible p limit (Some g) part is some none = none g.groups.items is.0
 
 pub answer_says_whether : (p : Problem) (limit : ℕ) (a : Answer) → IsSolveAnswer p limit a → SaysWhether p limit a
 answer_says_whether p limit (Best g c) is = λ none. none g.groups.items (shown p Wide (Some g.groups.items) c is.1).lawful
 answer_says_whether p limit (Impossible c) is = shown p Plain None c is.1
-answer_says_whether p limit (Open found steps) is = found_possible p limit found is.1
+answer_says_whether p limit (Open found part steps) is = found_possible p limit found part is.1
 
--- what an answer says of a problem, where memory was not refused
-pub solved_best : {E : Type 0} (p q : Problem) (limit allowed : ℕ) (r : Result Answer E) → p ≡ q → limit ≡ allowed → IfOk r (IsSolveAnswer p limit) → IfOk r (SolveIsRight q)
-solved_best p q limit allowed (Ok a) e k is = subst (λ (x : Problem). SolveIsRight x a) e (answer_names_best p limit a is)
-solved_best p q limit allowed (Err f) e k is = tt
-
-pub solved_complete : {E : Type 0} (p q : Problem) (r : Result Answer E) → p ≡ q → IfOk r (HasCompleteTree p) → IfOk r (HasCompleteTree q)
-solved_complete p q r e is = subst (λ (x : Problem). IfOk r (HasCompleteTree x)) e is
-
-pub solved_whether : {E : Type 0} (p q : Problem) (limit allowed : ℕ) (r : Result Answer E) → p ≡ q → limit ≡ allowed → IfOk r (IsSolveAnswer p limit) → IfOk r (SaysWhether q allowed)
-solved_whether p q limit allowed (Ok a) e k is = subst (λ (x : Problem). SaysWhether x allowed a) e (subst (λ n. SaysWhether p n a) k (answer_says_whether p limit a is))
-solved_whether p q limit allowed (Err f) e k is = tt
+-- an answer of a problem, with the number of steps that were allowed, where memory was not refused
+pub solved : {E : Type 0} (p q : Problem) (limit allowed : ℕ) (r : Result Answer E) → p ≡ q → limit ≡ allowed → IfOk r (IsSolveAnswer p limit) → IfOk r (IsSolveAnswer q allowed)
+solved p q limit allowed r e k is = subst (λ n. IfOk r (IsSolveAnswer q n)) k (subst (λ (x : Problem). IfOk r (IsSolveAnswer x limit)) e is)
 
 -- the codes of a problem's counties are an order of them
 pub listed_order : (p : Problem) (order : List ℕ) → IsProblem p → order ≡ p.counties → IsOrder p order

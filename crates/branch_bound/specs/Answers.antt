@@ -1,5 +1,5 @@
 -- What a solver answers.
-use Rattle.std.specs.Prelude.{ℕ, ◌≡◌, ◌≤◌, ◌<◌, List, length, All, AllPairs, Option, Some, None, ◌⊎◌, ⊤}
+use Rattle.std.specs.Prelude.{ℕ, ◌≡◌, ◌≤◌, ◌<◌, List, length, All, AllPairs, Option, Some, None, IfSome, ◌⊎◌, ⊤}
 use Rattle.std.specs.List.Sorted.{IsStrictlyIncreasing}
 use Rattle.grouping_laws.specs.Problem.{Problem}
 use Rattle.grouping_laws.specs.Grouping.{Grouping, Lawful, sets_of, IsBest, IsImpossible}
@@ -13,6 +13,9 @@ use Rattle.list_laws.specs.Completeness.{IsComplete}
 use Rattle.certificate_data.specs.declared.certificate.Certificate.{Certificate as CertificateHeld}
 use Rattle.certificate_data.specs.TreeValue.{certificate_of}
 use Rattle.certificate_text.specs.Spelling.{IsSpelling}
+use Rattle.partial_trees.specs.declared.tree.PartialTree.{PartialTree}
+use Rattle.partial_trees.specs.PartialValue.{partial_of}
+use Rattle.branch_bound.specs.Resuming.{IsBestPart}
 use Rattle.branch_bound.specs.declared.answer.Answer.{Answer}
 use Rattle.branch_bound.specs.declared.answer.Answer.TheVariants.{Best, Impossible, Open}
 
@@ -33,17 +36,20 @@ pub record StandsInOrder (g : Grouping) : Type 0 where
   pub groups : AllPairs (λ a b. (length a < length b) ⊎ ((length a ≡ length b) × IsLesser a b)) (sets_of g)
   pub codes : All (λ m. IsStrictlyIncreasing m.codes) g
 
--- a lawful grouping was found, unless no step was allowed
-abbrev pub IsFoundOpen : Problem → ℕ → Option GroupingHeld → Type 0
-IsFoundOpen p limit None = limit ≡ 0
-IsFoundOpen p limit (Some g) = Lawful p g.groups.items × StandsInOrder g.groups.items
+-- A lawful grouping was found, unless no step was allowed. Where a part is given, it is one of the proof that the
+-- grouping is best.
+abbrev pub IsFoundOpen : Problem → ℕ → Option GroupingHeld → Option PartialTree → Type 0
+IsFoundOpen p limit None part = (limit ≡ 0) × (part ≡ None)
+IsFoundOpen p limit (Some g) part =
+    Lawful p g.groups.items × StandsInOrder g.groups.items
+    × IfSome part (λ t. IsBestPart p g.groups.items (partial_of t))
 
 -- Best, with a certificate that names the grouping; that none is lawful, with a certificate of that; or that all steps
 -- that were allowed were taken. With no step it is always open.
 abbrev pub IsSolveAnswer : Problem → ℕ → Answer → Type 0
 IsSolveAnswer p limit (Best g c) = (1 ≤ limit) × Certifies p Wide (Some g.groups.items) c × StandsInOrder g.groups.items
 IsSolveAnswer p limit (Impossible c) = (1 ≤ limit) × Certifies p Plain None c
-IsSolveAnswer p limit (Open found steps) = (steps ≡ limit) × IsFoundOpen p limit found
+IsSolveAnswer p limit (Open found part steps) = (steps ≡ limit) × IsFoundOpen p limit found part
 
 -- The tree of Best's certificate is complete: its ends are the sets of all best groupings (law
 -- `complete_certificates_list`).
@@ -55,4 +61,4 @@ HasCompleteTree p _ = ⊤
 abbrev pub SaysWhether : Problem → ℕ → Answer → Type 0
 SaysWhether p limit (Impossible c) = IsImpossible p
 SaysWhether p limit (Best g c) = ¬ IsImpossible p
-SaysWhether p limit (Open found steps) = 1 ≤ limit → ¬ IsImpossible p
+SaysWhether p limit (Open found part steps) = 1 ≤ limit → ¬ IsImpossible p

@@ -1,4 +1,5 @@
 pub mod Parts
+pub mod Resuming
 pub mod Searching
 pub mod Answers
 pub mod Solving

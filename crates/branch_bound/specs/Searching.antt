@@ -1,5 +1,5 @@
 -- What a search by branch and bound keeps at a state, and what it answers.
-use Rattle.std.specs.Prelude.{ℕ, ◌+◌, ◌≡◌, ◌<◌, Bool, List, ◌∷◌, filter, length, All, AllPairs, ⊤}
+use Rattle.std.specs.Prelude.{ℕ, ◌+◌, ◌≡◌, ◌<◌, Bool, List, ◌∷◌, filter, length, All, AllPairs, Option, MatchOption, ⊤}
 use Rattle.std.specs.List.{AllByRecursion}
 use Rattle.county_codes.specs.declared.group.Grouping.{Grouping as GroupingHeld}
 use Rattle.grouping_laws.specs.Sets.{contains}
@@ -10,6 +10,7 @@ use Rattle.connected_laws.specs.Listing.{AreBelow}
 use Rattle.certificate_data.specs.Round.{Round}
 use Rattle.certificate_laws.specs.State.{State, close}
 use Rattle.certificate_laws.specs.Groups.{AreGroupsAt, AreGroupsOf}
+use Rattle.certificate_laws.specs.Leaves.{IsStuck, IsOffSeats}
 use Rattle.certificate_data.specs.Tree.{groups_of, take, Tree as TreeValue, Takes as TakesValue}
 use Rattle.certificate_laws.specs.Proving.{Proves, EachProves}
 use Rattle.certificate_laws.specs.Certificate.{TargetFits}
@@ -48,6 +49,12 @@ pub record IsSorted (order : List ℕ) (g : Grouping) : Type 0 where
 abbrev pub IsEnd : Problem → Round → State → Leaf → Type 0
 IsEnd p round s leaf =
     IsGivenLeaf p round s leaf × (TargetFits p round.limit round.target → IsCompleteLeaf (leaf_of leaf) p round s)
+
+-- a leaf that a state ends with, or none, and then neither a stuck leaf nor the seats leaf is valid
+abbrev pub IsEarlyEnd : {C : Type 0} → SearchInput C → State → Option Leaf → Type 0
+IsEarlyEnd g s found =
+    MatchOption found (((c : ℕ) → ¬ IsStuck (search_problem g) s c) × ¬ IsOffSeats (search_problem g) s)
+    (IsEnd (search_problem g) (search_round g) s)
 
 -- A proof tree, its numbers in the ranges of its lines. It is complete if the target fits the limit.
 abbrev pub IsProof : Problem → Round → State → Tree → Type 0

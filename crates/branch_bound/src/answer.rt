@@ -2,6 +2,7 @@
 
 use certificate_data::Certificate;
 use county_codes::Grouping;
+use partial_trees::PartialTree;
 
 /// The solver's answer to a problem.
 #[derive(Debug, Drop)]
@@ -15,6 +16,9 @@ pub enum Answer {
     Open {
         /// The best lawful grouping that was found. It is `None` only if not a single step was allowed.
         found: Option<Grouping>,
+        /// What was proved by then of that grouping being best: a partial tree of the round whose limit is its longest
+        /// group. It is `None` if the last round had a lesser limit, or the search had begun no branch in it.
+        part: Option<PartialTree>,
         /// The number of steps that were taken, which is the number that was allowed.
         steps: u64,
     },

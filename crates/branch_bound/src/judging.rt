@@ -1,12 +1,10 @@
 //! How a state ends, or the county at which a search branches there.
 
 ghost use Rattle.std.specs.Prelude.{◌≡◌, ℕ, ◌+◌, ◌≤◌, ◌<◌, List, [], length, All, IfOk, OnOk, IsErrOf, MatchOption, ⊤};
-ghost use Rattle.connected_sets.specs.Graphs.{graph_places, place_problem};
+ghost use Rattle.connected_sets.specs.{Graphs.{graph_places, place_problem}, declared.stop.Stop.Stop};
 ghost use Rattle.certificate_laws.specs.Leaves.{IsStuck, IsOffSeats};
-ghost use Rattle.connected_sets.specs.declared.stop.Stop.{Stop};
 ghost use Rattle.search_groups.specs.PartLists.{AreListsOf};
-ghost use Rattle.branch_bound.specs.Searching.{search_problem, search_round, search_state, IsSearchInput, IsPositionAt};
-ghost use Rattle.branch_bound.specs.Searching.{IsEnd, IsNextMove, IsNextSize};
+ghost use Rattle.branch_bound.specs.Searching.{search_problem, search_round, search_state, IsSearchInput, IsPositionAt, IsEnd, IsEarlyEnd, IsNextMove, IsNextSize};
 
 use crate::larger_groups::with_larger;
 use crate::outcome::{Move, Next};
@@ -46,26 +44,14 @@ fn next_size<C: CountySet>(
 {
     let Position { state, size, .. } = position;
     let _problem = input.graph.ordered.problem();
-    if let Some(leaf) = empty_leaf(
-        input.graph.alloc,
-        input.graph.ordered,
-        input.round,
-        state,
-        *size,
-    )? {
+    if let Some(leaf) = empty_leaf(input, state, *size)? {
         return Ok(Next::Leaf(leaf));
     }
     if *size == input.round.limit {
-        let found = finished_grouping(input.graph, input.round, state)?;
+        let found = finished_grouping(input, state)?;
         return Ok(Next::Better(found));
     }
-    if let Some(leaf) = room_leaf(
-        input.graph.alloc,
-        input.graph.ordered,
-        input.round,
-        state,
-        *size + 1,
-    )? {
+    if let Some(leaf) = room_leaf(input, state, *size + 1)? {
         return Ok(Next::Leaf(leaf));
     }
     match next_groups(input, position, lists, steps) {
@@ -118,15 +104,7 @@ fn weighed<C: CountySet>(
         *size,
         wanted,
     )?;
-    if let Some(leaf) = weighed_leaf(
-        input.graph.alloc,
-        input.graph.ordered,
-        input.round,
-        state,
-        *size,
-        groups,
-        &weights,
-    )? {
+    if let Some(leaf) = weighed_leaf(input, state, *size, groups, &weights)? {
         return Ok(Move::Leaf(leaf));
     }
     branch_at(input, position, &weights)
@@ -143,12 +121,7 @@ fn move_at_groups<C: CountySet>(
     requires some { 1 ≤ length position.groups.items }
     ensures { IfOk result (IsNextMove C.test input.now (search_state input.now C.test position.state)) }
 {
-    match wanted_more(
-        input.graph.ordered,
-        input.round,
-        &position.state,
-        position.size,
-    ) {
+    match wanted_more(input, &position.state, position.size) {
         Some(wanted) => weighed(input, position, wanted),
         None => {
             let weights = vec![in input.graph.alloc; 0; usize::from(input.graph.ordered.places())]?;
@@ -212,13 +185,7 @@ fn present_room<C: CountySet>(
     if position.size == 0 {
         return Ok(None);
     }
-    room_leaf(
-        input.graph.alloc,
-        input.graph.ordered,
-        input.round,
-        &position.state,
-        position.size,
-    )
+    room_leaf(input, &position.state, position.size)
 }
 
 /// Returns a leaf that is valid at the position and can be found without looking at its groups.
@@ -228,15 +195,9 @@ fn early_leaf<C: CountySet>(
 ) -> Result<Option<Leaf>, AllocError>
     requires input { IsSearchInput C.PLACES C.test input.now }
     requires at { IsPositionAt C.test input.now (search_state input.now C.test position.now.state) position.now }
-    ensures { IfOk
-        result
-        (λ found. MatchOption
-        found
-        (((c : ℕ) → ¬ IsStuck (search_problem input.now) (search_state input.now C.test position.now.state) c)
-        × ¬ IsOffSeats (search_problem input.now) (search_state input.now C.test position.now.state))
-        (IsEnd (search_problem input.now) (search_round input.now) (search_state input.now C.test position.now.state))) }
+    ensures { IfOk result (IsEarlyEnd input.now (search_state input.now C.test position.now.state)) }
 {
-    match whole_leaf(input.graph, input.round, &position.state)? {
+    match whole_leaf(input, &position.state)? {
         Some(leaf) => Ok(Some(leaf)),
         None => present_room(input, position),
     }

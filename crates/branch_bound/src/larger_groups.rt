@@ -5,8 +5,7 @@
 
 ghost use Rattle.std.specs.Prelude.{◌≡◌, ◌≤◌, IfOk, IsErrOf};
 ghost use Rattle.connected_sets.specs.declared.stop.Stop.{Stop};
-ghost use Rattle.branch_bound.specs.Searching.{search_state};
-ghost use Rattle.branch_bound.specs.Searching.{IsSearchInput, IsPositionAt};
+ghost use Rattle.branch_bound.specs.Searching.{search_state, IsSearchInput, IsPositionAt};
 
 use connected_sets::Stop;
 use county_problem::Steps;
@@ -48,12 +47,7 @@ pub(crate) fn with_larger<C: CountySet>(
     ensures limit { steps.new.limit ≡ steps.old.limit }
     ensures stopped { IsErrOf result Stop.StepLimit → steps.new.used ≡ steps.new.limit }
 {
-    let Some(wanted) = wanted_more(
-        input.graph.ordered,
-        input.round,
-        &position.state,
-        position.size,
-    ) else {
+    let Some(wanted) = wanted_more(input, &position.state, position.size) else {
         return Ok(position);
     };
     if !wants_larger(&position, input.round.limit, wanted, steps.used()) {

@@ -1,18 +1,22 @@
 //! Partial trees of what a search has proved when its steps run out.
 
-ghost use Rattle.std.specs.Prelude.{◌≡◌, ◌≤◌, ◌<◌, List, ◌∷◌, [], ◌++◌, IfOk, OnOk};
-ghost use Rattle.std.specs.List.{AllByRecursion};
+ghost use Rattle.std.specs.{Prelude.{◌≡◌, ◌≤◌, ◌<◌, List, ◌∷◌, [], ◌++◌, IfOk, OnOk, IfSome}, List.AllByRecursion};
 ghost use Rattle.connected_sets.specs.Graphs.{graph_order, graph_places};
 ghost use Rattle.certificate_data.specs.TreeValue.{tree_of, list_of_takes};
 ghost use Rattle.certificate_lines.specs.Fitting.{AreCodes};
 ghost use Rattle.state_groups.specs.PlacedValues.{codes_of_set, codes_of_sets};
 ghost use Rattle.board_laws.specs.PartialTrees.{PartialTree as Part, whole, open_leaf, begun, PartialTakes as Parts, take_begun, open_takes};
 ghost use Rattle.partial_trees.specs.PartialValue.{partial_of, list_of_begun, list_onto, take_onto};
+ghost use Rattle.partial_trees.specs.{Refusals.IsPartProof, OpenBranches.BranchesAreOpen};
 ghost use Rattle.partial_trees.specs.declared.tree.PartialTake.{PartialTake as PartialTakeHeld};
 ghost use Rattle.partial_trees.specs.declared.tree.PartialTree.{PartialTree as PartialTreeHeld};
 ghost use Rattle.county_problem.specs.OrderedValue.{code_at};
 ghost use Rattle.branch_bound.specs.declared.outcome.SearchOutcome.TheVariants as outcome;
-ghost use Rattle.branch_bound.specs.Parts.{whole_takes, whole_branches};
+ghost use Rattle.branch_bound.specs.Parts.{whole_takes, whole_branches, IsOpenPart};
+ghost use Rattle.certificate_data.specs.Round.{Round as RoundValue};
+ghost use Rattle.certificate_laws.specs.State.{State as StateValue};
+ghost use Rattle.grouping_laws.specs.Problem.{Problem as ProblemLaw};
+ghost use Rattle.board_laws.specs.PartialTrees.{IsPart};
 
 use crate::outcome::SearchOutcome;
 use certificate_data::{Branch, Take, Tree};
@@ -193,4 +197,15 @@ pub(crate) fn begun_branch<C>(
         branches,
         rest: None,
     })
+}
+
+/// Returns the `part` of a state at which a search stopped, if the search began a branch there.
+pub(crate) fn begun_part(part: PartialTree) -> Option<PartialTree>
+    ensures { (p : ProblemLaw) (round : RoundValue) (s : StateValue) → IsOpenPart p round s (partial_of part)
+        → IfSome result (λ t. IsPart (partial_of t) × IsPartProof p round s (partial_of t) × BranchesAreOpen (partial_of t)) }
+{
+    if part.branches.is_empty() {
+        return None;
+    }
+    Some(part)
 }

@@ -3,8 +3,7 @@
 ghost use Rattle.std.specs.Prelude.{◌≡◌, ℕ, ◌≤◌, ◌<◌, ◌↔◌, IsTrue, length, IfOk};
 ghost use Rattle.county_codes.specs.Limits.{most_counties};
 ghost use Rattle.connected_sets.specs.Graphs.{graph_order, graph_places, graph_problem, place_problem, IsGraph};
-ghost use Rattle.certificate_laws.specs.Certificate.{HasGroupsWithin};
-ghost use Rattle.certificate_laws.specs.State.{IsState};
+ghost use Rattle.certificate_laws.specs.{Certificate.HasGroupsWithin, State.IsState};
 ghost use Rattle.certificate_data.specs.Round.{Round as RoundValue};
 ghost use Rattle.certificate_data.specs.RoundValue.{round_of};
 ghost use Rattle.certificate_laws.specs.State.{State as StateValue};
@@ -13,14 +12,13 @@ ghost use Rattle.grouping_laws.specs.GroupsFrom.{IsOrder};
 ghost use Rattle.county_problem.specs.ProblemValue.{problem_of};
 ghost use Rattle.state_groups.specs.PlacedValues.{state_at, IsPlaced};
 ghost use Rattle.branch_bound.specs.PlainRounds.{IsPlainGround, IsStateOf};
-ghost use Rattle.branch_bound.specs.Searching.{search_problem, search_round, search_state, IsSearchInput};
-ghost use Rattle.branch_bound.specs.Searching.{IsBetter, IsOutcome, IsStopped};
+ghost use Rattle.branch_bound.specs.Searching.{search_problem, search_round, search_state, IsSearchInput, IsBetter, IsOutcome, IsStopped};
+ghost use Rattle.branch_bound.specs.{Parts.IsOpenPart, Pieces.{IsPiece, IsOpen}};
 ghost use Rattle.search_groups.specs.PartLists.{AreListsOf};
 ghost use Rattle.partial_trees.specs.PartialValue.{partial_of};
-ghost use Rattle.branch_bound.specs.Parts.{IsOpenPart};
-ghost use Rattle.branch_bound.specs.Pieces.{IsPiece, IsOpen};
 
 use crate::outcome::SearchOutcome;
+use crate::parts::begun_part;
 use crate::piece::Piece;
 use crate::plain_search::prove_plain;
 use crate::search::prove;
@@ -66,10 +64,7 @@ fn open_piece(part: PartialTree) -> Piece
         → IsPiece p round s result }
     ensures open { IsOpen result }
 {
-    if part.branches.is_empty() {
-        return Piece::Open(None);
-    }
-    Piece::Open(Some(part))
+    Piece::Open(begun_part(part))
 }
 
 /// Returns the answer for an `outcome` of the search.

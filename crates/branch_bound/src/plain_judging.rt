@@ -3,12 +3,9 @@
 
 ghost use Rattle.std.specs.Prelude.{◌≡◌, ℕ, ◌≤◌, ◌<◌, IfOk, OnOk, IsErrOf, MatchOption, ⊤};
 ghost use Rattle.county_problem.specs.OrderedValue.{code_at};
-ghost use Rattle.connected_sets.specs.Graphs.{graph_order, graph_places};
-ghost use Rattle.certificate_laws.specs.Fitting.{NoGroupFits};
-ghost use Rattle.certificate_laws.specs.Leaves.{IsStuck, IsOffSeats};
-ghost use Rattle.certificate_laws.specs.Proving.{CanBranch};
-ghost use Rattle.connected_sets.specs.declared.stop.Stop.{Stop};
-ghost use Rattle.branch_bound.specs.Searching.{search_problem, search_round, search_state, IsEnd};
+ghost use Rattle.connected_sets.specs.{Graphs.{graph_order, graph_places}, declared.stop.Stop.Stop};
+ghost use Rattle.certificate_laws.specs.{Fitting.NoGroupFits, Leaves.{IsStuck, IsOffSeats}, Proving.CanBranch};
+ghost use Rattle.branch_bound.specs.Searching.{search_problem, search_round, search_state, IsEarlyEnd};
 ghost use Rattle.branch_bound.specs.PlainRounds.{IsPlainGround, IsStateOf, IsNextPlainMove};
 
 use crate::outcome::PlainMove;
@@ -51,27 +48,15 @@ fn first_leaf<C: CountySet>(
 ) -> Result<Option<Leaf>, AllocError>
     requires input { IsPlainGround C.PLACES C.test input.now }
     requires at { IsStateOf C.test input.now state.now }
-    ensures { IfOk
-        result
-        (λ found. MatchOption
-        found
-        (((c : ℕ) → ¬ IsStuck (search_problem input.now) (search_state input.now C.test state.now) c)
-        × ¬ IsOffSeats (search_problem input.now) (search_state input.now C.test state.now))
-        (IsEnd (search_problem input.now) (search_round input.now) (search_state input.now C.test state.now))) }
+    ensures { IfOk result (IsEarlyEnd input.now (search_state input.now C.test state.now)) }
 {
-    if let Some(leaf) = whole_leaf(input.graph, input.round, state)? {
+    if let Some(leaf) = whole_leaf(input, state)? {
         return Ok(Some(leaf));
     }
     if input.round.limit == 0 {
         return Ok(None);
     }
-    room_leaf(
-        input.graph.alloc,
-        input.graph.ordered,
-        input.round,
-        state,
-        1,
-    )
+    room_leaf(input, state, 1)
 }
 
 /// Returns what a state ends with if no group of at most the limit fits: a leaf or a greater grouping.
@@ -84,16 +69,10 @@ fn last_end<C: CountySet>(input: &SearchInput<C>, state: &State<C>) -> Result<Pl
     ensures { IfOk result (IsNextPlainMove C.test input.now (search_state input.now C.test state.now)) }
 {
     let _problem = input.graph.ordered.problem();
-    if let Some(leaf) = empty_leaf(
-        input.graph.alloc,
-        input.graph.ordered,
-        input.round,
-        state,
-        input.round.limit,
-    )? {
+    if let Some(leaf) = empty_leaf(input, state, input.round.limit)? {
         return Ok(PlainMove::Leaf(leaf));
     }
-    let found = finished_grouping(input.graph, input.round, state)?;
+    let found = finished_grouping(input, state)?;
     Ok(PlainMove::Better(found))
 }
 

@@ -5,11 +5,9 @@ ghost use Rattle.std.specs.Prelude.{◌≡◌, ℕ, ◌≤◌, ◌<◌, ◌∷�
 ghost use Rattle.connected_sets.specs.Graphs.{graph_order, graph_places};
 ghost use Rattle.certificate_data.specs.declared.tree.Branch.{roll-Branch};
 ghost use Rattle.county_problem.specs.OrderedValue.{code_at};
-ghost use Rattle.certificate_laws.specs.Groups.{IsGroupAt, AreGroupsAt};
-ghost use Rattle.certificate_laws.specs.Proving.{CanBranch};
+ghost use Rattle.certificate_laws.specs.{Groups.{IsGroupAt, AreGroupsAt}, Proving.CanBranch};
 ghost use Rattle.state_groups.specs.PlacedValues.{codes_of_set, codes_of_sets, IsClosable};
-ghost use Rattle.branch_bound.specs.Searching.{search_problem, search_round, search_state, IsOutcome, IsTakenGroup};
-ghost use Rattle.branch_bound.specs.Searching.{AreTakesAt, IsStopped, IsTakeStopped, AreTakesStopped};
+ghost use Rattle.branch_bound.specs.Searching.{search_problem, search_round, search_state, IsOutcome, IsTakenGroup, AreTakesAt, IsStopped, IsTakeStopped, AreTakesStopped};
 ghost use Rattle.branch_bound.specs.PlainRounds.{IsPlainGround, IsStateOf};
 
 use crate::outcome::{PlainMove, SearchOutcome, Taken, Takes};

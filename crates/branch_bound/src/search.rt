@@ -6,14 +6,11 @@ ghost use Rattle.connected_sets.specs.Graphs.{graph_order, graph_places, place_p
 ghost use Rattle.certificate_data.specs.declared.tree.Branch.{roll-Branch};
 ghost use Rattle.county_problem.specs.OrderedValue.{code_at};
 ghost use Rattle.search_groups.specs.PartLists.{AreListsOf};
-ghost use Rattle.certificate_laws.specs.Fitting.{Fits};
+ghost use Rattle.certificate_laws.specs.{Fitting.Fits, Groups.{IsGroupAt, AreGroupsAt}};
 ghost use Rattle.connected_laws.specs.Listing.{AreBelow};
-ghost use Rattle.certificate_laws.specs.Groups.{IsGroupAt, AreGroupsAt};
 ghost use Rattle.certificate_laws.specs.State.{State as StateValue, close, raise};
 ghost use Rattle.state_groups.specs.PlacedValues.{codes_of_set, codes_of_sets};
-ghost use Rattle.branch_bound.specs.Searching.{search_problem, search_round, search_state, IsSearchInput, IsPositionAt};
-ghost use Rattle.branch_bound.specs.Searching.{IsOutcome, IsTakenGroup, AreTakesAt, IsChoice};
-ghost use Rattle.branch_bound.specs.Searching.{IsStopped, IsTakeStopped, AreTakesStopped};
+ghost use Rattle.branch_bound.specs.Searching.{search_problem, search_round, search_state, IsSearchInput, IsPositionAt, IsOutcome, IsTakenGroup, AreTakesAt, IsChoice, IsStopped, IsTakeStopped, AreTakesStopped};
 
 use crate::judging::next_move;
 use crate::outcome::{Move, SearchOutcome, Taken, Takes};

@@ -1,31 +1,34 @@
 //! The solver: rounds of the search, each from the state at which nothing is closed.
 
-ghost use Rattle.std.specs.Prelude.{◌≡◌, ℕ, ◌≤◌, ◌<◌, Some, None, length, All, IfOk, OnOk};
+ghost use Rattle.std.specs.Prelude.{◌≡◌, ℕ, ◌≤◌, ◌<◌, max, Some, None, IfSome, length, All, IfOk, OnOk};
 ghost use Rattle.std.specs.List.Sorted.{IsStrictlyIncreasing};
-ghost use Rattle.county_codes.specs.Limits.{most_counties};
-ghost use Rattle.county_codes.specs.Windows.{FitsRange};
+ghost use Rattle.county_codes.specs.{Limits.most_counties, Windows.FitsRange};
+ghost use Rattle.grouping_laws.specs.Grouping.{Grouping as GroupingLaw};
+ghost use Rattle.grouping_laws.specs.Problem.{Problem as ProblemLaw};
 ghost use Rattle.connected_sets.specs.Graphs.{graph_problem, graph_order, graph_places, place_problem, IsGraph};
 ghost use Rattle.certificate_lines.specs.Fitting.{AreCodes};
 ghost use Rattle.county_problem.specs.ProblemValue.{problem_of};
 ghost use Rattle.certificate_data.specs.declared.format.Format.TheVariants.{Plain, Wide};
 ghost use Rattle.certificate_data.specs.RoundValue.{round_of, target_of};
-ghost use Rattle.certificate_laws.specs.Leaves.{IsStuck, IsOffSeats};
-ghost use Rattle.certificate_laws.specs.State.{empty_state};
+ghost use Rattle.certificate_laws.specs.{Leaves.{IsStuck, IsOffSeats}, State.empty_state};
 ghost use Rattle.state_groups.specs.PlacedValues.{state_at, IsPlaced};
 ghost use Rattle.search_groups.specs.PartLists.{AreListsOf};
-ghost use Rattle.branch_bound.specs.Searching.{IsOutcome, IsProof, IsStopped};
-ghost use Rattle.branch_bound.specs.Solving.{round_over, IsTarget, IsFirst};
-ghost use Rattle.search_ends.specs.GivenLeaf.{IsGivenLeaf};
+ghost use Rattle.partial_trees.specs.PartialValue.{partial_of};
+ghost use Rattle.branch_bound.specs.{Parts.IsOpenPart, Searching.{IsOutcome, IsProof, IsStopped}};
+ghost use Rattle.branch_bound.specs.{Resuming.{round_over, longest, IsBestPart}, Solving.{IsTarget, IsFirst}};
 ghost use Rattle.branch_bound.specs.Answers.{IsSolveAnswer, Certifies, SolveIsRight, HasCompleteTree, SaysWhether};
+ghost use Rattle.search_ends.specs.GivenLeaf.{IsGivenLeaf};
 
 use crate::answer::Answer;
 use crate::outcome::{First, SearchOutcome};
+use crate::parts::begun_part;
 use crate::search::prove;
 use crate::watcher::{NoWatcher, Watcher};
 use certificate_data::{Certificate, Format, Leaf, Round, Tree};
 use connected_sets::CountyGraph;
 use county_codes::{Codes, Grouping, listed_codes};
 use county_problem::{OrderFault, Ordered, Problem, Steps};
+use partial_trees::PartialTree;
 use place_sets::{CountySet, MaskSet, Places, fits_mask};
 use search_ends::{finished_grouping, whole_leaf};
 use search_groups::{PartLists, SearchInput, first_position};
@@ -53,6 +56,7 @@ fn largest_size(grouping: &Grouping) -> u16
     requires few { All (λ m. length m.codes ≤ most_counties) grouping.now.groups.items }
     ensures bound { result ≤ most_counties }
     ensures large { All (λ m. length m.codes ≤ result) grouping.now.groups.items }
+    ensures longest { max 1 result ≡ longest grouping.now.groups.items }
 {
     let mut largest = 0;
     for group in &grouping.groups {
@@ -173,6 +177,22 @@ fn best(
     Ok(Answer::Best(target, Certificate { round, tree }))
 }
 
+/// Returns the `part` of a round with this `limit` if it is one of the proof that the round's target is best. That is
+/// so if the target's largest group has `limit` counties too, given as `largest`, and the search began a branch.
+fn best_part(limit: u16, largest: u16, part: PartialTree) -> Option<PartialTree>
+    requires { limit ≤ most_counties }
+    ensures { (p : ProblemLaw) (g : GroupingLaw)
+        → max 1 largest ≡ longest g
+        → IsOpenPart p (round_over p p.counties limit (Some g) Wide) (empty_state p) (partial_of part)
+        → IfSome result (λ t. IsBestPart p g (partial_of t)) }
+{
+    if limit == largest.max(1) {
+        begun_part(part)
+    } else {
+        None
+    }
+}
+
 /// Returns the answer to which the search comes from `first`, a lawful grouping.
 ///
 /// Each greater grouping that is found is the next target. The limits of the rounds grow, until the limit is the size
@@ -185,6 +205,7 @@ fn improve<C: CountySet, W: Watcher>(
 ) -> Result<Answer, AllocError>
     requires graph { IsGraph C.test C.PLACES graph.now }
     requires order { IsStrictlyIncreasing (graph_order graph.now) }
+    requires listed { graph_order graph.now ≡ (graph_problem graph.now).counties }
     requires target { IsTarget (graph_problem graph.now) (graph_order graph.now) first.groups.items }
     requires some { 1 ≤ steps.old.limit }
     ensures answer { IfOk result (IsSolveAnswer (graph_problem graph.now) steps.old.limit) }
@@ -205,9 +226,11 @@ fn improve<C: CountySet, W: Watcher>(
                 cap = limit_after(cap);
             }
             Ok(SearchOutcome::Better(found)) => target = found,
-            Ok(SearchOutcome::Open(_)) => {
+            Ok(SearchOutcome::Open(part)) => {
+                let part = best_part(limit, largest, part);
                 return Ok(Answer::Open {
                     found: Some(target),
+                    part,
                     steps: steps.used(),
                 });
             }
@@ -245,7 +268,7 @@ fn parts_found<C: CountySet>(
     requires no_seats { ¬ IsOffSeats (graph_problem graph.now) (state_at (graph_order graph.now) C.test state.now) }
     ensures { IfOk result (IsFirst (graph_problem graph.now) (graph_order graph.now)) }
 {
-    let found = finished_grouping(graph, round, state)?;
+    let found = finished_grouping(&SearchInput { graph, round }, state)?;
     Ok(First::Found(found))
 }
 
@@ -259,7 +282,11 @@ fn first_at<C: CountySet>(graph: &CountyGraph<C>, state: &State<C>) -> Result<Fi
     ensures { IfOk result (IsFirst (graph_problem graph.now) (graph_order graph.now)) }
 {
     let round = round_for(graph.alloc, graph.ordered, 0, None, Format::Plain)?;
-    match whole_leaf(graph, &round, state) {
+    let input = SearchInput {
+        graph,
+        round: &round,
+    };
+    match whole_leaf(&input, state) {
         Ok(Some(leaf)) => Ok(First::Impossible(impossible(
             graph.alloc,
             graph.ordered,
@@ -289,6 +316,7 @@ fn solve_ordered<C: CountySet, W: Watcher>(
 ) -> Result<Answer, AllocError>
     requires fits { length ordered.now.order ≤ C.PLACES }
     requires order { IsStrictlyIncreasing ordered.now.order }
+    requires listed { ordered.now.order ≡ (problem_of ordered.now.problem).counties }
     requires some { 1 ≤ steps.old.limit }
     ensures answer { IfOk result (IsSolveAnswer (problem_of ordered.now.problem) steps.old.limit) }
     ensures complete { IfOk result (HasCompleteTree (problem_of ordered.now.problem)) }
@@ -321,6 +349,7 @@ pub fn solve_over<C: CountySet, W: Watcher>(
     if !steps.tick() {
         return Ok(Answer::Open {
             found: None,
+            part: None,
             steps: steps.used(),
         });
     }
@@ -364,8 +393,8 @@ pub fn solve_watched<W: Watcher>(
 ///
 /// - `Impossible` with a certificate, if no grouping is lawful. With a `step_limit` of 1 or more it is answered exactly
 ///   then.
-/// - `Open` with the best grouping that was found, if all steps were taken. With a `step_limit` of 0 it is always the
-///   answer, without a grouping.
+/// - `Open` with the best grouping that was found, if all steps were taken, and with what was proved by then of that
+///   grouping being best. With a `step_limit` of 0 it is always the answer, without a grouping.
 ///
 /// A step is a state that is entered, a set that is grown, a group that is tested for being live, or a look for the
 /// list of a part. The certificate of Best is in the wide format, and that of Impossible in the plain one. A text

@@ -6,7 +6,7 @@ use Rattle.grouping_laws.specs.Problem.{Problem}
 use Rattle.field_lines.specs.Source.{Given, nothing_comes}
 use Rattle.field_lines.specs.HeldBytes.{MayCome}
 use Rattle.certificate_lines.specs.Courses.{Unread, certificate_course}
-use Rattle.certificate_lines.specs.ItemsLeft.{ItemsHeld, Foresees, in_memory, left_of_reader, nothing_taken}
+use Rattle.certificate_lines.specs.ItemsLeft.{ItemsHeld, ItemsLeft, Foresees, in_memory, left_of_reader, nothing_taken}
 use Rattle.certificate_lines.specs.Fitting.{AllFit}
 use Rattle.certificate_lines.specs.declared.fault.TextFault.{TextFault}
 use Rattle.certificate_lines.specs.declared.item.Wanted.TheVariants as want
@@ -19,7 +19,7 @@ use Rattle.checker_laws.proofs.Spelling.{spelled, spelling}
 use Rattle.checker_laws.proofs.Lengths.{certificate_length}
 use Rattle.checker_laws.proofs.LineFeeds.{lines}
 use Rattle.checker_laws.proofs.TextVerdicts.{best, impossible}
-use Rattle.certificate_checker.specs.Feeding.{FeedValue, Fed, MetFault}
+use Rattle.certificate_checker.specs.Feeding.{FeedValue, Stream, Fed, IsFed, FeedsThrough, ForEach, fed_by, MetFault}
 use Rattle.certificate_checker.specs.Certificates.{IsCertificateJudged}
 use Rattle.certificate_checker.specs.Answers.{IsCheckAnswer, CheckIsRight, ShowsImpossible, lines_in_front, IsWithinBudget, IsBudgetedAnswer, ChecksItems, ChecksBytes}
 use Rattle.state_judge.specs.declared.fault.CheckFault.{CheckFault}
@@ -85,6 +85,33 @@ module _ (p : Problem) (text : List ℕ) (limit : ℕ) where
   -- a step was left when the fault was met
   pub fault_within : (start : FeedValue) (fault : TextFault) → start.course ≡ certificate_course text → start.used ≡ 0 → MetFault start fault → start.limit ≡ limit → (v : Verdict) → IsWithinBudget (lines_in_front text) limit v
   fault_within start fault course used met same v = within v (omega (arith, met.1, same, used, ap (λ c. length c.items) course))
+
+-- a reading that begins, with a limit of steps and those that were taken
+abbrev pub begun : ItemsLeft → Given → ℕ → ℕ → Stream
+begun left given limit used = record { left = left; given = given; line = 0; limit = limit; used = used }
+
+-- what the judging of the lines found is answered, unless a fault of the text stands behind them
+pub found_answer : (p : Problem) (old mid : Stream) (after : Given) (budget : ℕ) (held judged : Result (Option GroupingHeld) Halt) (found : Verdict) (answer : Result Verdict AllocError)
+    → old.line ≡ 0 → old.limit ≡ budget → held ≡ judged
+    → ((a b : FeedValue) → IsFed a judged b → Fed a b)
+    → ((text : List ℕ) (limit : ℕ) → AreJudged p text limit judged → (certificate_course text).fault ≡ None → IsCheckAnswer p text limit found)
+    → FeedsThrough old mid (λ a b. IsFed a held b)
+    → ForEach old mid (λ a b. (c : Certificate) → AllFit (want.Head ∷ []) (items_of_certificate c) → a.course.items ≡ items_of_certificate c → IsCertificateJudged p c old.limit held)
+    → ((all : List ℕ) → Foresees after all → Foresees mid.given all
+    × ((q : Problem) (text : List ℕ) (start : FeedValue) → start.course ≡ certificate_course text → start.line ≡ 0 → Fed start (fed_by mid all)
+    → ((certificate_course text).fault ≡ None → IsCheckAnswer q text start.limit found) → IfOk answer (IsBudgetedAnswer q text start.limit)))
+    → ChecksItems p old.left old.given budget answer after
+found_answer p old mid after budget held judged found answer line limit same feeds finds fed is behind all sees =
+    let v = behind all sees in
+    let j = fed all v.0 in (
+      j.0,
+      λ text course.
+          subst (λ n. IfOk answer (IsBudgetedAnswer p text n)) limit
+          (v.1 p text (fed_by old all) course line
+          (feeds (fed_by old all) (fed_by mid all) (subst (λ r. IsFed (fed_by old all) r (fed_by mid all)) same j.1))
+          (finds text old.limit
+          (subst (λ r. AreJudged p text old.limit r) same (λ cert fits items. is all v.0 cert fits (ap (λ z. z.items) course ∙ items))))),
+    )
 
 -- the two parts of an answer
 module _ {E : Type 0} (p : Problem) (text : List ℕ) (budget : ℕ) where

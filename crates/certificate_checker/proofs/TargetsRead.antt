@@ -58,17 +58,17 @@ module _ (c : Certificate) (old first second third new : FeedValue) (head : Form
   limited : AreTaken (λ (n : ℕ). item.Limit n ≡ item.Limit c.round.limit) (item.Limit c.round.limit ∷ []) (items_of_target c.round.target ++ tree_behind c) second (Ok limit) third
   limited = form_taken item.Limit (λ (n : ℕ). n) c.round.limit (items_of_target c.round.target ++ tree_behind c) second third (Ok limit) limit_took ordered.1
 
-  pub target_next : third.course.items ≡ items_of_target c.round.target ++ tree_behind c
+  target_next : third.course.items ≡ items_of_target c.round.target ++ tree_behind c
   target_next = limited.1
 
-  pub round_then : {T : Type 0} (Gave : T → Type 0) (r : Result T Halt) → AreTaken Gave (items_of_target c.round.target) (tree_behind c) third r new → AreTaken Gave (round_items c) (tree_behind c) old r new
-  round_then Gave r t =
+  pub round_then : {T : Type 0} (Gave : T → Type 0) (r : Result T Halt) → (third.course.items ≡ items_of_target c.round.target ++ tree_behind c → AreTaken Gave (items_of_target c.round.target) (tree_behind c) third r new) → AreTaken Gave (round_items c) (tree_behind c) old r new
+  round_then Gave r reads =
       taken_then (IsHeadOf c) Gave (items_of_head c.round.format c.round.window) (item.Order c.round.order ∷ item.Limit c.round.limit ∷ items_of_target c.round.target)
       (item.Order c.round.order ∷ item.Limit c.round.limit ∷ (items_of_target c.round.target ++ tree_behind c)) (tree_behind c) old first new head r read same.0
       (taken_then (λ (o : List ℕ). item.Order o ≡ item.Order c.round.order) Gave (item.Order c.round.order ∷ []) (item.Limit c.round.limit ∷ items_of_target c.round.target)
       (item.Limit c.round.limit ∷ (items_of_target c.round.target ++ tree_behind c)) (tree_behind c) first second new order r ordered same.1
       (taken_then (λ (n : ℕ). item.Limit n ≡ item.Limit c.round.limit) Gave (item.Limit c.round.limit ∷ []) (items_of_target c.round.target)
-      (items_of_target c.round.target ++ tree_behind c) (tree_behind c) second third new limit r limited same.2 t))
+      (items_of_target c.round.target ++ tree_behind c) (tree_behind c) second third new limit r limited same.2 (reads target_next)))
 
   pub round_is : (target : Option Grouping) → target ≡ c.round.target → round_with order limit target head.0 head.1 ≡ c.round
   round_is target is =

@@ -27,7 +27,7 @@ use Rattle.checker_laws.proofs.Lengths.{tree_length}
 use Rattle.certificate_checker.specs.ReadableTrees.{IsReadable}
 use Rattle.certificate_checker.specs.Feeding.{FeedValue, IsFed}
 use Rattle.certificate_checker.specs.Judging.{IsJudged}
-use Rattle.certificate_checker.specs.TreeAnswers.{IsSpelledTree, IsTreeAnswer, IsTreeWithinBudget, IsRightOfTrees, IsSaid}
+use Rattle.certificate_checker.specs.TreeAnswers.{IsSpelledTree, IsTreeAnswer, IsTreeWithinBudget, IsBudgetedTreeAnswer, IsRightOfTrees, IsSaid}
 use Rattle.certificate_checker.specs.declared.feed.Halt.{Halt}
 use Rattle.certificate_checker.specs.declared.feed.Halt.TheVariants as stop
 use Rattle.certificate_checker.specs.declared.verdict.TreeVerdict.{TreeVerdict}
@@ -62,7 +62,7 @@ module _ (p : Problem) (round : Round) (s : State) (tree : Tree) (old new : Feed
   first : old.line + 1 ≡ 1
   first = omega (arith, line)
 
-  pub tree_said : (judged : Result (Unit {0}) Halt) (said : Result TreeVerdict AllocError) → Judges judged → IsSaid judged said → IfOk said (IsTreeAnswer p round s tree old.limit)
+  tree_said : (judged : Result (Unit {0}) Halt) (said : Result TreeVerdict AllocError) → Judges judged → IsSaid judged said → IfOk said (IsTreeAnswer p round s tree old.limit)
   tree_said (Ok done) said h is =
       let j = judges (Ok done) h in
       subst (λ r. IfOk r (IsTreeAnswer p round s tree old.limit)) (sym is)
@@ -85,7 +85,7 @@ module _ (p : Problem) (round : Round) (s : State) (tree : Tree) (old new : Feed
   tree_said (Err (stop.Text fault)) (Err e) h is = tt
 
   -- each line of a proof tree was a step at least
-  pub tree_within : (judged : Result (Unit {0}) Halt) (said : Result TreeVerdict AllocError) → Judges judged → IsFed old judged new → new.used ≤ new.limit → IsSaid judged said → IfOk said (IsTreeWithinBudget tree old.limit)
+  tree_within : (judged : Result (Unit {0}) Halt) (said : Result TreeVerdict AllocError) → Judges judged → IsFed old judged new → new.used ≤ new.limit → IsSaid judged said → IfOk said (IsTreeWithinBudget tree old.limit)
   tree_within (Ok done) said h fed few is =
       let j = judges (Ok done) h in
       subst (λ r. IfOk r (IsTreeWithinBudget tree old.limit)) (sym is)
@@ -98,6 +98,23 @@ module _ (p : Problem) (round : Round) (s : State) (tree : Tree) (old new : Feed
   tree_within (Err stop.Unspelled) (Err e) h fed few is = tt
   tree_within (Err (stop.Text fault)) (Ok said) h fed few is = absurd is
   tree_within (Err (stop.Text fault)) (Err e) h fed few is = tt
+
+  pub tree_answered : (judged : Result (Unit {0}) Halt) (said : Result TreeVerdict AllocError) → Judges judged → IsFed old judged new → new.used ≤ new.limit → IsSaid judged said → IfOk said (IsBudgetedTreeAnswer p round s tree old.limit)
+  tree_answered judged said h fed few is = both said (tree_said judged said h is) (tree_within judged said h fed few is)
+    where
+      both : (r : Result TreeVerdict AllocError) → IfOk r (IsTreeAnswer p round s tree old.limit) → IfOk r (IsTreeWithinBudget tree old.limit) → IfOk r (IsBudgetedTreeAnswer p round s tree old.limit)
+      both (Ok v) answer within = (answer, within)
+      both (Err e) answer within = tt
+
+-- the two parts of an answer
+module _ {E : Type 0} (p : Problem) (round : Round) (s : State) (tree : Tree) (budget : ℕ) where
+  pub answer_of_tree : (r : Result TreeVerdict E) → IfOk r (IsBudgetedTreeAnswer p round s tree budget) → IfOk r (IsTreeAnswer p round s tree budget)
+  answer_of_tree (Ok v) h = h.0
+  answer_of_tree (Err e) h = tt
+
+  pub within_of_tree : (r : Result TreeVerdict E) → IfOk r (IsBudgetedTreeAnswer p round s tree budget) → IfOk r (IsTreeWithinBudget tree budget)
+  within_of_tree (Ok v) h = h.1
+  within_of_tree (Err e) h = tt
 
 pub right_of_trees : {E : Type 0} (p : Problem) (round : Round) (s : State) (tree : Tree) (budget : ℕ) (r : Result TreeVerdict E) → IfOk r (IsTreeAnswer p round s tree budget) → IfOk r (IsRightOfTrees p round s tree)
 right_of_trees p round s tree budget (Ok Proof) h = h.1

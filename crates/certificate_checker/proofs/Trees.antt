@@ -21,7 +21,7 @@ use Rattle.state_judge.specs.declared.fault.LineStop.{LineStop}
 use Rattle.state_judge.specs.declared.fault.LineStop.TheVariants as line_stop
 use Rattle.certificate_checker.specs.ReadableTrees.{IsReadable, AreReadable, AllowancesAreSpelled}
 use Rattle.certificate_checker.specs.Feeding.{FeedValue, Fed, IsFed, TookLine, Reaches, Halts, items_to_mark}
-use Rattle.certificate_checker.specs.Judging.{IsJudged, IsLeafJudged, IsJudgedAt, AreTakesListed, IsBranchRefused, TookForm, line_items}
+use Rattle.certificate_checker.specs.Judging.{IsJudged, IsLeafJudged, IsJudgedAt, AreTakesListed, IsBranchRefused, IsBranchJudged, TookForm, line_items}
 use Rattle.certificate_checker.specs.declared.feed.Halt.{Halt}
 use Rattle.certificate_checker.specs.declared.feed.Halt.TheVariants as stop
 use Rattle.certificate_checker.proofs.Views.{view_branch, view_stuck, view_seats, view_bound, tree_opens}
@@ -144,7 +144,7 @@ pub branch_judged : (X : Type 0) (sets : X → List (List ℕ)) (p : Problem) (r
     → IfOk judged (λ b. (m : ℕ) → AreSoMany order (IsSetAt p order s county (limit_of round limit)) m → used ≤ mid.used + 2 * m)
     → (IsErrOf judged line_stop.StepLimit → NamesLimit round.format limit × CanBranch round s county (limit_of round limit) × ((m : ℕ) → AreSoMany order (IsSetAt p order s county (limit_of round limit)) m → mid.limit ≤ mid.used + 2 * m))
     → IsJudgedAt mid.line judged r
-    → MatchResult r (λ b. AreTakesListed p round s county limit (sets b) mid (record mid { limit = most; used = used })) (λ found. IsBranchRefused p round s county limit mid found)
+    → IsBranchJudged sets p round s county limit mid r (record mid { limit = most; used = used })
 branch_judged X sets p round s county limit order mid most used (Ok b) (Ok c) same is looks stops at =
     subst (λ z. AreTakesListed p round s county limit (sets z) mid (record mid { limit = most; used = used })) (sym at)
     (λ old x takes raised more took names.

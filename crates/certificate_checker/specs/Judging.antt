@@ -1,6 +1,6 @@
 -- What the calls that judge lines promise of what they read.
 use Rattle.std.specs.Prelude.{ℕ, ◌+◌, ◌*◌, ◌≡◌, ◌≤◌, Bool, true, false, List, [], ◌∷◌, ◌++◌, length, map, Option, Some}
-use Rattle.std.specs.Prelude.{None, Result, Ok, Err, ⊤}
+use Rattle.std.specs.Prelude.{None, Result, Ok, Err, MatchResult, ⊤}
 use Rattle.grouping_laws.specs.Problem.{Problem}
 use Rattle.grouping_laws.specs.Grouping.{Grouping, counts, sets_of}
 use Rattle.county_problem.specs.CountList.{count_at}
@@ -93,6 +93,11 @@ IsLeafJudged p round s last rest old (Err stop.Budget) new =
     (n : ℕ) → LeafLooks last p round s n → old.limit + length rest ≤ old.used + length old.course.items + 2 * n
 IsLeafJudged p round s last rest old (Err stop.Refused) new = ⊤
 
+-- a leaf of one line was judged, whose line was read last
+abbrev pub IsShortLeafJudged : Problem → Round → State → Leaf → ℕ → Result (Unit {0}) Halt → Type 0
+IsShortLeafJudged p round s last line result =
+    (feed : FeedValue) → feed.line ≡ line → IsLeafJudged p round s last feed.course.items feed result feed
+
 -- the items of lines of a bound leaf
 abbrev pub line_items : List Allowance → List Item
 line_items lines = map (λ a. Allows (declared_allowance a)) lines
@@ -151,6 +156,14 @@ IsBranchRefused p round s county limit mid found =
     → NamesLimit round.format limit
     → old.course.items ≡ items_of_tree (branch county limit takes raised) ++ rest
     → Halts p round old (a_tree (branch county limit takes raised) s ∷ more) rest found
+
+-- A branch's line was judged, which was read last: its takes are left then, of groups in these sets; or the judging
+-- stopped at it.
+abbrev pub IsBranchJudged : {X : Type 0} → (X → List (List ℕ)) → Problem → Round → State → ℕ → Option ℕ → FeedValue
+    → Result X Halt → FeedValue → Type 0
+IsBranchJudged sets p round s county limit mid result new =
+    MatchResult result (λ b. AreTakesListed p round s county limit (sets b) mid new)
+    (λ found. IsBranchRefused p round s county limit mid found)
 
 -- the judging of a take stopped at its line, where these groups are still to be taken
 abbrev pub IsTakeStop : List (List ℕ) → List ℕ → ℕ → Halt → Type 0

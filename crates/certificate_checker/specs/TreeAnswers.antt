@@ -46,6 +46,11 @@ IsTreeWithinBudget tree budget Proof = tree_lines tree ≤ budget
 IsTreeWithinBudget tree budget (Refused fault) = ⊤
 IsTreeWithinBudget tree budget Budget = ⊤
 
+-- the answer of the tree, where its lines are within the budget
+abbrev pub IsBudgetedTreeAnswer : Problem → Round → State → Tree → ℕ → TreeVerdict → Type 0
+IsBudgetedTreeAnswer p round s tree budget verdict =
+    IsTreeAnswer p round s tree budget verdict × IsTreeWithinBudget tree budget verdict
+
 -- Only a proof tree is answered with Proof, and only what is none, or has no text, with a fault.
 abbrev pub IsRightOfTrees : Problem → Round → State → Tree → TreeVerdict → Type 0
 IsRightOfTrees p round s tree Proof = Proves tree p round s

@@ -5,17 +5,13 @@ ghost use Rattle.county_codes.specs.Limits.{most_counties};
 ghost use Rattle.county_problem.specs.OrderedValue.{code_at};
 ghost use Rattle.connected_sets.specs.Graphs.{graph_problem, graph_order, graph_places, place_problem};
 ghost use Rattle.certificate_data.specs.RoundValue.{round_of};
-ghost use Rattle.certificate_laws.specs.State.{close};
-ghost use Rattle.certificate_laws.specs.Proving.{limit_of};
+ghost use Rattle.certificate_laws.specs.{State.close, Proving.{limit_of, CanBranch}, Groups.IsGroupAt};
 ghost use Rattle.checker_laws.specs.Branches.{IsNextTake};
 ghost use Rattle.state_groups.specs.PlacedValues.{state_at, codes_of_sets, IsPlaced, IsClosable};
 ghost use Rattle.certificate_lines.specs.Courses.{Unread};
-ghost use Rattle.certificate_checker.specs.Feeding.{feed_at, CountsSteps, IsFed};
-ghost use Rattle.certificate_laws.specs.Groups.{IsGroupAt};
-ghost use Rattle.certificate_laws.specs.Proving.{CanBranch};
-ghost use Rattle.certificate_checker.specs.Knowing.{IsKnownAt};
+ghost use Rattle.certificate_checker.specs.{Feeding.{feed_at, CountsSteps, IsFed}, Knowing.IsKnownAt};
+ghost use Rattle.certificate_checker.specs.Judging.{IsCheckInput, IsBranchJudged, IsTakeStop};
 ghost use Rattle.search_groups.specs.PartLists.{AreListsOf};
-ghost use Rattle.certificate_checker.specs.Judging.{IsCheckInput, AreTakesListed, IsBranchRefused, IsTakeStop};
 
 use crate::feed::{Feed, Halt};
 use crate::forms::judged_at;
@@ -56,25 +52,16 @@ pub(crate) fn listed_groups<C: CountySet, S>(
     ensures size { IfOk result (λ b. (b.limit ≡ limit_of (round_of input.now.round.now) limit)
         × (b.limit ≤ most_counties)) }
     ensures groups { IfOk result (λ b. All (IsClosable C.test state.now) b.groups.items) }
-    ensures judged { (course : Unread) → MatchResult
+    ensures judged { (course : Unread) → IsBranchJudged
+        (λ b. codes_of_sets (graph_order input.now.graph.now) C.test b.groups.items)
+        (graph_problem input.now.graph.now)
+        (round_of input.now.round.now)
+        (state_at (graph_order input.now.graph.now) C.test state.now)
+        county
+        limit
+        (feed_at course feed.old)
         result
-        (λ b. AreTakesListed
-        (graph_problem input.now.graph.now)
-        (round_of input.now.round.now)
-        (state_at (graph_order input.now.graph.now) C.test state.now)
-        county
-        limit
-        (codes_of_sets (graph_order input.now.graph.now) C.test b.groups.items)
-        (feed_at course feed.old)
-        (feed_at course feed.new))
-        (λ found. IsBranchRefused
-        (graph_problem input.now.graph.now)
-        (round_of input.now.round.now)
-        (state_at (graph_order input.now.graph.now) C.test state.now)
-        county
-        limit
-        (feed_at course feed.old)
-        found) }
+        (feed_at course feed.new) }
 {
     let judged = knowing_branch(
         input,

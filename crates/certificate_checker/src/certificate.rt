@@ -1,29 +1,23 @@
 //! The judging of a whole certificate: its order, its limit, its target, and its tree.
 
-ghost use Rattle.std.specs.Prelude.{◌≡◌, ◌≤◌, ◌<◌, ◌+◌, ◌∷◌, [], ◌++◌, List, length, nat_lt, IfOk};
-ghost use Rattle.std.specs.Prelude.{MatchResult};
+ghost use Rattle.std.specs.Prelude.{◌≡◌, ◌≤◌, ◌<◌, ◌+◌, ◌∷◌, [], ◌++◌, List, length, nat_lt, IfOk, MatchResult};
 ghost use Rattle.std.specs.List.{list_any};
 ghost use Rattle.county_codes.specs.Limits.{most_counties};
-ghost use Rattle.grouping_laws.specs.Allowance.{HasWindow};
-ghost use Rattle.grouping_laws.specs.GroupsFrom.{IsOrder};
+ghost use Rattle.grouping_laws.specs.{Allowance.HasWindow, GroupsFrom.IsOrder};
 ghost use Rattle.county_problem.specs.ProblemValue.{problem_of};
-ghost use Rattle.certificate_data.specs.RoundValue.{round_of, target_of};
+ghost use Rattle.certificate_data.specs.{RoundValue.{round_of, target_of}, Tree.Tree, TreeValue.Certificate};
 ghost use Rattle.certificate_laws.specs.State.{empty_state};
-ghost use Rattle.certificate_data.specs.Tree.{Tree};
 ghost use Rattle.certificate_lines.specs.Fitting.{AllFit};
 ghost use Rattle.certificate_lines.specs.declared.item.Item.{Item as ItemValue};
 ghost use Rattle.certificate_lines.specs.declared.item.Wanted.TheVariants as want;
-ghost use Rattle.certificate_data.specs.TreeValue.{Certificate};
 ghost use Rattle.certificate_text.specs.Trees.{items_of_tree, items_of_certificate};
 ghost use Rattle.checker_laws.specs.Lines.{window_line, target_lines};
-ghost use Rattle.checker_laws.specs.Verdict.{IsWindowFault, IsOrderFault, IsLargeEnough, IsLimitFault, IsLawfulTarget};
-ghost use Rattle.checker_laws.specs.Verdict.{IsTargetFault};
+ghost use Rattle.checker_laws.specs.Verdict.{IsWindowFault, IsOrderFault, IsLargeEnough, IsLimitFault, IsLawfulTarget, IsTargetFault};
 ghost use Rattle.checker_laws.specs.Work.{a_tree};
 ghost use Rattle.certificate_checker.specs.ReadableTrees.{IsReadable};
 ghost use Rattle.certificate_checker.specs.Feeding.{stream_of, CountsSteps, IsFed, FeedsThrough, ForEach};
 ghost use Rattle.certificate_checker.specs.Judging.{IsJudged, AreWanted};
-ghost use Rattle.certificate_checker.specs.Certificates.{StopsAt, IsTargetStop, AreCounts, IsRoundJudged};
-ghost use Rattle.certificate_checker.specs.Certificates.{IsCertificateJudged};
+ghost use Rattle.certificate_checker.specs.Certificates.{StopsAt, IsTargetStop, AreCounts, IsRoundJudged, IsCertificateJudged};
 
 use crate::feed::{Feed, Halt};
 use crate::forms::next_end;
@@ -193,41 +187,6 @@ fn judge_first<C: CountySet, F, S: ItemSource<F>>(
     judge_tree(&input, &mut state, known, &mut lists, feed, from)
 }
 
-/// Judges a round whose tolerance is fine, and the tree that begins on the next line.
-fn judge_behind<C: CountySet, F, S: ItemSource<F>>(
-    alloc: Global,
-    problem: &Problem,
-    round: &Round,
-    feed: &mut Feed<S>,
-    from: &mut F,
-) -> Result<(), Halt>
-    requires fits { length problem.now.counties ≤ C.PLACES }
-    requires small { round.now.limit ≤ most_counties }
-    requires counted { feed.old.line ≤ feed.old.steps.used }
-    requires window { HasWindow (problem_of problem.now) round.now.window }
-    ensures counts { CountsSteps feed.old feed.new }
-    ensures fed { FeedsThrough (stream_of S.left S.given feed.old from.old) (stream_of S.left S.given feed.new from.new) (λ a b. IsFed a result b) }
-    ensures judged { ForEach (stream_of S.left S.given feed.old from.old) (stream_of S.left S.given feed.new from.new) (λ a b. (tree : Tree) (rest : List ItemValue)
-        → feed.old.line ≡ window_line round.now.window + 3 + target_lines (target_of round.now.target)
-        → IsReadable round.now.format tree
-        → a.course.items ≡ items_of_tree tree ++ rest
-        → IsRoundJudged (problem_of problem.now) (round_of round.now) tree rest a result b) }
-{
-    match judge_order(alloc, problem, round) {
-        Ok(ordered) => match judge_limit(round) {
-            Ok(()) => match judge_target(alloc, problem, round) {
-                Ok(wanted) => {
-                    let _problem = ordered.problem();
-                    judge_first::<C, F, S>(alloc, &ordered, round, wanted.as_ref(), feed, from)
-                }
-                Err(stop) => Err(stop),
-            },
-            Err(stop) => Err(stop),
-        },
-        Err(stop) => Err(stop),
-    }
-}
-
 /// Judges a round and the tree that begins on the next line.
 fn judge_round<C: CountySet, F, S: ItemSource<F>>(
     alloc: Global,
@@ -248,7 +207,19 @@ fn judge_round<C: CountySet, F, S: ItemSource<F>>(
         → IsRoundJudged (problem_of problem.now) (round_of round.now) tree rest a result b) }
 {
     match judge_window(problem, round) {
-        Ok(()) => judge_behind::<C, F, S>(alloc, problem, round, feed, from),
+        Ok(()) => match judge_order(alloc, problem, round) {
+            Ok(ordered) => match judge_limit(round) {
+                Ok(()) => match judge_target(alloc, problem, round) {
+                    Ok(wanted) => {
+                        let _problem = ordered.problem();
+                        judge_first::<C, F, S>(alloc, &ordered, round, wanted.as_ref(), feed, from)
+                    }
+                    Err(stop) => Err(stop),
+                },
+                Err(stop) => Err(stop),
+            },
+            Err(stop) => Err(stop),
+        },
         Err(stop) => Err(stop),
     }
 }

@@ -5,9 +5,7 @@ ghost use Rattle.grouping_laws.specs.Problem.{Problem as ProblemOf};
 ghost use Rattle.county_problem.specs.ProblemValue.{problem_of};
 ghost use Rattle.certificate_lines.specs.Courses.{certificate_course};
 ghost use Rattle.certificate_checker.specs.Feeding.{FeedValue, Fed, stream_of, FeedsThrough};
-ghost use Rattle.certificate_checker.specs.Answers.{IsCheckAnswer, CheckIsRight, ShowsImpossible, ChecksItems};
-ghost use Rattle.certificate_checker.specs.Answers.{IsBudgetedAnswer, lines_in_front, IsWithinBudget};
-ghost use Rattle.certificate_checker.specs.Answers.{ChecksBytes, is_read_fault};
+ghost use Rattle.certificate_checker.specs.Answers.{IsCheckAnswer, CheckIsRight, ShowsImpossible, ChecksItems, IsBudgetedAnswer, lines_in_front, IsWithinBudget, ChecksBytes, is_read_fault};
 
 use crate::certificate::judge_certificate;
 use crate::fault::CheckStop;

@@ -2,8 +2,7 @@
 
 ghost use Rattle.std.specs.Prelude.{◌≡◌, ◌≤◌, IfOk};
 ghost use Rattle.certificate_lines.specs.ItemsLeft.{Through as ItemsThrough};
-ghost use Rattle.certificate_checker.specs.Feeding.{stream_of, FeedsThrough, ForEach, CountsSteps, TakesStep, IsFed};
-ghost use Rattle.certificate_checker.specs.Feeding.{TookLine, StopsAtText, Passes, IsRestRead};
+ghost use Rattle.certificate_checker.specs.Feeding.{stream_of, FeedsThrough, ForEach, CountsSteps, TakesStep, IsFed, TookLine, StopsAtText, Passes, IsRestRead};
 ghost use Rattle.certificate_checker.specs.declared.feed.Halt.TheVariants.{Refused};
 
 use certificate_lines::{Item, ItemSource, Items, TextFault, TextKind};

@@ -1,32 +1,24 @@
 //! What a checker knows of the groups at a state of a wide round, so that it need not grow them anew for each line. It is
 //! what a search knows there: a position.
 
-ghost use Rattle.std.specs.Prelude.{◌≡◌, ℕ, ◌+◌, ◌*◌, ◌≤◌, ◌<◌, ◌∷◌, List, length, All, Some, IfOk, IfSome, IsErrOf, IsTrue};
-ghost use Rattle.std.specs.Prelude.{MatchOption, MatchResult, ⊤};
+ghost use Rattle.std.specs.Prelude.{◌≡◌, ℕ, ◌+◌, ◌*◌, ◌≤◌, ◌<◌, ◌∷◌, List, length, All, Some, IfOk, IfSome, IsErrOf, IsTrue, MatchOption, MatchResult, ⊤};
 ghost use Rattle.county_codes.specs.Limits.{most_counties};
 ghost use Rattle.connected_sets.specs.Graphs.{graph_problem, graph_order, graph_places, place_problem};
 ghost use Rattle.connected_sets.specs.declared.stop.Stop.{Stop};
 ghost use Rattle.connected_laws.specs.Listing.{AreBelow};
 ghost use Rattle.county_problem.specs.OrderedValue.{code_at};
-ghost use Rattle.certificate_data.specs.RoundValue.{round_of};
-ghost use Rattle.certificate_data.specs.declared.format.Format.TheVariants.{Wide};
-ghost use Rattle.certificate_laws.specs.State.{close, raise, IsState, State as StateValue};
-ghost use Rattle.certificate_laws.specs.Fitting.{Fits};
-ghost use Rattle.certificate_laws.specs.Groups.{IsGroupAt, AreGroupsAt, IsSetAt};
-ghost use Rattle.certificate_laws.specs.Proving.{CanBranch, NamesLimit, limit_of};
+ghost use Rattle.certificate_data.specs.{RoundValue.round_of, declared.format.Format.TheVariants.Wide};
 ghost use Rattle.certificate_data.specs.TreeValue.{allowance_of};
-ghost use Rattle.checker_laws.specs.Branches.{IsBranchFault};
-ghost use Rattle.checker_laws.specs.Leaves.{IsAllowanceFault};
-ghost use Rattle.checker_laws.specs.Cost.{AreSoMany, LineLooks};
-ghost use Rattle.state_judge.specs.LineStops.{StopsAt};
-ghost use Rattle.state_judge.specs.AllowanceVerdicts.{AllowanceIsSpelled, IsAllowed};
-ghost use Rattle.state_judge.specs.Candidates.{AreListed};
-ghost use Rattle.state_judge.specs.declared.fault.LineStop.{LineStop};
+ghost use Rattle.certificate_laws.specs.State.{close, raise, IsState, State as StateValue};
+ghost use Rattle.certificate_laws.specs.{Fitting.Fits, Groups.{AreGroupsAt, IsSetAt}};
+ghost use Rattle.certificate_laws.specs.Proving.{CanBranch, NamesLimit, limit_of};
+ghost use Rattle.checker_laws.specs.{Branches.IsBranchFault, Leaves.IsAllowanceFault, Cost.{AreSoMany, LineLooks}};
+ghost use Rattle.state_judge.specs.{LineStops.StopsAt, AllowanceVerdicts.{AllowanceIsSpelled, IsAllowed}};
+ghost use Rattle.state_judge.specs.{Candidates.AreListed, declared.fault.LineStop.LineStop};
 ghost use Rattle.state_groups.specs.PlacedValues.{state_at, codes_of_set, codes_of_sets, IsPlaced, IsClosable};
 ghost use Rattle.search_groups.specs.PartLists.{AreListsOf};
 ghost use Rattle.search_groups.specs.Positions.{search_problem, search_round, search_state, IsSearchInput, IsPositionAt};
-ghost use Rattle.certificate_checker.specs.Judging.{IsCheckInput};
-ghost use Rattle.certificate_checker.specs.Knowing.{IsKnownAt};
+ghost use Rattle.certificate_checker.specs.{Judging.IsCheckInput, Knowing.{IsKnownAt, AreOfKnownSize}};
 ghost use Rattle.certificate_checker.specs.declared.input.CheckInput.{CheckInput};
 
 use crate::input::CheckInput;
@@ -92,16 +84,7 @@ pub fn closed_known<C: CountySet>(
     requires input { IsCheckInput C.PLACES C.test input.now }
     requires known { IsKnownAt C.test input.now (state_at (graph_order input.now.graph.now) C.test state.now) known.now }
     requires below { AreBelow (graph_places input.now.graph.now) C.test left.now }
-    requires groups { (at : Position C)
-        → known.now ≡ Some at
-        → All (λ g. (c : ℕ)
-        × IsGroupAt
-        (graph_problem input.now.graph.now)
-        (round_of input.now.round.now)
-        (state_at (graph_order input.now.graph.now) C.test state.now)
-        c
-        at.size
-        g) (codes_of_sets (graph_order input.now.graph.now) C.test left.now) }
+    requires groups { AreOfKnownSize C.test input.now (state_at (graph_order input.now.graph.now) C.test state.now) known.now left.now }
     ensures { (group : C) (others : List C)
         → left.now ≡ group ∷ others
         → IfOk

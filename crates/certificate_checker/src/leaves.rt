@@ -8,11 +8,10 @@ ghost use Rattle.certificate_data.specs.Tree.{Allowance as AllowanceValue, stuck
 ghost use Rattle.certificate_lines.specs.declared.item.Item.{Item as ItemValue};
 ghost use Rattle.state_groups.specs.PlacedValues.{state_at, IsPlaced};
 ghost use Rattle.certificate_checker.specs.ReadableTrees.{AllowancesAreSpelled};
-ghost use Rattle.certificate_checker.specs.Feeding.{FeedValue, stream_of, CountsSteps, IsFed, FeedsThrough, ForEach};
-ghost use Rattle.certificate_checker.specs.Judging.{IsCheckInput, IsLeafJudged, IsFoundAt, IsEndOf, IsSmall};
+ghost use Rattle.certificate_checker.specs.Feeding.{stream_of, CountsSteps, IsFed, FeedsThrough, ForEach};
+ghost use Rattle.certificate_checker.specs.Judging.{IsCheckInput, IsLeafJudged, IsShortLeafJudged, IsFoundAt, IsEndOf, IsSmall, IsLineJudged, line_items};
 ghost use Rattle.certificate_checker.specs.Knowing.{IsKnownAt};
 ghost use Rattle.search_groups.specs.PartLists.{AreListsOf};
-ghost use Rattle.certificate_checker.specs.Judging.{IsLineJudged, line_items};
 
 use crate::feed::{Feed, Halt};
 use crate::forms::{judged_at, next_allowance};
@@ -44,9 +43,7 @@ pub(crate) fn judge_stuck_leaf<C: CountySet>(
 ) -> Result<(), Halt>
     requires input { IsCheckInput C.PLACES C.test input.now }
     requires placed { IsPlaced (graph_places input.now.graph.now) C.test state.now }
-    ensures { (feed : FeedValue)
-        → feed.line ≡ line
-        → IsLeafJudged (graph_problem input.now.graph.now) (round_of input.now.round.now) (state_at (graph_order input.now.graph.now) C.test state.now) (stuck county) feed.course.items feed result feed }
+    ensures { IsShortLeafJudged (graph_problem input.now.graph.now) (round_of input.now.round.now) (state_at (graph_order input.now.graph.now) C.test state.now) (stuck county) line result }
 {
     let fault = judge_stuck(input.graph, state, county)?;
     found_at(fault, line)
@@ -60,9 +57,7 @@ pub(crate) fn judge_seats_leaf<C: CountySet>(
 ) -> Result<(), Halt>
     requires input { IsCheckInput C.PLACES C.test input.now }
     requires placed { IsPlaced (graph_places input.now.graph.now) C.test state.now }
-    ensures { (feed : FeedValue)
-        → feed.line ≡ line
-        → IsLeafJudged (graph_problem input.now.graph.now) (round_of input.now.round.now) (state_at (graph_order input.now.graph.now) C.test state.now) seats feed.course.items feed result feed }
+    ensures { IsShortLeafJudged (graph_problem input.now.graph.now) (round_of input.now.round.now) (state_at (graph_order input.now.graph.now) C.test state.now) seats line result }
 {
     let fault = judge_seats(input.graph, state)?;
     found_at(fault, line)

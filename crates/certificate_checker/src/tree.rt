@@ -1,20 +1,16 @@
 //! The judging of a tree, line by line and from state to state.
 
-ghost use Rattle.std.specs.Prelude.{◌≡◌, ℕ, ◌≤◌, ◌∷◌, ◌++◌, List, All, Some};
+ghost use Rattle.std.specs.Prelude.{◌≡◌, ◌≤◌, ◌∷◌, ◌++◌, List, All};
 ghost use Rattle.connected_sets.specs.Graphs.{graph_problem, graph_order, graph_places, place_problem};
-ghost use Rattle.certificate_data.specs.RoundValue.{round_of};
-ghost use Rattle.certificate_data.specs.Tree.{Tree, Takes};
+ghost use Rattle.certificate_data.specs.{RoundValue.round_of, Tree.{Tree, Takes}};
 ghost use Rattle.certificate_text.specs.Trees.{items_of_tree};
 ghost use Rattle.certificate_lines.specs.declared.item.Item.{Item as ItemValue};
 ghost use Rattle.checker_laws.specs.Work.{Open, a_tree, some_takes};
 ghost use Rattle.state_groups.specs.PlacedValues.{state_at, codes_of_sets, IsPlaced, IsClosable};
 ghost use Rattle.certificate_checker.specs.ReadableTrees.{IsReadable, AreReadable};
-ghost use Rattle.certificate_checker.specs.Feeding.{stream_of, CountsSteps, IsFed, FeedsThrough, ForEach};
-ghost use Rattle.certificate_checker.specs.Feeding.{items_to_mark};
-ghost use Rattle.certificate_laws.specs.Groups.{IsGroupAt};
-ghost use Rattle.certificate_checker.specs.Knowing.{IsKnownAt};
+ghost use Rattle.certificate_checker.specs.Feeding.{stream_of, CountsSteps, IsFed, FeedsThrough, ForEach, items_to_mark};
+ghost use Rattle.certificate_checker.specs.{Knowing.{IsKnownAt, AreOfKnownSize}, Judging.{IsCheckInput, IsJudged}};
 ghost use Rattle.search_groups.specs.PartLists.{AreListsOf};
-ghost use Rattle.certificate_checker.specs.Judging.{IsCheckInput, IsJudged};
 
 use crate::branches::{groups_behind, listed_groups, taken_state};
 use crate::feed::{Feed, Halt};
@@ -43,16 +39,7 @@ fn judge_takes<C: CountySet, F, S: ItemSource<F>>(
     requires placed { IsPlaced (graph_places input.now.graph.now) C.test state.now }
     requires groups { All (IsClosable C.test state.now) groups.now }
     requires known { IsKnownAt C.test input.now (state_at (graph_order input.now.graph.now) C.test state.now) known.now }
-    requires fits { (at : Position C)
-        → known.now ≡ Some at
-        → All (λ g. (c : ℕ)
-        × IsGroupAt
-        (graph_problem input.now.graph.now)
-        (round_of input.now.round.now)
-        (state_at (graph_order input.now.graph.now) C.test state.now)
-        c
-        at.size
-        g) (codes_of_sets (graph_order input.now.graph.now) C.test groups.now) }
+    requires fits { AreOfKnownSize C.test input.now (state_at (graph_order input.now.graph.now) C.test state.now) known.now groups.now }
     requires lists { AreListsOf C.test (place_problem input.now.graph.now) (graph_places input.now.graph.now) lists.old }
     requires counted { feed.old.line ≤ feed.old.steps.used }
     ensures lists { AreListsOf C.test (place_problem input.now.graph.now) (graph_places input.now.graph.now) lists.new }

@@ -3,23 +3,18 @@
 ghost use Rattle.std.specs.Prelude.{◌≡◌, ◌≤◌, length, IfOk, IsTrue};
 ghost use Rattle.county_codes.specs.Limits.{most_counties};
 ghost use Rattle.grouping_laws.specs.GroupsFrom.{IsOrder};
-ghost use Rattle.county_problem.specs.OrderedValue.{problem_at};
-ghost use Rattle.county_problem.specs.ProblemValue.{problem_of};
+ghost use Rattle.county_problem.specs.{OrderedValue.problem_at, ProblemValue.problem_of};
 ghost use Rattle.connected_sets.specs.Graphs.{graph_problem, graph_order, graph_places, place_problem, IsGraph};
-ghost use Rattle.certificate_data.specs.RoundValue.{round_of, target_of};
+ghost use Rattle.certificate_data.specs.{RoundValue.{round_of, target_of}, TreeValue.tree_of};
 ghost use Rattle.certificate_data.specs.Tree.{Tree as TreeValue};
-ghost use Rattle.certificate_lines.specs.Courses.{tree_course};
-ghost use Rattle.certificate_lines.specs.Lines.{most};
-ghost use Rattle.certificate_data.specs.TreeValue.{tree_of};
+ghost use Rattle.certificate_lines.specs.{Courses.tree_course, Lines.most};
 ghost use Rattle.certificate_laws.specs.State.{IsState};
-ghost use Rattle.certificate_text.specs.Ranges.{AreTreeNumbers};
-ghost use Rattle.certificate_text.specs.TreeFault.{lines_of_tree};
+ghost use Rattle.certificate_text.specs.{Ranges.AreTreeNumbers, TreeFault.lines_of_tree};
 ghost use Rattle.checker_laws.specs.Verdict.{IsLawfulTarget};
 ghost use Rattle.search_groups.specs.PartLists.{AreListsOf};
 ghost use Rattle.state_groups.specs.PlacedValues.{state_at, IsPlaced};
-ghost use Rattle.certificate_checker.specs.Judging.{IsCheckInput, AreWanted};
-ghost use Rattle.certificate_checker.specs.Knowing.{IsKnownAt};
-ghost use Rattle.certificate_checker.specs.TreeAnswers.{IsTreeAnswer, IsTreeWithinBudget, IsRightOfTrees, IsSaid};
+ghost use Rattle.certificate_checker.specs.{Judging.{IsCheckInput, AreWanted}, Knowing.IsKnownAt};
+ghost use Rattle.certificate_checker.specs.TreeAnswers.{IsTreeAnswer, IsTreeWithinBudget, IsBudgetedTreeAnswer, IsRightOfTrees, IsSaid};
 
 use crate::certificate::{judge_order, wanted_counts};
 use crate::feed::{Feed, Halt, first_fault};
@@ -82,11 +77,7 @@ fn check_lines<C: CountySet>(
     ensures verdict { (tree : TreeValue)
         → lines.now ≡ lines_of_tree tree
         → AreTreeNumbers tree
-        → IfOk result (IsTreeAnswer (graph_problem input.now.graph.now) (round_of input.now.round.now) (state_at (graph_order input.now.graph.now) C.test state.old) tree budget) }
-    ensures within { (tree : TreeValue)
-        → lines.now ≡ lines_of_tree tree
-        → AreTreeNumbers tree
-        → IfOk result (IsTreeWithinBudget tree budget) }
+        → IfOk result (IsBudgetedTreeAnswer (graph_problem input.now.graph.now) (round_of input.now.round.now) (state_at (graph_order input.now.graph.now) C.test state.old) tree budget) }
 {
     let alloc = input.graph.alloc;
     let format = input.round.format;

@@ -1,13 +1,9 @@
 //! Laws of proof trees: the functions do nothing, and their contracts are the laws.
 
 ghost use Rattle.certificate_laws.specs.Certificate.{ProofTreeExcludes, CertificateShows, IsCertificate};
-ghost use Rattle.certificate_laws.specs.Branching.{BranchKeepsState};
-ghost use Rattle.certificate_laws.specs.Decisions.{LeavesAreDecided};
-ghost use Rattle.certificate_laws.specs.Depth.{TreesAreShallow};
-ghost use Rattle.certificate_laws.specs.Lists.{ListsServe};
-ghost use Rattle.certificate_laws.specs.Places.{PlacesServe, StatesHaveCodes};
-ghost use Rattle.certificate_laws.specs.RegionGrowth.{RegionsAreGrown};
-ghost use Rattle.certificate_laws.specs.Marks.{PlainIsMarked};
+ghost use Rattle.certificate_laws.specs.{Branching.BranchKeepsState, Decisions.LeavesAreDecided, Depth.TreesAreShallow};
+ghost use Rattle.certificate_laws.specs.{Lists.ListsServe, Places.{PlacesServe, StatesHaveCodes}};
+ghost use Rattle.certificate_laws.specs.{RegionGrowth.RegionsAreGrown, Marks.PlainIsMarked};
 ghost use Rattle.certificate_laws.specs.Search.{FinishedStateBeats, SearchEnds, ImpossibleIsLeaf};
 ghost use Rattle.certificate_laws.specs.Examples.{stranding, plain_round, plain_tree, wide_round, wide_tree, lone_leaf};
 

@@ -1,11 +1,9 @@
 //! The lines of a text, read one after the other.
 
 ghost use Rattle.std.specs.Prelude.{◌≡◌, [], ◌∷◌, ◌++◌, IfOk, IfErr, OnOk};
-ghost use Rattle.certificate_lines.specs.Words.{line_words};
+ghost use Rattle.certificate_lines.specs.{Words.line_words, Rest.{IsTextMemory, ReadsLine, TakesTextPiece}};
+ghost use Rattle.certificate_lines.specs.{Reading.EndsUnless, Items.{by_words, head_in}};
 ghost use Rattle.certificate_lines.specs.Lines as line;
-ghost use Rattle.certificate_lines.specs.Rest.{IsTextMemory, ReadsLine, TakesTextPiece};
-ghost use Rattle.certificate_lines.specs.Reading.{EndsUnless};
-ghost use Rattle.certificate_lines.specs.Items.{by_words, head_in};
 
 use crate::fault::{TextFault, TextKind};
 use crate::item::{Opening, Version};

@@ -1,8 +1,7 @@
 //! What may be wrong with a line of a certificate, and why a value may have no text.
 
 ghost use Rattle.std.specs.Prelude.{◌≡◌};
-ghost use Rattle.certificate_lines.specs.KindWords.{text_kind_word};
-ghost use Rattle.certificate_lines.specs.declared.fault.TextKind.TheVariants.{Memory};
+ghost use Rattle.certificate_lines.specs.{KindWords.text_kind_word, declared.fault.TextKind.TheVariants.Memory};
 ghost use Rattle.certificate_lines.specs.declared.fault.WriteFault.TheVariants as write;
 
 use std::alloc::{AllocError, AllocFailed};

@@ -3,8 +3,7 @@
 ghost use Rattle.std.specs.Prelude.{◌≡◌, ◌≤◌, ◌↔◌, ◌&&◌, ◌∷◌, ◌++◌, nat_le, length, IsTrue, codes, decimal};
 ghost use Rattle.std.specs.List.{list_all, flat_map};
 ghost use Rattle.field_lines.specs.Fault.{most_bytes};
-ghost use Rattle.certificate_lines.specs.Fitting.{IsWanted, IsSet, AreCodes, AreWeights};
-ghost use Rattle.certificate_lines.specs.Lines.{most, ascend};
+ghost use Rattle.certificate_lines.specs.{Fitting.{IsWanted, IsSet, AreCodes, AreWeights}, Lines.{most, ascend}};
 ghost use Rattle.certificate_lines.specs.Spelling.{weight_word};
 ghost use Rattle.certificate_lines.specs.declared.item.Item.TheVariants as item;
 ghost use Rattle.certificate_lines.specs.declared.item.Opening.TheVariants as opening;

@@ -1,12 +1,9 @@
 //! The lines of a certificate or of a tree, one at a time.
 
 ghost use Rattle.std.specs.Prelude.{◌≡◌, ◌≤◌, [], ◌∷◌, None};
-ghost use Rattle.field_lines.specs.RawPieces.{raw_lines};
-ghost use Rattle.field_lines.specs.Source.{Given, nothing_comes};
-ghost use Rattle.certificate_lines.specs.Lines.{most};
-ghost use Rattle.certificate_lines.specs.Stacks.{HasRoom, IsBounded};
-ghost use Rattle.certificate_lines.specs.Courses.{certificate_course, tree_course, course_from, course_left};
-ghost use Rattle.certificate_lines.specs.Courses.{IsNextItemRead};
+ghost use Rattle.field_lines.specs.{RawPieces.raw_lines, Source.{Given, nothing_comes}};
+ghost use Rattle.certificate_lines.specs.{Lines.most, Stacks.{HasRoom, IsBounded}};
+ghost use Rattle.certificate_lines.specs.Courses.{certificate_course, tree_course, course_from, course_left, IsNextItemRead};
 ghost use Rattle.certificate_lines.specs.ItemsLeft.{ItemsLeft, in_memory, IsNextItemOf};
 ghost use Rattle.certificate_lines.specs.declared.item.Wanted.TheVariants as want;
 
@@ -80,8 +77,7 @@ pub struct Items<'a> {
 }
 
 impl<'a> Model for Items<'a> {
-    ghost use Rattle.certificate_lines.specs.Courses.{Unread, course_left};
-    ghost use Rattle.certificate_lines.specs.Stacks.{IsBounded};
+    ghost use Rattle.certificate_lines.specs.{Courses.{Unread, course_left}, Stacks.IsBounded};
 
     /// The items to come, and the fault that ends them.
     ghost Value = { Unread };

@@ -3,8 +3,7 @@
 ghost use Rattle.std.specs.Prelude.{◌≡◌, ◌+◌, ◌∷◌, [], reverse, None, OnOk, IfOk, IfErr};
 ghost use Rattle.arrayvec.specs.ArrayVec.{array_vec_len};
 ghost use Rattle.certificate_lines.specs.Stacks.{HasRoom, IsBounded};
-ghost use Rattle.certificate_lines.specs.ItemsLeft.{left_at, left_of_reader, fault_of_reader, nothing_taken, ReadsItem};
-ghost use Rattle.certificate_lines.specs.ItemsLeft.{ReadsEnd, ReadsNext};
+ghost use Rattle.certificate_lines.specs.ItemsLeft.{left_at, left_of_reader, fault_of_reader, nothing_taken, ReadsItem, ReadsEnd, ReadsNext};
 ghost use Rattle.certificate_lines.specs.declared.fault.TextKind.TheVariants.{Memory};
 
 use crate::fault::{TextFault, TextKind};
@@ -127,8 +126,7 @@ pub struct ItemsFrom {
 
 impl Model for ItemsFrom {
     ghost use Rattle.std.specs.Prelude.{◌≡◌, None};
-    ghost use Rattle.certificate_lines.specs.ItemsLeft.{ItemsHeld};
-    ghost use Rattle.certificate_lines.specs.Stacks.{IsBounded};
+    ghost use Rattle.certificate_lines.specs.{ItemsLeft.ItemsHeld, Stacks.IsBounded};
 
     /// What is wanted, the number of the next line, what the reader of lines has, and the fault that was returned.
     ghost Value = { ItemsHeld };

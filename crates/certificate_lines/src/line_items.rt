@@ -2,9 +2,7 @@
 
 ghost use Rattle.std.specs.Prelude.{◌≡◌, ◌-◌, List, [], ◌∷◌, ◌++◌, reverse};
 ghost use Rattle.arrayvec.specs.ArrayVec.{array_vec_len};
-ghost use Rattle.certificate_lines.specs.Stacks.{HasRoom};
-ghost use Rattle.certificate_lines.specs.Items.{wanted_after, parted};
-ghost use Rattle.certificate_lines.specs.Courses.{HasItem, IsStacked};
+ghost use Rattle.certificate_lines.specs.{Stacks.HasRoom, Items.{wanted_after, parted}, Courses.{HasItem, IsStacked}};
 ghost use Rattle.certificate_lines.specs.declared.item.Item.TheVariants as item;
 ghost use Rattle.certificate_lines.specs.declared.item.Wanted.{Wanted as WantedValue};
 ghost use Rattle.certificate_lines.specs.declared.item.Wanted.TheVariants as want;

@@ -2,13 +2,10 @@
 
 ghost use Rattle.std.specs.Prelude.{◌≡◌, ℕ, nat_lt, None, Ok, Err, IfOk, if◌then◌else◌};
 ghost use Rattle.field_lines.specs.Values.{GivesUnless};
-ghost use Rattle.certificate_data.specs.Levels.{after_raise};
-ghost use Rattle.certificate_lines.specs.Lines.{head_on, window_on, order_on, limit_on, target_on, group_on, branch_on};
-ghost use Rattle.certificate_lines.specs.Lines.{stuck_on, bound_on, opening_on, part_on, take_on, weigh_on};
-ghost use Rattle.certificate_lines.specs.Lines.{allowance_on, end_on, ascend, HasLevel, HasPartLevel};
+ghost use Rattle.certificate_data.specs.{Levels.after_raise, declared.format.Format.TheVariants.{Plain, Wide}};
+ghost use Rattle.certificate_lines.specs.Lines.{head_on, window_on, order_on, limit_on, target_on, group_on, branch_on, stuck_on, bound_on, opening_on, part_on, take_on, weigh_on, allowance_on, end_on, ascend, HasLevel, HasPartLevel};
 ghost use Rattle.certificate_lines.specs.declared.fault.TextKind.TheVariants.{Memory, TooDeep};
 ghost use Rattle.certificate_lines.specs.declared.item.Opening.TheVariants.{Branch};
-ghost use Rattle.certificate_data.specs.declared.format.Format.TheVariants.{Plain, Wide};
 
 use crate::fault::TextKind;
 use crate::item::{Opening, Version};

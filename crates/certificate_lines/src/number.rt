@@ -1,10 +1,7 @@
 //! The numbers, codes and weights that words spell, and the bytes that a line may have.
 
-ghost use Rattle.std.specs.Prelude.{◌≡◌, ◌≤◌, IfOk};
-ghost use Rattle.std.specs.List.{list_all};
-ghost use Rattle.std.specs.Char.{is_ascii_digit};
-ghost use Rattle.certificate_lines.specs.Words.{is_numeral, has_leading_zero, has_bytes, is_printable, words_of};
-ghost use Rattle.certificate_lines.specs.Words.{number, code, pair, is_canonical};
+ghost use Rattle.std.specs.{Prelude.{◌≡◌, ◌≤◌, IfOk}, List.list_all, Char.is_ascii_digit};
+ghost use Rattle.certificate_lines.specs.Words.{is_numeral, has_leading_zero, has_bytes, is_printable, words_of, number, code, pair, is_canonical};
 
 use crate::fault::TextKind;
 use certificate_data::Weight;

@@ -2,8 +2,7 @@
 
 ghost use Rattle.std.specs.Prelude.{◌≡◌, ◌≤◌, ◌<◌, ◌+◌, ◌^◌, ◌==◌, ◌∷◌, length, count_by, drop, IfOk, if◌then◌else◌};
 ghost use Rattle.std.specs.Result.{result_map_both};
-ghost use Rattle.field_lines.specs.Values.{GivesUnless};
-ghost use Rattle.field_lines.specs.Fields.{fields_of, fields_left};
+ghost use Rattle.field_lines.specs.{Values.GivesUnless, Fields.{fields_of, fields_left}};
 ghost use Rattle.certificate_lines.specs.Words.{line_bytes, line_words, code, pair};
 ghost use Rattle.certificate_lines.specs.Lines.{begins, named, counted, number_at, code_word_at, each};
 ghost use Rattle.certificate_lines.specs.WordsLeft.{Leaves, LeavesWords, IsNextWord};

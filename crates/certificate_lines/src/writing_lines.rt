@@ -1,9 +1,7 @@
 //! Writing of the lines in front of a tree, with their values as they stand.
 
 ghost use Rattle.std.specs.Prelude.{◌≡◌, ◌≤◌, ◌++◌, OnOk};
-ghost use Rattle.certificate_lines.specs.Fitting.{IsSet};
-ghost use Rattle.certificate_lines.specs.Spelling.{item_line};
-ghost use Rattle.certificate_lines.specs.Writing.{WritesLine};
+ghost use Rattle.certificate_lines.specs.{Fitting.IsSet, Spelling.item_line, Writing.WritesLine};
 ghost use Rattle.certificate_lines.specs.declared.item.Item.TheVariants as item;
 
 use crate::fault::WriteFault;

@@ -1,7 +1,6 @@
 //! Writing of numbers, codes and lists of them.
 
-ghost use Rattle.std.specs.Prelude.{◌≡◌, ◌≤◌, ◌∷◌, ◌++◌, [], OnOk, decimal, All};
-ghost use Rattle.std.specs.List.{flat_map};
+ghost use Rattle.std.specs.{Prelude.{◌≡◌, ◌≤◌, ◌∷◌, ◌++◌, [], OnOk, decimal, All}, List.flat_map};
 ghost use Rattle.county_codes.specs.Digits.{five_digits};
 ghost use Rattle.certificate_lines.specs.Spelling.{weight_word};
 

@@ -2,18 +2,13 @@
 
 ghost use Rattle.std.specs.Prelude.{◌↔◌, ◌<◌, ℕ, List, [], ◌∷◌, ◌++◌, map, length, Some, IsTrue};
 ghost use Rattle.certificate_laws.specs.Depth.{after_raise};
-ghost use Rattle.certificate_data.specs.RoundValue.{target_of};
-ghost use Rattle.certificate_data.specs.Tree.{bound};
-ghost use Rattle.certificate_data.specs.declared.format.Format.{Format};
-ghost use Rattle.certificate_lines.specs.Fitting.{AllFit};
-ghost use Rattle.certificate_lines.specs.Items.{groups_wanted, allowances_wanted};
+ghost use Rattle.certificate_data.specs.{RoundValue.target_of, Tree.bound, declared.format.Format.Format};
+ghost use Rattle.certificate_data.specs.TreeValue.{allowance_of, tree_of, leaf_of, list_of_takes, certificate_of};
+ghost use Rattle.certificate_lines.specs.{Fitting.AllFit, Items.{groups_wanted, allowances_wanted}};
 ghost use Rattle.certificate_lines.specs.declared.item.Item.TheVariants as item;
 ghost use Rattle.certificate_lines.specs.declared.item.Wanted.TheVariants as want;
-ghost use Rattle.certificate_text.specs.Spelling.{IsSpelling, IsTreeSpelling};
-ghost use Rattle.certificate_text.specs.Tests.{Tests};
-ghost use Rattle.certificate_data.specs.TreeValue.{allowance_of, tree_of, leaf_of, list_of_takes, certificate_of};
-ghost use Rattle.certificate_text.specs.Trees.{leaf_items, items_of_tree, items_of_takes, items_of_head};
-ghost use Rattle.certificate_text.specs.Trees.{items_of_target, items_of_certificate};
+ghost use Rattle.certificate_text.specs.{Spelling.{IsSpelling, IsTreeSpelling}, Tests.Tests};
+ghost use Rattle.certificate_text.specs.Trees.{leaf_items, items_of_tree, items_of_takes, items_of_head, items_of_target, items_of_certificate};
 
 use certificate_data::{Allowance, Certificate, Format, Leaf, Take, Tree};
 use certificate_lines::{

@@ -2,18 +2,11 @@
 
 ghost use Rattle.std.specs.Prelude.{◌≡◌, ℕ, List, [], ◌++◌, Ok};
 ghost use Rattle.field_lines.specs.RawPieces.{RawLine, raw_lines_from};
-ghost use Rattle.certificate_data.specs.Tree.{Tree};
-ghost use Rattle.certificate_data.specs.declared.format.Format.{Format};
-ghost use Rattle.certificate_lines.specs.declared.item.Item.{Item};
-ghost use Rattle.certificate_lines.specs.declared.item.Wanted.{Wanted};
-ghost use Rattle.certificate_lines.specs.Items.{items_from};
-ghost use Rattle.certificate_lines.specs.Courses.{course_from, whole};
-ghost use Rattle.certificate_lines.specs.Fitting.{AllFit};
-ghost use Rattle.certificate_lines.specs.Spelling.{text_of_items};
-ghost use Rattle.certificate_text.specs.LineLaws.{TreesSpell};
-ghost use Rattle.certificate_text.specs.Spelling.{IsSpelling, IsTreeSpelling};
+ghost use Rattle.certificate_data.specs.{Tree.Tree, declared.format.Format.Format, TreeValue.Certificate};
+ghost use Rattle.certificate_lines.specs.{declared.item.Item.Item, declared.item.Wanted.Wanted, Items.items_from};
+ghost use Rattle.certificate_lines.specs.{Courses.{course_from, whole}, Fitting.AllFit, Spelling.text_of_items};
+ghost use Rattle.certificate_text.specs.{LineLaws.TreesSpell, Spelling.{IsSpelling, IsTreeSpelling}};
 ghost use Rattle.certificate_text.specs.TextLaws.{ProofTreesHaveTexts};
-ghost use Rattle.certificate_data.specs.TreeValue.{Certificate};
 
 /// States that items and texts agree. Items that fit are read from their text. Items that are read fit, and the text
 /// from which they are read is theirs.

@@ -5,12 +5,9 @@ ghost use Rattle.certificate_lines.specs.Spelling.{text_of_items};
 ghost use Rattle.certificate_data.specs.declared.allowance.Allowance.TheVariants as allowance;
 ghost use Rattle.certificate_lines.specs.declared.item.Item.TheVariants as item;
 ghost use Rattle.certificate_lines.specs.declared.item.Opening.TheVariants as opening;
-ghost use Rattle.certificate_data.specs.RoundValue.{target_of};
-ghost use Rattle.certificate_data.specs.TreeValue.{tree_of, leaf_of, certificate_of};
-ghost use Rattle.certificate_text.specs.Trees.{leaf_items, items_of_tree, items_of_head, items_of_target};
-ghost use Rattle.certificate_text.specs.Trees.{items_of_certificate};
-ghost use Rattle.certificate_text.specs.Writing.{Added, branch_items, take_items};
-ghost use Rattle.certificate_text.specs.Ranges.{AreTreeNumbers};
+ghost use Rattle.certificate_data.specs.{RoundValue.target_of, TreeValue.{tree_of, leaf_of, certificate_of}};
+ghost use Rattle.certificate_text.specs.Trees.{leaf_items, items_of_tree, items_of_head, items_of_target, items_of_certificate};
+ghost use Rattle.certificate_text.specs.{Writing.{Added, branch_items, take_items}, Ranges.AreTreeNumbers};
 
 use certificate_data::{Allowance, Branch, Certificate, Format, Leaf, Take, Tree, Weight};
 use certificate_lines::{

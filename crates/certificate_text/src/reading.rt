@@ -1,23 +1,17 @@
 //! Certificates and trees, read from their lines.
 
-ghost use Rattle.std.specs.Prelude.{◌≡◌, ◌<◌, ◌≤◌, ◌+◌, ℕ, List, [], ◌∷◌, ◌++◌, map, length, take, Option, Ok, Err};
-ghost use Rattle.std.specs.Prelude.{IfOk, IfErr, OnOk};
-ghost use Rattle.certificate_lines.specs.Items.{allowances_wanted, groups_wanted, items_from, certificate_items};
-ghost use Rattle.certificate_lines.specs.Items.{tree_items};
-ghost use Rattle.field_lines.specs.RawPieces.{raw_lines};
-ghost use Rattle.certificate_lines.specs.declared.item.Wanted.{Wanted};
-ghost use Rattle.certificate_laws.specs.Depth.{after_raise};
-ghost use Rattle.certificate_lines.specs.Lines.{most};
-ghost use Rattle.certificate_lines.specs.Reading.{ReadsItems, Refuses, ReadsAll, EndsUnless, GivesItems};
-ghost use Rattle.certificate_lines.specs.Reading.{IsUnlessMemory};
+ghost use Rattle.std.specs.Prelude.{◌≡◌, ◌<◌, ◌≤◌, ◌+◌, ℕ, List, [], ◌∷◌, ◌++◌, map, length, take, Option, Ok, Err, IfOk, IfErr, OnOk};
+ghost use Rattle.certificate_lines.specs.Items.{allowances_wanted, groups_wanted, items_from, certificate_items, tree_items};
+ghost use Rattle.certificate_lines.specs.{declared.item.Wanted.Wanted, Lines.most};
+ghost use Rattle.certificate_lines.specs.Reading.{ReadsItems, Refuses, ReadsAll, EndsUnless, GivesItems, IsUnlessMemory};
 ghost use Rattle.certificate_lines.specs.Rest.{IsTextMemory};
+ghost use Rattle.field_lines.specs.RawPieces.{raw_lines};
+ghost use Rattle.certificate_laws.specs.Depth.{after_raise};
 ghost use Rattle.certificate_text.specs.Spelling.{IsSpelling, IsTreeSpelling};
+ghost use Rattle.certificate_text.specs.Trees.{items_of_tree, items_of_takes, items_of_head, items_of_target, items_of_certificate};
 ghost use Rattle.certificate_data.specs.Tree.{Tree as TreeValue};
 ghost use Rattle.certificate_data.specs.TreeValue.{tree_of, list_of_takes, Certificate as CertificateValue};
-ghost use Rattle.certificate_data.specs.TreeValue.{certificate_of};
-ghost use Rattle.certificate_text.specs.Trees.{items_of_tree, items_of_takes, items_of_head, items_of_target};
-ghost use Rattle.certificate_text.specs.Trees.{items_of_certificate};
-ghost use Rattle.certificate_data.specs.RoundValue.{target_of};
+ghost use Rattle.certificate_data.specs.{TreeValue.certificate_of, RoundValue.target_of};
 ghost use Rattle.certificate_lines.specs.declared.item.Item.TheVariants as item;
 ghost use Rattle.certificate_lines.specs.declared.item.Wanted.TheVariants as want;
 

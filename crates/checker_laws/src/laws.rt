@@ -1,12 +1,8 @@
 //! Laws of verdicts: the functions do nothing, and their contracts are the laws.
 
-ghost use Rattle.checker_laws.specs.Laws.{TreesEnd, VerdictsShow, CostsAreOne};
-ghost use Rattle.checker_laws.specs.Work.{LinesCarry};
-ghost use Rattle.checker_laws.specs.WorkCost.{LinesCost};
-ghost use Rattle.checker_laws.specs.BoundWork.{BoundLinesCarry, BoundLinesCost};
-ghost use Rattle.checker_laws.specs.Fault.{MissingGroup, StrayGroup};
-ghost use Rattle.checker_laws.specs.Verdict.{No, IsVerdict};
-ghost use Rattle.checker_laws.specs.Examples.{untaken, strayed};
+ghost use Rattle.checker_laws.specs.{Laws.{TreesEnd, VerdictsShow, CostsAreOne}, Work.LinesCarry, WorkCost.LinesCost};
+ghost use Rattle.checker_laws.specs.{BoundWork.{BoundLinesCarry, BoundLinesCost}, Fault.{MissingGroup, StrayGroup}};
+ghost use Rattle.checker_laws.specs.{Verdict.{No, IsVerdict}, Examples.{untaken, strayed}};
 ghost use Rattle.certificate_laws.specs.Examples.{stranding, plain_round};
 
 /// States that a tree has one end at a state. The tree is a proof if its end is no fault, and otherwise it is none.

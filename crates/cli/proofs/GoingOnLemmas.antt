@@ -12,7 +12,7 @@ use Rattle.certificate_lines.specs.Rest.{IsTextMemory}
 use Rattle.certificate_lines.specs.declared.fault.TextFault.{TextFault}
 use Rattle.certificate_lines.specs.declared.fault.TextKind.TheVariants as text_kind
 use Rattle.board_laws.specs.Content.{Content}
-use Rattle.board_events.specs.Coming.{Held, nothing_held, TellsFault}
+use Rattle.board_report.specs.ComingEvents.{Held, nothing_held, TellsFault}
 use Rattle.board_texts.specs.Coming as texts
 use Rattle.desk_server.specs.Runs as desk
 use Rattle.board_report.specs.Rounds.{IsFirstRound}

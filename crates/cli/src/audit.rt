@@ -1,13 +1,9 @@
 //! The subcommand `audit`.
 
-ghost use Rattle.std.specs.Prelude.{◌≡◌, ◌≤◌, ◌<◌, All, List, length, map};
-ghost use Rattle.std.specs.List.Sorted.{IsStrictlyIncreasing};
-ghost use Rattle.cli_file_stores.specs.Files.{NamedFile};
-ghost use Rattle.cli_file_stores.specs.History.{History};
+ghost use Rattle.std.specs.{Prelude.{◌≡◌, ◌≤◌, ◌<◌, All, List, length, map}, List.Sorted.IsStrictlyIncreasing};
+ghost use Rattle.cli_file_stores.specs.{Files.NamedFile, History.History};
 ghost use Rattle.cli_answers.specs.Answers.{Comes, said_by};
-ghost use Rattle.cli_runs.specs.JudgeCourse.{audit_step, audit_course};
-ghost use Rattle.cli_runs.specs.Run.{CommandRun};
-ghost use Rattle.cli_runs.specs.Storing.{HasStored};
+ghost use Rattle.cli_runs.specs.{JudgeCourse.{audit_step, audit_course}, Run.CommandRun, Storing.HasStored};
 ghost use Rattle.cli_runs.specs.Texts.{audited_of};
 
 use crate::census_files::load_blocks;

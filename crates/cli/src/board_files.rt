@@ -8,7 +8,7 @@ ghost use Rattle.cli_runs.specs.BoardCourse.{format_of, events_in, events_of, na
 
 use crate::end::{End, Ending, FileFault, FileOption};
 use crate::files::load;
-use board_events::read_events;
+use board_report::read_events;
 use cli_answers::{Refusal, refuse_events};
 use cli_file_stores::FileStore;
 use cli_runs::format_for;

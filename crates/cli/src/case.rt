@@ -1,23 +1,15 @@
 //! A run of a case: the words of a command and its files, read from one text.
 
-ghost use Rattle.std.specs.Prelude.{◌≡◌, ℕ, ◌++◌, ◌==◌, ◌&&◌, true, false, List, [], ◌∷◌, Option, Some, None, Result};
-ghost use Rattle.std.specs.Prelude.{Ok, Err, IfOk, OnOk, MatchOption, codes, drop, length, reverse, option_map};
-ghost use Rattle.std.specs.Prelude.{string_bytes, map};
-ghost use Rattle.std.specs.List.{slice_split, list_all};
-ghost use Rattle.std.specs.Str.{is_utf8};
-ghost use Rattle.field_lines.specs.RawPieces.{RawLine, raw_lines};
-ghost use Rattle.field_lines.specs.Piece.{raw_of};
-ghost use Rattle.cli_file_stores.specs.Files.{NamedFile};
-ghost use Rattle.cli_file_stores.specs.Memory.{files_of};
-ghost use Rattle.cli.specs.Case.{whole_line, file_name, first_case_line, case_files, is_case, are_named, with_open};
-ghost use Rattle.cli.specs.Case.{parts_of};
-ghost use Rattle.cli_file_stores.specs.declared.whole_source.WholeFault.{WholeFault};
-ghost use Rattle.cli_answers.specs.Answer.{Answered};
-ghost use Rattle.cli_answers.specs.Answers.{answer_of};
-ghost use Rattle.written_output.specs.Writing.{kept_of};
-ghost use Rattle.cli_runs.specs.Spoken.{behind};
+ghost use Rattle.std.specs.Prelude.{◌≡◌, ℕ, ◌++◌, ◌==◌, ◌&&◌, true, false, List, [], ◌∷◌, Option, Some, None, Result, Ok, Err, IfOk, OnOk, MatchOption, codes, drop, length, reverse, option_map, string_bytes, map};
+ghost use Rattle.std.specs.{List.{slice_split, list_all}, Str.is_utf8};
+ghost use Rattle.field_lines.specs.{RawPieces.{RawLine, raw_lines}, Piece.raw_of};
+ghost use Rattle.cli_file_stores.specs.{Files.NamedFile, Memory.files_of, declared.whole_source.WholeFault.WholeFault};
+ghost use Rattle.cli.specs.Case.{whole_line, file_name, first_case_line, case_files, is_case, are_named, with_open, parts_of};
 ghost use Rattle.cli.specs.Delivery.{texts};
 ghost use Rattle.cli.specs.CaseRun.{stored_text, WordsOver, IsCaseAnswer, IsWholeSource, IsReadAnswer, DeliversCase};
+ghost use Rattle.cli_answers.specs.{Answer.Answered, Answers.answer_of};
+ghost use Rattle.written_output.specs.Writing.{kept_of};
+ghost use Rattle.cli_runs.specs.Spoken.{behind};
 
 use crate::command::{deliver, words_answer};
 use crate::end::{End, Ending};

@@ -1,19 +1,14 @@
 //! What the census files give: counties, with or without their names, and census blocks. Each reading goes through both
 //! files once, piece by piece.
 
-ghost use Rattle.std.specs.Prelude.{◌≡◌, ℕ, ◌≤◌, ◌<◌, All, IfOk, map};
-ghost use Rattle.std.specs.List.Sorted.{IsStrictlyIncreasing};
-ghost use Rattle.field_lines.specs.Source.{Given};
-ghost use Rattle.field_lines.specs.Values.{GivesUnless};
+ghost use Rattle.std.specs.{Prelude.{◌≡◌, ℕ, ◌≤◌, ◌<◌, All, IfOk, map}, List.Sorted.IsStrictlyIncreasing};
+ghost use Rattle.field_lines.specs.{Source.Given, Values.GivesUnless};
 ghost use Rattle.cli_file_stores.specs.History.{History};
 ghost use Rattle.cli_answers.specs.Answers.{Comes};
-ghost use Rattle.pl94_counties.specs.PeopleByCode.{IsPl94Memory};
-ghost use Rattle.pl94_counties.specs.Counties.{county_list, block_list};
+ghost use Rattle.pl94_counties.specs.{PeopleByCode.IsPl94Memory, Counties.{county_list, block_list}};
 ghost use Rattle.pl94_counties.specs.CountyNames.{IsNoMemory, county_name, named_list};
-ghost use Rattle.cli_runs.specs.Reading.{OfTexts};
-ghost use Rattle.cli_runs.specs.ProblemCourse.{counties_in, counties_course};
-ghost use Rattle.cli_runs.specs.TableCourse.{named_counties_in, named_counties_of};
-ghost use Rattle.cli_runs.specs.PlanCourse.{blocks_in, blocks_of};
+ghost use Rattle.cli_runs.specs.{Reading.OfTexts, ProblemCourse.{counties_in, counties_course}};
+ghost use Rattle.cli_runs.specs.{TableCourse.{named_counties_in, named_counties_of}, PlanCourse.{blocks_in, blocks_of}};
 
 use crate::end::{End, FileFault, FileOption};
 use crate::fault_text::FaultText;

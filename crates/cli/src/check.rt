@@ -3,9 +3,7 @@
 ghost use Rattle.std.specs.Prelude.{◌≡◌, ◌≤◌, List, MatchResult, IsOkAnd};
 ghost use Rattle.cli_file_stores.specs.Files.{NamedFile};
 ghost use Rattle.cli_answers.specs.Answers.{Comes, said_by};
-ghost use Rattle.cli_runs.specs.CheckCourse.{check_course};
-ghost use Rattle.cli_runs.specs.Storing.{HasStored};
-ghost use Rattle.cli_runs.specs.Run.{CommandRun};
+ghost use Rattle.cli_runs.specs.{CheckCourse.check_course, Storing.HasStored, Run.CommandRun};
 ghost use Rattle.cli_runs.specs.Texts.{reported_of, tabled_of};
 ghost use Rattle.cli.specs.Streams.{checked_file};
 

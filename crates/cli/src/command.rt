@@ -3,15 +3,11 @@
 
 ghost use Rattle.std.specs.Prelude.{◌≡◌, ◌++◌, ℕ, List, IfOk};
 ghost use Rattle.cli_file_stores.specs.Files.{NamedFile};
-ghost use Rattle.cli_answers.specs.Answer.{Answered};
-ghost use Rattle.cli_answers.specs.Answers.{answer_of, said_by};
+ghost use Rattle.cli_answers.specs.{Answer.Answered, Answers.{answer_of, said_by}};
 ghost use Rattle.written_output.specs.Writing.{HasWritten, IsFresh};
-ghost use Rattle.cli_runs.specs.Spoken.{behind};
-ghost use Rattle.cli_runs.specs.Storing.{HasStored};
-ghost use Rattle.cli_runs.specs.Run.{CommandRun, IsEndAnswer, IsRunAnswer, HasState};
-ghost use Rattle.cli_runs.specs.Headline.{RunTells};
-ghost use Rattle.cli.specs.Delivery.{Delivers, texts};
-ghost use Rattle.cli.specs.Ends.{said_of};
+ghost use Rattle.cli_runs.specs.{Spoken.behind, Storing.HasStored};
+ghost use Rattle.cli_runs.specs.{Run.{CommandRun, IsEndAnswer, IsRunAnswer, HasState}, Headline.RunTells};
+ghost use Rattle.cli.specs.{Delivery.{Delivers, texts}, Ends.said_of};
 
 use crate::audit::audit;
 use crate::board::board;

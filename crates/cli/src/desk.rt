@@ -3,11 +3,8 @@
 ghost use Rattle.std.specs.Prelude.{◌≡◌, ◌≤◌, ◌≢◌, ℕ, List, []};
 ghost use Rattle.certificate_lines.specs.declared.fault.TextKind.TheVariants as text;
 ghost use Rattle.cli_file_stores.specs.Files.{NamedFile};
-ghost use Rattle.cli_answers.specs.Answers.{said_by, RefusalShows, IsShown};
-ghost use Rattle.cli_answers.specs.Refusals.{pieces_answer};
-ghost use Rattle.cli_runs.specs.Spoken.{behind};
-ghost use Rattle.cli_runs.specs.DeskCourse.{desk_course, texts_course};
-ghost use Rattle.cli_runs.specs.Run.{CommandRun};
+ghost use Rattle.cli_answers.specs.{Answers.{said_by, RefusalShows, IsShown}, Refusals.pieces_answer};
+ghost use Rattle.cli_runs.specs.{Spoken.behind, DeskCourse.{desk_course, texts_course}, Run.CommandRun};
 ghost use Rattle.cli_runs.specs.Storing.{HasStored};
 ghost use Rattle.written_output.specs.Writing.{HasWritten};
 ghost use Rattle.cli.specs.GoingOn.{ProvesBy};

@@ -52,6 +52,8 @@ pub enum FileOption {
     Groupings,
     /// The table of the districts that is stored.
     Districts,
+    /// The events that are stored.
+    EventsOut,
     /// The record of the run.
     Record,
 }
@@ -69,7 +71,7 @@ impl fmt::Display for FileOption {
             FileOption::Which => "--which",
             FileOption::Certificate | FileOption::CertificateOut => "--certificate",
             FileOption::Assignments => "--assignments",
-            FileOption::Events => "--events",
+            FileOption::Events | FileOption::EventsOut => "--events",
             FileOption::Input => "standard input",
             FileOption::Out => "--out",
             FileOption::Table => "--table",
@@ -208,6 +210,8 @@ pub struct End {
     pub has_stored_groupings: bool,
     /// Whether the file of `--districts` was stored.
     pub has_stored_districts: bool,
+    /// Whether the file of `--events` was stored.
+    pub has_stored_events: bool,
     /// Whether the file of `--record` was stored.
     pub has_stored_record: bool,
     /// The report of a command, or the text of a list or of a board, whose files could not all be stored.
@@ -249,6 +253,7 @@ impl End {
             has_stored_table: false,
             has_stored_groupings: false,
             has_stored_districts: false,
+            has_stored_events: false,
             has_stored_record: false,
             report: None,
             answer: None,
@@ -371,6 +376,7 @@ impl End {
             FileOption::Table => self.has_stored_table = true,
             FileOption::Groupings => self.has_stored_groupings = true,
             FileOption::Districts => self.has_stored_districts = true,
+            FileOption::EventsOut => self.has_stored_events = true,
             FileOption::Record => self.has_stored_record = true,
             _ => {}
         }

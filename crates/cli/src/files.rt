@@ -5,8 +5,7 @@ ghost use Rattle.county_problem.specs.ProblemValue.{codes_of};
 ghost use Rattle.cli_file_stores.specs.History.{History};
 ghost use Rattle.cli_answers.specs.Answers.{Comes};
 ghost use Rattle.cli_runs.specs.Course.{load_step};
-ghost use Rattle.cli_runs.specs.ProblemCourse.{pairs_of, pairs_in, links_in, withdrawn_in};
-ghost use Rattle.cli_runs.specs.ProblemCourse.{grouping_in, links_of, withdrawn_of, adjacency_of, grouping_of};
+ghost use Rattle.cli_runs.specs.ProblemCourse.{pairs_of, pairs_in, links_in, withdrawn_in, grouping_in, links_of, withdrawn_of, adjacency_of, grouping_of};
 
 use crate::border_warnings::{note_adjacency, note_links};
 use crate::end::{End, FileFault, FileOption};

@@ -1,14 +1,10 @@
 //! The subcommand `judge`.
 
 ghost use Rattle.std.specs.Prelude.{◌≡◌, ◌≤◌, List, option_map};
-ghost use Rattle.cli_file_stores.specs.Files.{NamedFile};
-ghost use Rattle.cli_file_stores.specs.History.{History};
+ghost use Rattle.cli_file_stores.specs.{Files.NamedFile, History.History};
 ghost use Rattle.cli_answers.specs.Answers.{Comes, said_by};
-ghost use Rattle.cli_runs.specs.JudgeWithCertificate.{certificate_text_of};
-ghost use Rattle.cli_runs.specs.JudgeCourse.{judge_step, judge_course};
-ghost use Rattle.cli_runs.specs.Storing.{HasStored};
-ghost use Rattle.cli_runs.specs.Run.{CommandRun};
-ghost use Rattle.cli_runs.specs.Texts.{reported_of, tabled_of};
+ghost use Rattle.cli_runs.specs.{JudgeWithCertificate.certificate_text_of, JudgeCourse.{judge_step, judge_course}};
+ghost use Rattle.cli_runs.specs.{Storing.HasStored, Run.CommandRun, Texts.{reported_of, tabled_of}};
 
 use crate::end::{End, Ending, FileOption};
 use crate::fault_text::FaultText;

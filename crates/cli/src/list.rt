@@ -3,10 +3,8 @@
 ghost use Rattle.std.specs.Prelude.{◌≡◌, ◌≤◌, List, option_map};
 ghost use Rattle.cli_file_stores.specs.Files.{NamedFile};
 ghost use Rattle.cli_answers.specs.Answers.{Comes, said_by};
-ghost use Rattle.cli_runs.specs.Storing.{HasStored, store_steps};
-ghost use Rattle.cli_runs.specs.ListCourse.{list_course, listed_files, which_of};
-ghost use Rattle.cli_runs.specs.Run.{CommandRun};
-ghost use Rattle.cli_runs.specs.Texts.{listed_of};
+ghost use Rattle.cli_runs.specs.{Storing.{HasStored, store_steps}, ListCourse.{list_course, listed_files, which_of}};
+ghost use Rattle.cli_runs.specs.{Run.CommandRun, Texts.listed_of};
 ghost use Rattle.cli.specs.Ends.{refusal_by};
 
 use crate::end::{End, Ending, FileOption};

@@ -4,8 +4,7 @@ ghost use Rattle.std.specs.Prelude.{◌≡◌, ◌≤◌};
 ghost use Rattle.cli_file_stores.specs.History.{History};
 ghost use Rattle.cli_answers.specs.Answers.{Comes};
 ghost use Rattle.cli_runs.specs.ProblemCourse.{build_step, problem_over, problem_course};
-ghost use Rattle.cli_runs.specs.TableCourse.{named_problem_in, tabled_problem_in};
-ghost use Rattle.cli_runs.specs.Texts.{tabled_of};
+ghost use Rattle.cli_runs.specs.{TableCourse.{named_problem_in, tabled_problem_in}, Texts.tabled_of};
 
 use crate::census_files::{load_counties, load_named_counties, without_names};
 use crate::end::End;

@@ -1,14 +1,10 @@
 //! What the program does: a command by its words, or a case by its input.
 
 ghost use Rattle.std.specs.Prelude.{◌≡◌, ◌≢◌, ◌⊎◌, ℕ, false, List, [], Option, Result};
-ghost use Rattle.cli_file_stores.specs.Files.{NamedFile};
-ghost use Rattle.cli_file_stores.specs.declared.whole_source.WholeFault.{WholeFault};
+ghost use Rattle.cli_file_stores.specs.{Files.NamedFile, declared.whole_source.WholeFault.WholeFault};
 ghost use Rattle.cli_answers.specs.Answer.{Answered};
-ghost use Rattle.cli_runs.specs.Storing.{HasStored};
-ghost use Rattle.cli_runs.specs.Run.{IsRunAnswer};
-ghost use Rattle.cli_runs.specs.Headline.{RunTells};
-ghost use Rattle.cli.specs.Delivery.{Delivers, texts};
-ghost use Rattle.cli.specs.CaseRun.{IsWholeSource, IsReadAnswer, DeliversCase};
+ghost use Rattle.cli_runs.specs.{Storing.HasStored, Run.IsRunAnswer, Headline.RunTells};
+ghost use Rattle.cli.specs.{Delivery.{Delivers, texts}, CaseRun.{IsWholeSource, IsReadAnswer, DeliversCase}};
 
 use crate::case::run_case_with_end;
 use crate::command::run_with_end;

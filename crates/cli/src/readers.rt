@@ -2,8 +2,7 @@
 
 ghost use Rattle.std.specs.Prelude.{◌≡◌, false, Ok, Err, IfOk, OnOk, MatchResult};
 ghost use Rattle.field_lines.specs.Source.{nothing_given};
-ghost use Rattle.cli_answers.specs.Answers.{Comes, AnswerMeets, RefusalShows};
-ghost use Rattle.cli_answers.specs.Refusals.{file_store_answer};
+ghost use Rattle.cli_answers.specs.{Answers.{Comes, AnswerMeets, RefusalShows}, Refusals.file_store_answer};
 ghost use Rattle.cli_runs.specs.Reading.{open_step, read_both};
 ghost use Rattle.cli.specs.Streams.{given_back, both_given_back, AreBack};
 

@@ -1,19 +1,14 @@
 //! The record of a run, which is stored after the files of its command.
 
 ghost use Rattle.std.specs.Prelude.{◌≡◌, ◌-◌, ◌^◌, ◌∷◌, ◌++◌, [], ℕ, true, List, Option, Some, IfSome, length, min};
-ghost use Rattle.cli_file_stores.specs.Files.{NamedFile};
-ghost use Rattle.cli_file_stores.specs.History.{History};
-ghost use Rattle.cli_record.specs.RecordFiles.{record_name_of};
-ghost use Rattle.cli_answers.specs.Answer.{Answered, memory_answer};
-ghost use Rattle.cli_answers.specs.Answers.{answer_of};
+ghost use Rattle.cli_file_stores.specs.{Files.NamedFile, History.History};
+ghost use Rattle.cli_record.specs.{RecordFiles.record_name_of, RunRecord.{IsRecord, sums_between}};
+ghost use Rattle.cli_answers.specs.{Answer.{Answered, memory_answer}, Answers.answer_of};
 ghost use Rattle.written_output.specs.Writing.{HasWritten, IsFresh, kept_of};
-ghost use Rattle.cli_record.specs.RunRecord.{IsRecord, sums_between};
-ghost use Rattle.cli_runs.specs.Spoken.{behind};
-ghost use Rattle.cli_runs.specs.Storing.{HasStored, said_after, store_steps};
-ghost use Rattle.cli_runs.specs.Recording.{RecordEnds, is_recorded as must_be_recorded};
+ghost use Rattle.cli_runs.specs.{Spoken.behind, Storing.{HasStored, said_after, store_steps}};
 ghost use Rattle.cli_runs.specs.Run.{HasState, RunsAsAsked, RunsWithRecord};
-ghost use Rattle.cli.specs.Delivery.{texts};
-ghost use Rattle.cli.specs.Ends.{refusal_by, said_of};
+ghost use Rattle.cli_runs.specs.Recording.{RecordEnds, is_recorded as must_be_recorded};
+ghost use Rattle.cli.specs.{Delivery.texts, Ends.{refusal_by, said_of}};
 
 use crate::command::command_answer;
 use crate::end::{End, Ending, FileOption};

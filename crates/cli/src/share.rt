@@ -1,12 +1,10 @@
 //! The subcommand `share`.
 
 ghost use Rattle.std.specs.Prelude.{◌≡◌, ◌≤◌, List, map, length};
-ghost use Rattle.cli_file_stores.specs.Files.{NamedFile};
-ghost use Rattle.cli_file_stores.specs.History.{History};
+ghost use Rattle.cli_file_stores.specs.{Files.NamedFile, History.History};
 ghost use Rattle.share_board.specs.Events.{event_of};
 ghost use Rattle.cli_answers.specs.Answers.{answer_of, Comes, said_by};
-ghost use Rattle.cli_runs.specs.Storing.{HasStored};
-ghost use Rattle.cli_runs.specs.ShareCourse.{share_answer, share_step, share_course};
+ghost use Rattle.cli_runs.specs.{Storing.HasStored, ShareCourse.{share_answer, share_step, share_course}};
 ghost use Rattle.cli_runs.specs.Run.{CommandRun};
 
 use crate::board_files::load_events;

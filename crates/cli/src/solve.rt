@@ -1,12 +1,10 @@
 //! The subcommand `solve`.
 
-ghost use Rattle.std.specs.Prelude.{◌≡◌, ◌≤◌, List};
+ghost use Rattle.std.specs.Prelude.{◌≡◌, ◌≤◌, ◌++◌, List};
 ghost use Rattle.cli_file_stores.specs.Files.{NamedFile};
 ghost use Rattle.cli_answers.specs.Answers.{Comes, said_by};
-ghost use Rattle.cli_runs.specs.Storing.{HasStored, store_steps};
-ghost use Rattle.cli_runs.specs.SolveCourse.{solve_course, files_to_store};
-ghost use Rattle.cli_runs.specs.Run.{CommandRun};
-ghost use Rattle.cli_runs.specs.Texts.{solved_of};
+ghost use Rattle.cli_runs.specs.Storing.{HasStored, named_file, store_steps};
+ghost use Rattle.cli_runs.specs.{SolveCourse.{solve_course, files_to_store}, Run.CommandRun, Texts.solved_of};
 ghost use Rattle.cli.specs.Ends.{refusal_by};
 
 use crate::end::{End, Ending, FileOption};
@@ -46,7 +44,39 @@ fn searched(solved: &Solved) -> Ending {
     }
 }
 
-/// Stores the certificate, then the grouping and then the table. Each is stored if there is one and its file is named.
+/// Stores the table and then the events. Each is stored if there is one and its file is named.
+fn store_table_and_events<H: FileStore>(
+    alloc: Global,
+    words: SolveWords<'_>,
+    solved: &Solved,
+    file_store: &mut H,
+    end: &mut End,
+) -> Result<(), Refusal>
+    ensures { (stored : List NamedFile)
+        × HasStored (H.contents file_store.old) (H.contents file_store.new) (H.stored file_store.old) (H.stored file_store.new) stored
+        × store_steps (named_file words.entry.table (solved_of solved.now).table
+        ++ named_file words.entry.events (solved_of solved.now).events) (H.history file_store.old) (H.history file_store.new) stored (refusal_by result) }
+{
+    store_named(
+        alloc,
+        FileOption::Table,
+        words.table,
+        solved.table.as_ref(),
+        file_store,
+        end,
+    )?;
+    store_named(
+        alloc,
+        FileOption::EventsOut,
+        words.events,
+        solved.events.as_ref(),
+        file_store,
+        end,
+    )
+}
+
+/// Stores the certificate, the grouping, the table and the events, in this order. Each is stored if there is one and
+/// its file is named.
 fn store_solved<H: FileStore>(
     alloc: Global,
     words: SolveWords<'_>,
@@ -74,19 +104,12 @@ fn store_solved<H: FileStore>(
         file_store,
         end,
     )?;
-    store_named(
-        alloc,
-        FileOption::Table,
-        words.table,
-        solved.table.as_ref(),
-        file_store,
-        end,
-    )
+    store_table_and_events(alloc, words, solved, file_store, end)
 }
 
 /// Returns the best grouping of the problem with its certificate. The problem is built first, and then the solver
-/// answers. Then the files are stored: the certificate first, then the grouping, then the table. The first fault met is
-/// the answer.
+/// answers. Then the files are stored: the certificate first, then the grouping, the table and the events. The first
+/// fault met is the answer.
 pub(crate) fn solve<H: FileStore, V: Watcher>(
     alloc: Global,
     words: SolveWords<'_>,

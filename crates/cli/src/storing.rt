@@ -1,11 +1,9 @@
 //! Files that a command stores.
 
 ghost use Rattle.std.specs.Prelude.{◌≡◌, List, [], ◌∷◌, Option, option_map};
-ghost use Rattle.cli_answers.specs.Answer.{Answered};
-ghost use Rattle.cli_answers.specs.Answers.{answer_of, said_by};
+ghost use Rattle.cli_answers.specs.{Answer.Answered, Answers.{answer_of, said_by}};
 ghost use Rattle.cli_file_stores.specs.Files.{NamedFile};
-ghost use Rattle.cli_runs.specs.Storing.{HasStored, named_file, said_after, store_steps};
-ghost use Rattle.cli_runs.specs.Texts.{reported_of};
+ghost use Rattle.cli_runs.specs.{Storing.{HasStored, named_file, said_after, store_steps}, Texts.reported_of};
 ghost use Rattle.cli.specs.Ends.{refusal_by};
 
 use crate::end::{End, FileOption};

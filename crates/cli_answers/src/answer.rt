@@ -1,8 +1,7 @@
 //! The answer of the program, a text with its exit status, and why a command is refused.
 
 ghost use Rattle.std.specs.Prelude.{◌≡◌, IfOk, MatchResult};
-ghost use Rattle.cli_answers.specs.declared.answer.Refusal.TheVariants.{Memory};
-ghost use Rattle.cli_answers.specs.Answers.{answer_of, RefusalShows};
+ghost use Rattle.cli_answers.specs.{declared.answer.Refusal.TheVariants.Memory, Answers.{answer_of, RefusalShows}};
 
 use std::alloc::{AllocError, Global};
 

@@ -5,14 +5,11 @@ ghost use Rattle.pl94_counties.specs.declared.fault.Pl94Kind.TheVariants as kind
 ghost use Rattle.pl94_counties.specs.CountyNames.{IsNoMemory};
 ghost use Rattle.county_problem.specs.declared.fault.ProblemFault.TheVariants as problem;
 ghost use Rattle.cli_answers.specs.Answers.{RefusalShows, IsShown};
+ghost use Rattle.cli_answers.specs.Refusals.{line_fault_word, kind_word, code_line_word, assignment_word, refused_line, input_answer, pl94_answer, named_answer, code_file_answer, fault_line, verdict_answer, after_blank, problem_words, refused_problem, problem_answer, file_store_word, device_line, file_store_answer};
 ghost use Rattle.county_codes.specs.Digits.{five_digits};
 ghost use Rattle.grouping_reader.specs.declared.fault.CodeLineKind.TheVariants as lines_of_codes;
 ghost use Rattle.baf_auditor.specs.declared.fault.AssignmentKind.TheVariants as lines_of_assignments;
-ghost use Rattle.cli_answers.specs.Refusals.{line_fault_word, kind_word, code_line_word, assignment_word};
 ghost use Rattle.cli_answers.specs.Refusals.{assignment_answer, cut_line, file_word, input_of as input_file_of};
-ghost use Rattle.cli_answers.specs.Refusals.{refused_line, input_answer, pl94_answer, named_answer, code_file_answer};
-ghost use Rattle.cli_answers.specs.Refusals.{fault_line, verdict_answer, after_blank, problem_words, refused_problem};
-ghost use Rattle.cli_answers.specs.Refusals.{problem_answer, file_store_word, device_line, file_store_answer};
 
 use crate::answer::Refusal;
 use baf_auditor::{AssignmentFault, AssignmentKind};

@@ -116,6 +116,7 @@ fn explain_device(out: &mut String, ended: Ended<'_>) -> Result<(), AllocError> 
         | FileOption::Table
         | FileOption::Groupings
         | FileOption::Districts
+        | FileOption::EventsOut
         | FileOption::Record => explain_unstored(out, file),
         _ => explain_unloaded(out, file, ended.words.is_empty()),
     }

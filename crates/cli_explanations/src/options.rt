@@ -71,6 +71,7 @@ pub(crate) fn path_in<'a>(command: CommandWords<'a>, option: FileOption) -> Opti
         (CommandWords::Solve(words), FileOption::CertificateOut) => words.certificate,
         (CommandWords::Solve(words), FileOption::Out) => words.out,
         (CommandWords::Solve(words), FileOption::Table) => words.table,
+        (CommandWords::Solve(words), FileOption::EventsOut) => words.events,
         (CommandWords::Check(words), FileOption::Certificate) => Some(words.check.certificate),
         (CommandWords::Check(words), FileOption::Table) => words.table,
         (CommandWords::Audit(words), FileOption::Grouping) => Some(words.grouping),

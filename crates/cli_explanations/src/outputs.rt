@@ -24,12 +24,13 @@ const INPUTS: [FileOption; 10] = [
 ];
 
 /// The options of the files that commands store, in their order, and what each file is.
-const OUTPUTS: [(FileOption, &str); 6] = [
+const OUTPUTS: [(FileOption, &str); 7] = [
     (FileOption::CertificateOut, "certificate"),
     (FileOption::Out, "grouping"),
     (FileOption::Table, "table"),
     (FileOption::Groupings, "table of all groupings"),
     (FileOption::Districts, "table of the districts"),
+    (FileOption::EventsOut, "text of events"),
     (FileOption::Record, "record"),
 ];
 
@@ -41,6 +42,7 @@ fn has_stored_option(end: &End, option: FileOption) -> bool {
         FileOption::Table => end.has_stored_table,
         FileOption::Groupings => end.has_stored_groupings,
         FileOption::Districts => end.has_stored_districts,
+        FileOption::EventsOut => end.has_stored_events,
         FileOption::Record => end.has_stored_record,
         _ => false,
     }

@@ -1,3 +1,4 @@
 pub mod FileLemmas
+pub mod LogSteps
 pub mod MemoryLemmas
 pub mod SumLemmas

@@ -1,7 +1,7 @@
 -- The sums of what a file store gave and took.
 use Rattle.std.specs.Prelude.{◌≡◌, ◌++◌, ℕ, true, false, List, [], Ok, Err, map}
 use Rattle.std.specs.String.{string_bytes}
-use Rattle.cli_record_text.specs.Sums.{SumValue, sum_of}
+use Rattle.cli_file_stores.specs.ByteSums.{SumValue, sum_of}
 use Rattle.cli_file_stores.specs.declared.file_store.ReadEnd.{ReadEnd}
 use Rattle.cli_file_stores.specs.declared.file_store.ReadEnd.TheVariants as ends
 use Rattle.cli_file_stores.specs.declared.sums.EventKind.{EventKind}

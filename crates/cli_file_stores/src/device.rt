@@ -1,8 +1,7 @@
 //! The machine's files as a file store.
 
 ghost use Rattle.std.specs.Prelude.{◌≡◌, ◌≢◌, ◌-◌, ◌^◌, ◌<◌, ◌≤◌, None, IfOk, vec_len};
-ghost use Rattle.cli_file_stores.specs.FileStore.{CountsFault, CountsFailures};
-ghost use Rattle.cli_file_stores.specs.History.{no_history};
+ghost use Rattle.cli_file_stores.specs.{FileStore.{CountsFault, CountsFailures}, History.no_history};
 ghost use Rattle.cli_file_stores.specs.declared.file_store.FileStoreFault.TheVariants.{Missing, TooLarge};
 
 use crate::file_reader::FileReader;

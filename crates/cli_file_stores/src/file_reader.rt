@@ -1,15 +1,14 @@
 //! A file of the machine, read as it comes.
 
-ghost use Rattle.std.specs.Prelude.{◌≡◌, IfSome, false};
-ghost use Rattle.std.specs.Option.{is_some};
-ghost use Rattle.cli_record_text.specs.Sums.{sum_of as sum_of_bytes};
+ghost use Rattle.std.specs.{Prelude.{◌≡◌, IfSome, false}, Option.is_some};
+ghost use Rattle.cli_file_stores.specs.ByteSums.{sum_of as sum_of_bytes};
 ghost use Rattle.field_lines.specs.Source.{nothing_given};
 ghost use Rattle.cli_file_stores.specs.FileStore.{read_end};
 
+use crate::byte_sums::ByteSum;
 use crate::file_store::ReadEnd;
 use crate::given_bytes::GivenBytes;
 use crate::given_sum::GivenSum;
-use cli_record_text::ByteSum;
 use field_lines::{Source, SourceFault};
 use std::io::{ErrorKind, Read};
 

@@ -1,13 +1,11 @@
 //! File stores: named files that are loaded, opened and stored.
 
-ghost use Rattle.std.specs.Prelude.{◌≡◌, ◌-◌, ◌^◌, ◌<◌, ◌≤◌, false, List, Option, IfOk, IfSome, OnOk, OnErr};
-ghost use Rattle.std.specs.Prelude.{length, min, option_map, vec_len};
+ghost use Rattle.std.specs.Prelude.{◌≡◌, ◌-◌, ◌^◌, ◌<◌, ◌≤◌, false, List, Option, IfOk, IfSome, OnOk, OnErr, length, min, option_map, vec_len};
 ghost use Rattle.cli_file_stores.specs.Files.{NamedFile, Files, with_file, with_bytes};
-ghost use Rattle.field_lines.specs.Source.{nothing_given};
 ghost use Rattle.cli_file_stores.specs.FileStore.{IsLoad, Opens, IsRead, IsStore, read_end};
-ghost use Rattle.cli_file_stores.specs.History.{History, HasLoaded, HasOpened, HasRead, HasPut};
-ghost use Rattle.cli_file_stores.specs.Sums.{AreOfLast};
 ghost use Rattle.cli_file_stores.specs.declared.file_store.FileStoreFault.TheVariants.{Memory};
+ghost use Rattle.cli_file_stores.specs.{History.{History, HasLoaded, HasOpened, HasRead, HasPut}, Sums.AreOfLast};
+ghost use Rattle.field_lines.specs.Source.{nothing_given};
 
 use crate::sums::EventSum;
 use field_lines::Source;

@@ -1,7 +1,6 @@
 //! What a reader gave, for proofs alone.
 
-ghost use Rattle.std.specs.Prelude.{◌≡◌, ℕ, List, [], ◌++◌};
-ghost use Rattle.std.specs.Borrow.{ftrue};
+ghost use Rattle.std.specs.{Prelude.{◌≡◌, ℕ, List, [], ◌++◌}, Borrow.ftrue};
 
 use std::marker::Model;
 
@@ -22,6 +21,15 @@ impl GivenBytes {
         ensures { result.bytes ≡ [] }
     {
         GivenBytes {}
+    }
+
+    /// Creates a log of these `bytes`.
+    pub(crate) fn of(bytes: &[u8]) -> Self
+        ensures { result.bytes ≡ bytes.now }
+    {
+        let mut log = GivenBytes::new();
+        log.note(bytes);
+        log
     }
 
     /// Appends the bytes of `_bytes`.

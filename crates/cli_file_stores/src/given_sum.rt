@@ -1,10 +1,10 @@
 //! What a reader gave, and its sum if it is asked for.
 
 ghost use Rattle.std.specs.Prelude.{◌≡◌, ◌++◌, [], IfSome};
-ghost use Rattle.cli_record_text.specs.Sums.{sum_of as sum_of_bytes};
+ghost use Rattle.cli_file_stores.specs.ByteSums.{sum_of as sum_of_bytes};
 
+use crate::byte_sums::{ByteSum, RunningSum};
 use crate::given_bytes::GivenBytes;
-use cli_record_text::{ByteSum, RunningSum};
 use std::marker::Model;
 
 /// The bytes that a reader gave so far, which only proofs read, and their running sum if it is asked for.
@@ -16,7 +16,7 @@ pub struct GivenSum {
 
 impl Model for GivenSum {
     ghost use Rattle.std.specs.Prelude.{ℕ, List, IfSome};
-    ghost use Rattle.cli_record_text.specs.Running.{WasGiven};
+    ghost use Rattle.cli_file_stores.specs.Running.{WasGiven};
 
     /// The bytes that were given.
     ghost Value = { List ℕ };

@@ -2,6 +2,7 @@
 //! is read whole, and a sink tells whether it failed.
 #![tactic(auto)]
 
+mod byte_sums;
 mod device;
 mod file_reader;
 mod file_store;
@@ -10,11 +11,13 @@ mod given_sum;
 mod log;
 mod memory;
 mod memory_reader;
+mod outcome;
 mod replace;
 mod sink;
 mod sums;
 mod whole_source;
 
+pub use byte_sums::{ByteSum, RunningSum, hex_digest, sum_of};
 pub use device::DiskFileStore;
 pub use file_reader::FileReader;
 pub use file_store::{FileStore, FileStoreFault, MAX_FILE, ReadEnd};

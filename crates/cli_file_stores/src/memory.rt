@@ -1,10 +1,8 @@
 //! Files in memory as a file store.
 
-ghost use Rattle.std.specs.Prelude.{◌≡◌, ℕ, List, [], Option, Some, None, IfOk, IfErr, IfSome, ◌++◌, OnOk, OnErr};
-ghost use Rattle.std.specs.Prelude.{option_map, string_bytes, map, ◌≤◌, vec_len};
+ghost use Rattle.std.specs.Prelude.{◌≡◌, ℕ, List, [], Option, Some, None, IfOk, IfErr, IfSome, ◌++◌, OnOk, OnErr, option_map, string_bytes, map, ◌≤◌, vec_len};
 ghost use Rattle.std.specs.Option.{option_or};
-ghost use Rattle.cli_file_stores.specs.Files.{held, with_file};
-ghost use Rattle.cli_file_stores.specs.FileStore.{Loads, Opens, CountsFailures, read_end};
+ghost use Rattle.cli_file_stores.specs.{Files.{held, with_file}, FileStore.{Loads, Opens, CountsFailures, read_end}};
 ghost use Rattle.cli_file_stores.specs.Memory.{bytes_in, files_of, HasPlace, ReaderEndsIn};
 ghost use Rattle.cli_file_stores.specs.declared.file_store.FileStoreFault.TheVariants.{Memory};
 

@@ -1,10 +1,10 @@
 //! A file in memory, read as it comes.
 
 ghost use Rattle.std.specs.Prelude.{◌≡◌, ◌<◌, ◌≤◌, [], Some, IfSome, false, length, take, drop};
-ghost use Rattle.cli_record_text.specs.Sums.{sum_of as sum_of_bytes};
+ghost use Rattle.cli_file_stores.specs.ByteSums.{sum_of as sum_of_bytes};
 
+use crate::byte_sums::{ByteSum, sum_of};
 use crate::given_bytes::GivenBytes;
-use cli_record_text::{ByteSum, sum_of};
 use field_lines::{Source, SourceFault};
 use std::io::Read;
 use std::marker::Model;

@@ -1,7 +1,6 @@
 //! Sinks, to which bytes are written, and writers of std as sinks.
 
-ghost use Rattle.std.specs.Prelude.{◌≡◌, ℕ, Bool, true, false, List, Option, OnOk};
-ghost use Rattle.std.specs.Io.KnownBytes.{Appends};
+ghost use Rattle.std.specs.{Prelude.{◌≡◌, ℕ, Bool, true, false, List, Option, OnOk}, Io.KnownBytes.Appends};
 ghost use Rattle.std.specs.Result.{is_err};
 
 use std::io;

@@ -2,16 +2,15 @@
 
 ghost use Rattle.std.specs.Prelude.{◌≡◌, ℕ, ◌-◌, ◌^◌, ◌++◌, ◌∷◌, [], List, IfSome, length, map, min};
 ghost use Rattle.std.specs.Option.{IsSomeAnd};
-ghost use Rattle.cli_record_text.specs.Sums.{sum_of as sum_of_bytes};
-ghost use Rattle.cli_file_stores.specs.History.{FileStoreEvent, with_load, with_read, with_store};
+ghost use Rattle.cli_file_stores.specs.ByteSums.{sum_of as sum_of_bytes};
+ghost use Rattle.cli_file_stores.specs.History.{FileStoreEvent, with_load, with_read, with_store, bytes_of_answer, is_taken};
 ghost use Rattle.cli_file_stores.specs.History.FileStoreEvent.{Loaded, Read, Stored};
-ghost use Rattle.cli_file_stores.specs.History.{bytes_of_answer, is_taken};
 ghost use Rattle.cli_file_stores.specs.Sums.{AreOfLast, SumOfEvent, sum_of_event, sum_value};
 
+use crate::byte_sums::{ByteSum, sum_of};
 use crate::file_store::{FileStoreFault, ReadEnd};
 use crate::given_bytes::GivenBytes;
 use crate::log::EventLog;
-use cli_record_text::{ByteSum, sum_of};
 use std::alloc::Global;
 use std::marker::Model;
 
@@ -49,8 +48,7 @@ pub struct EventSums {
 
 impl Model for EventSums {
     ghost use Rattle.std.specs.Prelude.{◌≡◌, ◌-◌, ◌^◌, List, IfSome, length, min};
-    ghost use Rattle.cli_file_stores.specs.History.{FileStoreEvent};
-    ghost use Rattle.cli_file_stores.specs.Sums.{AreOfLast};
+    ghost use Rattle.cli_file_stores.specs.{History.FileStoreEvent, Sums.AreOfLast};
 
     /// The events so far.
     ghost Value = { List FileStoreEvent };

@@ -1,2 +1,5 @@
+pub mod Escapes
+pub mod Answers
+pub mod Record
 pub mod RecordFiles
 pub mod RunRecord

@@ -13,11 +13,11 @@ use Rattle.cli_words.specs.declared.words.CommandWords.{CommandWords}
 use Rattle.cli_words.specs.declared.words.CommandWords.TheVariants.{Size, Judge, Solve, Check, Audit, List as ListAll}
 use Rattle.cli_words.specs.declared.words.CommandWords.TheVariants.{Share, Piece, Board, Desk}
 use Rattle.cli_words.specs.Words.{standard_input}
-use Rattle.cli_record_text.specs.declared.run.ReadFile.{ReadFile}
-use Rattle.cli_record_text.specs.declared.run.ReadFile.TheVariants as files
-use Rattle.cli_record_text.specs.declared.run.StoreOption.{StoreOption}
-use Rattle.cli_record_text.specs.declared.run.StoreOption.TheVariants as options
-use Rattle.cli_record_text.specs.Sums.{SumValue}
+use Rattle.cli_record.specs.declared.run.ReadFile.{ReadFile}
+use Rattle.cli_record.specs.declared.run.ReadFile.TheVariants as files
+use Rattle.cli_record.specs.declared.run.StoreOption.{StoreOption}
+use Rattle.cli_record.specs.declared.run.StoreOption.TheVariants as options
+use Rattle.cli_file_stores.specs.ByteSums.{SumValue}
 use Rattle.cli_file_stores.specs.declared.sums.EventKind.{EventKind}
 use Rattle.cli_file_stores.specs.declared.sums.EventKind.TheVariants.{Whole, Part, Taken, Failed}
 use Rattle.cli_file_stores.specs.Sums.{SumOfEvent}
@@ -123,13 +123,14 @@ abbrev pub if_answered : ℕ → List StoreOption → List StoreOption
 if_answered status list = if nat_le status 1 then list else []
 
 -- The options whose files a command stores, in order, where it ends with this status: the certificate of a proof, the
--- grouping and the table where there is a grouping, and the table of the districts behind each audit. `list` stores its
--- files with status 1 too, if it tells that a grouping isn't listed.
+-- grouping and the table where there is a grouping, the events of a search that is open, and the table of the districts
+-- behind each audit. `list` stores its files with status 1 too, if it tells that a grouping isn't listed.
 abbrev pub options_to_store : CommandWords → ℕ → List StoreOption
 options_to_store (Judge w) status = at_status 0 status (if_given options.Table w.table)
 options_to_store (Solve w) status =
     (if status == 3 then [] else if_given options.Certificate w.certificate)
     ++ (if status == 1 then [] else if_given options.Out w.out ++ if_given options.Table w.table)
+    ++ at_status 3 status (if_given options.Events w.events)
 options_to_store (Check w) status = at_status 0 status (if_given options.Table w.table)
 options_to_store (Audit w) status = if_answered status (if_given options.Districts w.districts)
 options_to_store (ListAll w) status =

@@ -3,11 +3,11 @@ use Rattle.std.specs.Prelude.{◌≡◌, ℕ, List, length, map, drop}
 use Rattle.std.specs.String.{string_bytes}
 use Rattle.cli_words.specs.Version.{program_version}
 use Rattle.cli_words.specs.declared.words.CommandWords.{CommandWords}
-use Rattle.cli_record_text.specs.declared.run.FileRead.{FileRead}
-use Rattle.cli_record_text.specs.declared.run.FileStored.{FileStored}
-use Rattle.cli_record_text.specs.declared.run.Run.{Run}
-use Rattle.cli_record_text.specs.Answers.{recorded_answer}
-use Rattle.cli_record_text.specs.Record.{record_text}
+use Rattle.cli_record.specs.declared.run.FileRead.{FileRead}
+use Rattle.cli_record.specs.declared.run.FileStored.{FileStored}
+use Rattle.cli_record.specs.declared.run.Run.{Run}
+use Rattle.cli_record.specs.Answers.{recorded_answer}
+use Rattle.cli_record.specs.Record.{record_text}
 use Rattle.cli_file_stores.specs.History.{History}
 use Rattle.cli_file_stores.specs.Sums.{SumOfEvent, sum_of_event}
 use Rattle.cli_record.specs.RecordFiles.{ReadValue, StoredValue, files_to_read, files_read, options_to_store}

@@ -1,17 +1,14 @@
 //! The lines of the files that a command reads.
 
-ghost use Rattle.std.specs.Prelude.{◌≡◌, ◌++◌, ◌∷◌, [], List, IfOk, OnOk, map, find};
-ghost use Rattle.std.specs.Option.{option_map};
+ghost use Rattle.std.specs.{Prelude.{◌≡◌, ◌++◌, ◌∷◌, [], List, IfOk, OnOk, map, find}, Option.option_map};
 ghost use Rattle.cli_words.specs.declared.words.CommandWords.TheVariants.{Judge, Audit, List as ListAll, Piece};
-ghost use Rattle.cli_record_text.specs.declared.run.ReadFile.TheVariants.{Certificate};
+ghost use Rattle.cli_record.specs.{declared.run.ReadFile.TheVariants.Certificate, RunRecord.read_line_of};
+ghost use Rattle.cli_record.specs.RecordFiles.{files_read, file_named, if_named, census_files, problem_files, problem_and, board_files, board_and_events, files_to_read};
 ghost use Rattle.cli_file_stores.specs.Sums.{sum_value};
-ghost use Rattle.cli_record.specs.RunRecord.{read_line_of};
 ghost use Rattle.cli_record.specs.RecordFiles.{went as has_gone, is_of as is_event_of, reading_of as reading_of_name};
-ghost use Rattle.cli_record.specs.RecordFiles.{files_read, file_named, if_named, census_files, problem_files};
-ghost use Rattle.cli_record.specs.RecordFiles.{problem_and, board_files, board_and_events, files_to_read};
 
+use crate::run::{FileRead, ReadFile};
 use cli_file_stores::{EventKind, EventSum};
-use cli_record_text::{FileRead, ReadFile};
 use cli_words::{
     AuditWords, BoardWords, CertificateWords, CommandWords, CommonWords, JudgeWords, ListWords,
     PieceWords, ProblemWords, STANDARD_INPUT,

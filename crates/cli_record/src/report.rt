@@ -1,16 +1,15 @@
 //! The record of a run.
 
-ghost use Rattle.std.specs.Prelude.{◌≡◌, List, IfOk, map};
-ghost use Rattle.std.specs.Option.{option_map};
-ghost use Rattle.std.specs.String.{string_bytes};
+ghost use Rattle.std.specs.{Prelude.{◌≡◌, List, IfOk, map}, Option.option_map, String.string_bytes};
 ghost use Rattle.cli_file_stores.specs.Sums.{sum_value};
-ghost use Rattle.cli_record.specs.RunRecord.{IsRecord, SaysOfRun};
-ghost use Rattle.cli_record.specs.RecordFiles.{record_name_of};
+ghost use Rattle.cli_record.specs.{RunRecord.{IsRecord, SaysOfRun}, RecordFiles.record_name_of};
 
+use crate::answer::answer_of;
 use crate::reads::reads_of;
+use crate::run::Run;
 use crate::stores::stores_of;
+use crate::text::record_text;
 use cli_file_stores::EventSum;
-use cli_record_text::{Run, answer_of, record_text};
 use cli_words::{CommandWords, version_text};
 use std::alloc::{AllocError, Global};
 

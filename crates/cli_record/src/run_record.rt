@@ -1,8 +1,7 @@
 //! The record of a run, made from what its file store has done since the run began.
 
 ghost use Rattle.std.specs.Prelude.{◌≡◌, ◌+◌, ◌-◌, ◌^◌, ◌<◌, IfSome, length, map, min};
-ghost use Rattle.cli_file_stores.specs.History.{History};
-ghost use Rattle.cli_file_stores.specs.Sums.{sum_value};
+ghost use Rattle.cli_file_stores.specs.{History.History, Sums.sum_value};
 ghost use Rattle.cli_record.specs.RunRecord.{IsRecord, sums_between};
 
 use crate::report::record_of_run;

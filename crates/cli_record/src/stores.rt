@@ -1,16 +1,15 @@
 //! The lines of the files that a command stores.
 
 ghost use Rattle.std.specs.Prelude.{◌≡◌, ◌++◌, List, IfOk, OnOk, map};
-ghost use Rattle.cli_file_stores.specs.declared.sums.EventKind.TheVariants.{Taken};
-ghost use Rattle.cli_file_stores.specs.Sums.{sum_value};
+ghost use Rattle.cli_file_stores.specs.{declared.sums.EventKind.TheVariants.Taken, Sums.sum_value};
 ghost use Rattle.cli_record.specs.RunRecord.{stored_line_of};
 ghost use Rattle.cli_record.specs.RecordFiles.{at_status, if_given, if_listed, files_stored, stored_value};
 ghost use Rattle.cli_record.specs.RecordFiles.{options_to_store as options_of};
 ghost use Rattle.cli_words.specs.declared.words.CommandWords.TheVariants.{Audit, List as ListAll, Solve};
 
 use crate::reads::went;
+use crate::run::{FileStored, StoreOption};
 use cli_file_stores::{EventKind, EventSum};
-use cli_record_text::{FileStored, StoreOption};
 use cli_words::{AuditWords, CommandWords, ListWords, SolveWords, StoredWords};
 use std::alloc::{AllocError, Global};
 
@@ -45,6 +44,9 @@ fn push_solve(
     if status != 1 {
         push_if_given(options, StoreOption::Out, words.out)?;
         push_if_given(options, StoreOption::Table, words.table)?;
+    }
+    if status == 3 {
+        push_if_given(options, StoreOption::Events, words.events)?;
     }
     Ok(())
 }

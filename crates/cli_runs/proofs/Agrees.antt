@@ -47,11 +47,15 @@ module _ (files : Files) (words : SolveWords) (before after : History) (stored :
       let end = has_ended (solve_course (Some files) words) (files_to_store words) (λ s. s.answer) before after stored a low solve_refuses run in
       said_of end.s end.between end.given end.all end.said
 
+-- the files that are stored behind the certificate
+abbrev pub stored_later : SolveWords → Solved → List NamedFile
+stored_later words s = named_file words.out s.grouping ++ (named_file words.table s.table ++ named_file words.events s.events)
+
 -- the certificate is the first file that is stored
 pub stored_first : (words : SolveWords) (s : Solved) (name : Bor (List ℕ)) (text : List ℕ) → words.certificate ≡ Some name → s.certificate ≡ Some text
-    → files_to_store words s ≡ record { name = name.now; bytes = text } ∷ (named_file words.out s.grouping ++ named_file words.table s.table)
+    → files_to_store words s ≡ record { name = name.now; bytes = text } ∷ stored_later words s
 stored_first words s name text named spelled =
-    ap₂ (λ (n : Option (Bor (List ℕ))) (t : Option (List ℕ)). named_file n t ++ (named_file words.out s.grouping ++ named_file words.table s.table)) named spelled
+    ap₂ (λ (n : Option (Bor (List ℕ))) (t : Option (List ℕ)). named_file n t ++ stored_later words s) named spelled
 
 -- what every check of a text says, every check of the stored certificate says
 module _ (files : Files) (words : SolveWords) (stored : List NamedFile) (a : Answered) (h : HasSaid files words stored a) (text : List ℕ)
@@ -64,7 +68,7 @@ module _ (files : Files) (words : SolveWords) (stored : List NamedFile) (a : Ans
 
   stored_proof : h.s.certificate ≡ Some text → IsStoredFirst words.certificate (λ text. ChecksAs files words.problem text a) stored
   stored_proof spelled name named =
-      (text, named_file words.out h.s.grouping ++ named_file words.table h.s.table, h.all ∙ stored_first words h.s name text named spelled, checks_as)
+      (text, stored_later words h.s, h.all ∙ stored_first words h.s name text named spelled, checks_as)
 
 module _ (files : Files) (words : SolveWords) (stored : List NamedFile) (a : Answered) (h : HasSaid files words stored a) where
   pub answer_is : (s : Solved) → h.s ≡ s → a ≡ s.answer
@@ -86,8 +90,8 @@ module _ (files : Files) (words : SolveWords) (stored : List NamedFile) (a : Ans
       (λ budget t r same checked. subst (λ (x : Answered). IsAgreed x r.answer) (sym (answer_is _ said.2)) (checked_impossible h.t.problem said.0 budget t same r checked
       (λ verdict. texts.agrees.impossible (problem_of h.t.problem) said.0 (certificate_of c) budget verdict said.1 is.1.proves is.1.target_is)))
       (ap (λ (x : Solved). x.certificate) said.2)
-  proves (Open None steps) is said low = let three : a.status ≡ 3 = same_status a _ (answer_is _ said) in absurd (omega arith)
-  proves (Open (Some g) steps) is said low = let three : a.status ≡ 3 = same_status a _ (answer_is _ said) in absurd (omega arith)
+  proves (Open None part steps) is said low = let three : a.status ≡ 3 = same_status a _ (answer_is _ said) in absurd (omega arith)
+  proves (Open (Some g) part steps) is said low = let three : a.status ≡ 3 = same_status a _ (answer_is _ said) in absurd (omega arith)
 
 pub checked : (files : Files) (words : SolveWords) (before after : History) (stored : List NamedFile) (a : Answered) → CommandRun (Some files) (Solve words) before after stored a → a.status ≤ 1
     → IsStoredFirst words.certificate (λ text. ChecksAs files words.problem text a) stored

@@ -8,7 +8,7 @@ use Rattle.grouping_laws.specs.Problem.{Problem}
 use Rattle.grouping_laws.specs.Grouping.{Grouping}
 use Rattle.certificate_data.specs.Round.{Round}
 use Rattle.board_laws.specs.Content.{Content, Event}
-use Rattle.board_events.specs.Replies.{reply_line}
+use Rattle.board_report.specs.ReplyLines.{reply_line}
 use Rattle.share_board.specs.Rounds.{IsBoardFault}
 use Rattle.share_board.specs.declared.fault.BoardFault.{BoardFault}
 use Rattle.share_board.specs.declared.fault.BoardFault.TheVariants as board

@@ -1,5 +1,5 @@
 -- The values of readers by which steps over the files that a run was given come to a problem.
-use Rattle.std.proofs.Common.{◌≡◌, ℕ, List, [], ◌∷◌, ◌++◌, Contains, Option, Some, None, inl, inr, refl, sym, ap, ◌∙◌, subst, subst₂}
+use Rattle.std.proofs.Common.{◌≡◌, ℕ, List, [], ◌∷◌, ◌++◌, append-nil, Contains, Option, Some, None, inl, inr, refl, sym, ap, ◌∙◌, subst, subst₂}
 use Rattle.std.specs.Prelude.{Result, Ok, option_map}
 use Rattle.std.proofs.lemmas.List.Elements.{Contains-append_right}
 use Rattle.std.specs.Borrow.{Bor}
@@ -206,14 +206,20 @@ module _ (files : Files) where
     problem = h.over.built.1;
   }
 
-  -- the table of a grouping is the last of the files that are stored
-  pub table_stored : (words : ProblemWords) (table : Option (Bor (List ℕ))) (t : Tabled) (g : Grouping) (text : Option (List ℕ)) (earlier stored : List NamedFile)
-      → ReadsTabled words table t → text ≡ table_of t g → stored ≡ earlier ++ named_file table text → IsStoredAs table (IsTableOfFiles files words t.problem g) stored
-  table_stored words None t g text earlier stored r is all = tt
-  table_stored words (Some name) t g text earlier stored r is all =
+  -- the table of a grouping stands between the files that are stored before it and behind it
+  pub table_between : (words : ProblemWords) (table : Option (Bor (List ℕ))) (t : Tabled) (g : Grouping) (text : Option (List ℕ)) (earlier later stored : List NamedFile)
+      → ReadsTabled words table t → text ≡ table_of t g → stored ≡ earlier ++ (named_file table text ++ later) → IsStoredAs table (IsTableOfFiles files words t.problem g) stored
+  table_between words None t g text earlier later stored r is all = tt
+  table_between words (Some name) t g text earlier later stored r is all =
       let bytes = table_text r.names.0 t.problem.withdrawn g in
       let own : text ≡ Some bytes = is ∙ ap (option_map (λ named. table_text named t.problem.withdrawn g)) r.names.1 in
-      stored_last name (IsTableOfFiles files words t.problem g) bytes text earlier stored (record { named = r.names.0; named_are = r.names.2; table = refl }) own all
+      stored_between (Some name) (IsTableOfFiles files words t.problem g) bytes text earlier later stored (record { named = r.names.0; named_are = r.names.2; table = refl }) own all
+
+  -- the same, if it is the last
+  pub table_stored : (words : ProblemWords) (table : Option (Bor (List ℕ))) (t : Tabled) (g : Grouping) (text : Option (List ℕ)) (earlier stored : List NamedFile)
+      → ReadsTabled words table t → text ≡ table_of t g → stored ≡ earlier ++ named_file table text → IsStoredAs table (IsTableOfFiles files words t.problem g) stored
+  table_stored words table t g text earlier stored r is all =
+      table_between words table t g text earlier [] stored r is (all ∙ ap (λ l. earlier ++ l) (sym (append-nil (named_file table text))))
 
   -- the table of several groupings is the last of the files that are stored
   pub long_table_stored : (words : ProblemWords) (table : Option (Bor (List ℕ))) (t : Tabled) (groupings : List Grouping) (text : Option (List ℕ)) (earlier stored : List NamedFile)

@@ -1,5 +1,5 @@
 -- Every list by a certificate that `solve` stored lists all best groupings.
-use Rattle.std.proofs.Common.{◌≡◌, ◌⊎◌, ℕ, List, ◌++◌, map, Option, Some, None, inl, inr, refl, sym, ap, subst, ◌∙◌, arith}
+use Rattle.std.proofs.Common.{◌≡◌, ◌⊎◌, ℕ, List, map, Option, Some, None, inl, inr, refl, sym, ap, subst, ◌∙◌, arith}
 use Rattle.std.specs.Prelude.{Ok, Err}
 use Rattle.std.specs.Borrow.{Bor}
 use Rattle.county_problem.specs.ProblemValue.{ProblemValue, problem_of}
@@ -34,7 +34,7 @@ use Rattle.cli_runs.specs.FilesProblem.{IsGroupingIfNamed}
 use Rattle.cli_runs.specs.Agreement.{HasSameProblem, IsCutOff, IsUnnamed, IsListOfFiles, ListsAllOfFiles, IsStoredFirst}
 use Rattle.cli_runs.specs.SolveCourse.{SaysSolved}
 use Rattle.cli_runs.specs.ListCourse.{Asked, Listed, IsListAnswer, which_of, asked_by, list_course, listed_files, listed_with, listed_by_number, listing_answer, listing_said, no_such_grouping, grouping_numbered}
-use Rattle.cli_runs.specs.Storing.{named_file, store_steps, said_after}
+use Rattle.cli_runs.specs.Storing.{store_steps, said_after}
 use Rattle.cli_runs.specs.Run.{CommandRun}
 use Rattle.cli_runs.proofs.StoreLemmas.{refusal_status}
 use Rattle.cli_runs.proofs.Ending.{same_status}
@@ -42,7 +42,7 @@ use Rattle.cli_runs.proofs.FilesRead.{problem_of_files, reads_again}
 use Rattle.cli_runs.proofs.Repeating.{EndsBy, bind_ends, bind_gives, value_ends, load_gives}
 use Rattle.cli_runs.proofs.SameProblem.{tabled_again, which_again}
 use Rattle.cli_runs.proofs.Listings.{never_open}
-use Rattle.cli_runs.proofs.Agrees.{HasSaid, has_said, stored_first, other_status}
+use Rattle.cli_runs.proofs.Agrees.{HasSaid, has_said, stored_later, stored_first, other_status}
 
 -- what a list of a problem says by a complete certificate, if a grouping's number is asked for
 record SaysAll (v : ProblemValue) (which : Option Grouping) (a : Answered) : Type 0 where
@@ -151,7 +151,7 @@ module _ (files : Files) (words : SolveWords) (stored : List NamedFile) (a : Ans
   lists_all others list which start end none b same certificate which_is run = run_ends others list which same certificate which_is start end none b run
 
   stored_list : h.s.certificate ≡ Some text → IsStoredFirst words.certificate (ListsAllOfFiles files words.problem) stored
-  stored_list spelled name named = (text, named_file words.out h.s.grouping ++ named_file words.table h.s.table, h.all ∙ stored_first words h.s name text named spelled, lists_all)
+  stored_list spelled name named = (text, stored_later words h.s, h.all ∙ stored_first words h.s name text named spelled, lists_all)
 
 module _ (files : Files) (words : SolveWords) (stored : List NamedFile) (a : Answered) (h : HasSaid files words stored a) where
   solved_lists : (answer : search.Answer) → IsSolveAnswer (problem_of h.t.problem) words.steps answer → HasCompleteTree (problem_of h.t.problem) answer → SaysSolved h.t answer h.s → a.status ≡ 0
@@ -160,8 +160,8 @@ module _ (files : Files) (words : SolveWords) (stored : List NamedFile) (a : Ans
       stored_list files words stored a h said.0
       (λ budget. listed_says h.t.problem said.0 (certificate_of c) g.groups.items said.1 is.1.proves is.1.target_is complete budget) (ap (λ x. x.certificate) said.2)
   solved_lists (found.Impossible c) is complete said zero = absurd (other_status files words stored a h _ 0 1 said.2 zero refl (omega arith))
-  solved_lists (found.Open None steps) is complete said zero = absurd (other_status files words stored a h _ 0 3 said zero refl (omega arith))
-  solved_lists (found.Open (Some g) steps) is complete said zero = absurd (other_status files words stored a h _ 0 3 said zero refl (omega arith))
+  solved_lists (found.Open None part steps) is complete said zero = absurd (other_status files words stored a h _ 0 3 said zero refl (omega arith))
+  solved_lists (found.Open (Some g) part steps) is complete said zero = absurd (other_status files words stored a h _ 0 3 said zero refl (omega arith))
 
 pub listed : (files : Files) (words : SolveWords) (before after : History) (stored : List NamedFile) (a : Answered) → CommandRun (Some files) (Solve words) before after stored a → a.status ≡ 0
     → IsStoredFirst words.certificate (ListsAllOfFiles files words.problem) stored

@@ -5,7 +5,7 @@ use Rattle.std.specs.Prelude.{Result, Ok, option_map}
 use Rattle.county_problem.specs.ProblemValue.{ProblemValue, problem_of}
 use Rattle.grouping_laws.specs.Grouping.{Grouping}
 use Rattle.board_laws.specs.Content.{Content}
-use Rattle.board_events.specs.Coming.{Held}
+use Rattle.board_report.specs.ComingEvents.{Held}
 use Rattle.board_texts.specs.Coming as texts
 use Rattle.share_board.specs.OpenPieces.{AreOpen}
 use Rattle.board_report.specs.BoardOutcome.{AreJoined, board_end_lines}

@@ -1,10 +1,12 @@
 -- What a run of `solve` tells.
-use Rattle.std.proofs.Common.{◌≡◌, ◌≤◌, List, ◌++◌, Some, None, inl, inr, refl, sym, ap, subst, ◌∙◌, append_assoc}
+use Rattle.std.proofs.Common.{◌≡◌, ◌≤◌, ℕ, List, [], ◌++◌, append-nil, Some, None, inl, inr, refl, sym, ap, subst, ◌∙◌, append_assoc}
 use Rattle.county_problem.specs.ProblemValue.{problem_of}
 use Rattle.grouping_laws.specs.Grouping.{Grouping}
 use Rattle.grouping_report.specs.GroupingText.{grouping_text}
 use Rattle.grouping_report.specs.Outcomes.{outcome_text}
 use Rattle.grouping_report.specs.declared.outcome.Outcome.TheVariants as outcome
+use Rattle.board_report.specs.EventSpelling.{text_of_events}
+use Rattle.board_report.specs.Resuming.{resuming_events}
 use Rattle.branch_bound.specs.declared.answer.Answer as search
 use Rattle.branch_bound.specs.declared.answer.Answer.TheVariants.{Best, Impossible, Open}
 use Rattle.branch_bound.specs.Answers.{IsSolveAnswer, SolveIsRight, SaysWhether}
@@ -20,7 +22,7 @@ use Rattle.cli_runs.specs.Storing.{IsStoredAs, named_file}
 use Rattle.cli_runs.specs.Run.{CommandRun}
 use Rattle.cli_runs.specs.Headline.{Tells}
 use Rattle.cli_runs.proofs.Ending.{same_status}
-use Rattle.cli_runs.proofs.FilesRead.{problem_of_files, stored_between, table_stored}
+use Rattle.cli_runs.proofs.FilesRead.{problem_of_files, stored_between, table_between}
 use Rattle.cli_runs.proofs.Agrees.{HasSaid, has_said}
 
 module _ (files : Files) (words : SolveWords) (stored : List NamedFile) (a : Answered) (h : HasSaid files words stored a) where
@@ -30,16 +32,27 @@ module _ (files : Files) (words : SolveWords) (stored : List NamedFile) (a : Ans
   answer_is : (s : Solved) → h.s ≡ s → a ≡ s.answer
   answer_is s e = h.said ∙ ap (λ (x : Solved). x.answer) e
 
-  -- the lines of the grouping stand between the certificate and the table
+  -- the lines of the grouping stand behind the certificate
   lines_between : (g : Grouping) → h.s.grouping ≡ Some (grouping_text g) → IsStoredAs words.out (λ text. text ≡ grouping_text g) stored
   lines_between g is =
-      stored_between words.out (λ text. text ≡ grouping_text g) (grouping_text g) h.s.grouping (named_file words.certificate h.s.certificate) (named_file words.table h.s.table) stored refl is h.all
+      stored_between words.out (λ text. text ≡ grouping_text g) (grouping_text g) h.s.grouping (named_file words.certificate h.s.certificate) (named_file words.table h.s.table ++ named_file words.events h.s.events) stored refl is h.all
 
-  table_last : (g : Grouping) → h.s.table ≡ table_of h.t g → IsStoredAs words.table (IsTableOfFiles files words.problem h.t.problem g) stored
-  table_last g is =
-      let certificate = named_file words.certificate h.s.certificate in
-      let out = named_file words.out h.s.grouping in
-      table_stored files words.problem words.table h.t g h.s.table (certificate ++ out) stored h.reads is (h.all ∙ sym (append_assoc certificate out (named_file words.table h.s.table)))
+  -- the files before the table, and those before the events
+  abbrev before_table : List NamedFile
+  before_table = named_file words.certificate h.s.certificate ++ named_file words.out h.s.grouping
+
+  all_behind : stored ≡ before_table ++ (named_file words.table h.s.table ++ named_file words.events h.s.events)
+  all_behind = h.all ∙ sym (append_assoc (named_file words.certificate h.s.certificate) (named_file words.out h.s.grouping) (named_file words.table h.s.table ++ named_file words.events h.s.events))
+
+  table_behind : (g : Grouping) → h.s.table ≡ table_of h.t g → IsStoredAs words.table (IsTableOfFiles files words.problem h.t.problem g) stored
+  table_behind g is = table_between files words.problem words.table h.t g h.s.table before_table (named_file words.events h.s.events) stored h.reads is all_behind
+
+  events_last : (text : List ℕ) → h.s.events ≡ Some text → IsStoredAs words.events (λ t. t ≡ text) stored
+  events_last text is =
+      let table = named_file words.table h.s.table in
+      let events = named_file words.events h.s.events in
+      stored_between words.events (λ t. t ≡ text) text h.s.events (before_table ++ table) [] stored refl is
+      (all_behind ∙ sym (append_assoc before_table table events) ∙ ap (λ l. (before_table ++ table) ++ l) (sym (append-nil events)))
 
   found_tells : (found : search.Answer) → IsSolveAnswer (problem_of h.t.problem) words.steps found → SolveIsRight (problem_of h.t.problem) found → SaysWhether (problem_of h.t.problem) words.steps found
       → SaysSolved h.t found h.s → Tells files (Solve words) stored a
@@ -52,31 +65,39 @@ module _ (files : Files) (words : SolveWords) (stored : List NamedFile) (a : Ans
       best = best;
       answer = answer_is _ said.2;
       lines = lines_between g.groups.items (ap (λ (x : Solved). x.grouping) said.2);
-      table = table_last g.groups.items (ap (λ (x : Solved). x.table) said.2);
+      table = table_behind g.groups.items (ap (λ (x : Solved). x.table) said.2);
     },
   )
   found_tells (Impossible c) is best whether said = inr (inl (
     same_status a _ (answer_is _ said.2),
     record { v = h.t.problem; problem = problem; none = whether; answer = answer_is _ said.2 },
   ))
-  found_tells (Open None steps) is best whether said = inr (inr (
+  found_tells (Open None part steps) is best whether said = inr (inr (
     same_status a _ (answer_is _ said),
     record {
       v = h.t.problem;
       problem = problem;
       found = None;
-      lawful = is.1;
+      part = part;
+      is = is.1.0;
       answer = subst (λ n. a ≡ record { text = outcome_text h.t.problem (outcome.Open None n); status = 3 }) is.0 (answer_is _ said);
+      stored_are = tt;
     },
   ))
-  found_tells (Open (Some g) steps) is best whether said = inr (inr (
+  found_tells (Open (Some g) part steps) is best whether said = inr (inr (
     same_status a _ (answer_is _ said),
     record {
       v = h.t.problem;
       problem = problem;
       found = Some g;
-      lawful = is.1.0;
+      part = part;
+      is = (is.1.0, is.1.2);
       answer = subst (λ n. a ≡ record { text = outcome_text h.t.problem (outcome.Open (Some g) n); status = 3 }) is.0 (answer_is _ said);
+      stored_are = (
+        lines_between g.groups.items (ap (λ (x : Solved). x.grouping) said),
+        table_behind g.groups.items (ap (λ (x : Solved). x.table) said),
+        events_last (text_of_events (resuming_events part)) (ap (λ (x : Solved). x.events) said),
+      );
     },
   ))
 

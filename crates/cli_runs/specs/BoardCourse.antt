@@ -1,5 +1,5 @@
 -- The steps that give a board: after the problem, a grouping and the events of a file are loaded and read.
-use Rattle.std.specs.Prelude.{◌≡◌, ℕ, min, max, fold, List, [], length, Option, Some, None, Result, Ok, Err}
+use Rattle.std.specs.Prelude.{◌≡◌, ℕ, min, List, [], Option, Some, None, Result, Ok, Err}
 use Rattle.std.specs.Borrow.{Bor}
 use Rattle.grouping_laws.specs.Grouping.{Grouping}
 use Rattle.county_problem.specs.ProblemValue.{ProblemValue, problem_of}
@@ -10,9 +10,10 @@ use Rattle.certificate_lines.specs.declared.fault.TextFault.{TextFault}
 use Rattle.board_laws.specs.Content.{Event}
 use Rattle.share_board.specs.Rounds.{IsBoardFault}
 use Rattle.share_board.specs.declared.fault.BoardFault.{BoardFault}
-use Rattle.board_events.specs.Spelling.{EventsAreSpelled}
-use Rattle.board_events.specs.Faults.{events_fault}
+use Rattle.board_report.specs.EventSpelling.{EventsAreSpelled}
+use Rattle.board_report.specs.EventFaults.{events_fault}
 use Rattle.board_report.specs.Rounds.{IsFirstRound}
+use Rattle.branch_bound.specs.Resuming.{longest}
 use Rattle.cli_words.specs.declared.words.RoundWords.{RoundWords}
 use Rattle.cli_words.specs.declared.words.RoundWords.TheVariants.{Plain, Wide}
 use Rattle.cli_file_stores.specs.Files.{Files}
@@ -27,10 +28,6 @@ format_of (Wide limit) = formats.Wide
 abbrev pub depth_of : RoundWords → ℕ
 depth_of (Plain limit depth) = depth
 depth_of (Wide limit) = 0
-
--- how many counties the longest group has, or 1 where none has more
-abbrev pub longest : Grouping → ℕ
-longest g = fold (λ most m. max most (length m.codes)) 1 g
 
 -- the limit of the first round: that of the words, else the longest group of the grouping; no limit is above 65,535
 abbrev pub limit_of_words : Grouping → RoundWords → ℕ

@@ -1,7 +1,7 @@
 -- What a run says of the machine's files, for each command and each exit status. `files` are the bytes under each name
 -- that the run read, and `stored` are the files that it stored.
 use Rattle.std.specs.Prelude.{◌≡◌, ◌≢◌, ◌⊎◌, ◌++◌, ⊤, ℕ, true, List, [], ◌∷◌, length, Contains}
-use Rattle.std.specs.Prelude.{Option, Some, None, codes}
+use Rattle.std.specs.Prelude.{Option, Some, None, IfSome, codes}
 use Rattle.std.specs.List.{flat_map}
 use Rattle.std.specs.Borrow.{Bor}
 use Rattle.county_codes.specs.declared.county.County.{County}
@@ -29,9 +29,9 @@ use Rattle.list_groupings.specs.declared.gap.Gap.{Gap}
 use Rattle.list_groupings.specs.declared.listing.Listing.TheVariants as listing
 use Rattle.certificate_data.specs.Round.{Round}
 use Rattle.board_laws.specs.Content.{Content, Event, Reply}
-use Rattle.board_events.specs.Replies.{reply_line}
-use Rattle.board_events.specs.Spelling.{EventsAreSpelled}
-use Rattle.board_events.specs.Coming.{Held}
+use Rattle.board_report.specs.ReplyLines.{reply_line}
+use Rattle.board_report.specs.EventSpelling.{text_of_events, EventsAreSpelled}
+use Rattle.board_report.specs.ComingEvents.{Held}
 use Rattle.board_texts.specs.Coming as texts
 use Rattle.share_board.specs.OpenPieces.{AreOpen}
 use Rattle.share_board.specs.Rounds.{IsBoardFault}
@@ -40,6 +40,10 @@ use Rattle.board_report.specs.BoardOutcome.{board_end_lines}
 use Rattle.board_report.specs.Rounds.{IsFirstRound}
 use Rattle.board_report.specs.Taking.{EventsAreTaken}
 use Rattle.board_report.specs.PieceAnswers.{IsAnswerAt, piece_budget}
+use Rattle.partial_trees.specs.declared.tree.PartialTree.{PartialTree}
+use Rattle.partial_trees.specs.PartialValue.{partial_of}
+use Rattle.board_report.specs.Resuming.{resuming_events}
+use Rattle.branch_bound.specs.Resuming.{IsBestPart}
 use Rattle.branch_bound.specs.declared.piece.Piece.{Piece as PieceAnswer}
 use Rattle.cli_words.specs.Words.{Means, takes_words, standard_input}
 use Rattle.cli_words.specs.declared.words.CommonWords.{CommonWords}
@@ -100,20 +104,33 @@ pub record TellsNone (files : Files) (words : ProblemWords) (a : Answered) : Typ
   pub none : IsImpossible (problem_of v)
   pub answer : a ≡ record { text = outcome_text v outcome.Impossible; status = 1 }
 
--- what is known of a grouping that `solve` found before its steps ran out: it is lawful; none was found only if no step
--- was allowed
-abbrev pub IsFound : ProblemValue → ℕ → Option held.Grouping → Type 0
-IsFound v steps None = steps ≡ 0
-IsFound v steps (Some g) = Lawful (problem_of v) g.groups.items
+-- What is known of a grouping that `solve` found before its steps ran out: it is lawful, and a part that is given is one
+-- of the proof that it is best. None was found only if no step was allowed.
+abbrev pub IsFound : ProblemValue → ℕ → Option held.Grouping → Option PartialTree → Type 0
+IsFound v steps None part = steps ≡ 0
+IsFound v steps (Some g) part =
+    Lawful (problem_of v) g.groups.items × IfSome part (λ t. IsBestPart (problem_of v) g.groups.items (partial_of t))
+
+-- What was stored of such a grouping, where it is named: its lines, its table, and the events by which a board of it
+-- goes on.
+abbrev pub AreFoundStored : Files → SolveWords → ProblemValue → Option held.Grouping → Option PartialTree
+    → List NamedFile → Type 0
+AreFoundStored files words v None part stored = ⊤
+AreFoundStored files words v (Some g) part stored =
+    IsStoredAs words.out (λ text. text ≡ grouping_text g.groups.items) stored
+    × IsStoredAs words.table (IsTableOfFiles files words.problem v g.groups.items) stored
+    × IsStoredAs words.events (λ text. text ≡ text_of_events (resuming_events part)) stored
 
 -- `solve` ends with status 3: it took all steps that it was allowed. The grouping that it printed, if there is one, is
--- lawful.
-pub record SolveTellsOpen (files : Files) (words : SolveWords) (a : Answered) : Type 0 where
+-- lawful. What was stored is of it, and of what was proved of it being best.
+pub record SolveTellsOpen (files : Files) (words : SolveWords) (stored : List NamedFile) (a : Answered) : Type 0 where
   pub v : ProblemValue
   pub problem : IsProblemOfFiles files words.problem v
   pub found : Option held.Grouping
-  pub lawful : IsFound v words.steps found
+  pub part : Option PartialTree
+  pub is : IsFound v words.steps found part
   pub answer : a ≡ record { text = outcome_text v (outcome.Open found words.steps); status = 3 }
+  pub stored_are : AreFoundStored files words v found part stored
 
 -- ---- check
 
@@ -381,7 +398,7 @@ Tells files (Solve words) stored a =
     ByStatus a.status
     (SolveTellsBest files words stored a)
     (TellsNone files words.problem a)
-    (SolveTellsOpen files words a)
+    (SolveTellsOpen files words stored a)
 Tells files (Check words) stored a =
     ByStatus a.status
     (CheckTellsBest files words stored a)

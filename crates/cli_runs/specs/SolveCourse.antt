@@ -9,6 +9,8 @@ use Rattle.certificate_data.specs.TreeValue.{certificate_of}
 use Rattle.certificate_text.specs.Spelling.{IsSpelling}
 use Rattle.branch_bound.specs.declared.answer.Answer as solver
 use Rattle.branch_bound.specs.declared.answer.Answer.TheVariants.{Best, Impossible, Open}
+use Rattle.board_report.specs.EventSpelling.{text_of_events}
+use Rattle.board_report.specs.Resuming.{resuming_events}
 use Rattle.branch_bound.specs.Answers.{IsSolveAnswer, SolveIsRight, HasCompleteTree, SaysWhether}
 use Rattle.cli_words.specs.declared.words.SolveWords.{SolveWords}
 use Rattle.cli_file_stores.specs.Files.{NamedFile, Files}
@@ -18,15 +20,18 @@ use Rattle.cli_runs.specs.Course.{Course, ◌>>=◌, value_step}
 use Rattle.cli_runs.specs.TableCourse.{Tabled, tabled_problem_in, table_of}
 use Rattle.cli_runs.specs.Storing.{EndsStoring, named_file}
 
--- what `solve` says, and the texts for its files: those of the certificate, of the grouping and of the table
+-- what `solve` says, and the texts for its files: those of the certificate, of the grouping, of the table and of the
+-- events
 pub record Solved : Type 0 where
   pub answer : Answered
   pub certificate : Option (List ℕ)
   pub grouping : Option (List ℕ)
   pub table : Option (List ℕ)
+  pub events : Option (List ℕ)
 
 -- What a solver answers, as it is said: the report, with status 0 where it is best, 1 where none is lawful and 3 where
--- it is open; the text of the certificate; and the lines of the grouping and its table, where there is one.
+-- it is open; the text of the certificate; the lines of the grouping and its table, where there is one; and where it is
+-- open, the text of the events that go on from there.
 abbrev pub SaysSolved : Tabled → solver.Answer → Solved → Type 0
 SaysSolved t (Best g c) s = (text : List ℕ) × IsSpelling text (certificate_of c)
     × (s ≡ record {
@@ -35,6 +40,7 @@ SaysSolved t (Best g c) s = (text : List ℕ) × IsSpelling text (certificate_of
       certificate = Some text;
       grouping = Some (grouping_text g.groups.items);
       table = table_of t g.groups.items;
+      events = None;
     })
 SaysSolved t (Impossible c) s = (text : List ℕ) × IsSpelling text (certificate_of c)
     × (s ≡ record {
@@ -43,21 +49,24 @@ SaysSolved t (Impossible c) s = (text : List ℕ) × IsSpelling text (certificat
       certificate = Some text;
       grouping = None;
       table = None;
+      events = None;
     })
-SaysSolved t (Open None steps) s =
+SaysSolved t (Open None part steps) s =
     s ≡ record {
       answer = record { text = outcome_text t.problem (outcome.Open None steps); status = 3 };
       certificate = None;
       grouping = None;
       table = None;
+      events = None;
     }
-SaysSolved t (Open (Some g) steps) s =
+SaysSolved t (Open (Some g) part steps) s =
     s ≡ record {
       answer =
           record { text = outcome_text t.problem (outcome.Open (Some g) steps); status = 3 };
       certificate = None;
       grouping = Some (grouping_text g.groups.items);
       table = table_of t g.groups.items;
+      events = Some (text_of_events (resuming_events part));
     }
 
 -- what `solve` says of a problem is what a solver answers with this number of steps
@@ -74,10 +83,11 @@ abbrev pub solve_course : Option Files → SolveWords → Course Solved
 solve_course files words =
     tabled_problem_in files words.problem words.table >>= λ t. value_step (IsSolved t words.steps)
 
--- the files that are stored: the certificate first, then the grouping, then the table
+-- the files that are stored: the certificate first, then the grouping, the table and the events
 abbrev pub files_to_store : SolveWords → Solved → List NamedFile
 files_to_store words s =
-    named_file words.certificate s.certificate ++ (named_file words.out s.grouping ++ named_file words.table s.table)
+    named_file words.certificate s.certificate
+    ++ (named_file words.out s.grouping ++ (named_file words.table s.table ++ named_file words.events s.events))
 
 -- `solve` ends: at a fault that it met before anything was stored, or with its files stored and its answer, unless a
 -- file was refused

@@ -30,6 +30,7 @@ solved_of s =
       certificate = option_map (λ t. t.items) s.certificate;
       grouping = option_map (λ t. t.items) s.grouping;
       table = option_map (λ t. t.items) s.table;
+      events = option_map (λ t. t.items) s.events;
     }
 
 -- what `list` is asked for

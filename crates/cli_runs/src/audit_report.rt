@@ -1,9 +1,7 @@
 //! What `audit` says of the assignments of a plan.
 
-ghost use Rattle.std.specs.Prelude.{◌≤◌, ◌<◌, All, IfOk, length, map, option_map};
-ghost use Rattle.std.specs.List.Sorted.{IsStrictlyIncreasing};
-ghost use Rattle.cli_runs.specs.JudgeCourse.{IsAudited, IsTableIfAsked};
-ghost use Rattle.cli_runs.specs.Texts.{audited_of};
+ghost use Rattle.std.specs.{Prelude.{◌≤◌, ◌<◌, All, IfOk, length, map, option_map}, List.Sorted.IsStrictlyIncreasing};
+ghost use Rattle.cli_runs.specs.{JudgeCourse.{IsAudited, IsTableIfAsked}, Texts.audited_of};
 
 use baf_auditor::{Assignment, Findings, audit, districts};
 use cli_answers::RunAnswer;

@@ -5,13 +5,11 @@ ghost use Rattle.certificate_lines.specs.Lines.{most};
 ghost use Rattle.county_problem.specs.ProblemValue.{problem_of};
 ghost use Rattle.share_board.specs.Events.{event_of};
 ghost use Rattle.branch_bound.specs.declared.piece.Piece.{Piece as PieceValue};
-ghost use Rattle.board_report.specs.PieceText.{HasText};
-ghost use Rattle.board_report.specs.PieceAnswers.{IsAnswered, piece_budget};
-ghost use Rattle.board_report.specs.BoardOutcome.{IsShared};
+ghost use Rattle.board_report.specs.{PieceText.HasText, PieceAnswers.{IsAnswered, piece_budget}, BoardOutcome.IsShared};
 ghost use Rattle.cli_answers.specs.Answers.{answer_of};
-ghost use Rattle.cli_runs.specs.BoardCourse.{format_of, depth_of, longest as longest_of, limit_of_words};
-ghost use Rattle.cli_runs.specs.BoardCourse.{AnswersOnBoard};
+ghost use Rattle.cli_runs.specs.BoardCourse.{format_of, depth_of, limit_of_words, AnswersOnBoard};
 ghost use Rattle.cli_runs.specs.PieceCourse.{no_such_piece, piece_said, piece_status};
+ghost use Rattle.branch_bound.specs.Resuming.{longest as longest_of};
 
 use board_report::{BoardShape, Shared, piece_text, prove_waiting, share};
 use branch_bound::Piece;

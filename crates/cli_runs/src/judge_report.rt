@@ -1,15 +1,12 @@
 //! What `judge` says of a lawful grouping.
 
 ghost use Rattle.std.specs.Prelude.{◌≡◌, ℕ, IfOk, option_map};
-ghost use Rattle.county_problem.specs.ProblemValue.{problem_of};
+ghost use Rattle.county_problem.specs.{ProblemValue.problem_of, CountList.count_at};
 ghost use Rattle.grouping_laws.specs.Grouping.{Lawful, counts, sets_of};
-ghost use Rattle.county_problem.specs.CountList.{count_at};
 ghost use Rattle.certificate_checker.specs.Answers.{CheckIsRight};
 ghost use Rattle.cli_answers.specs.Answers.{answer_of};
-ghost use Rattle.cli_runs.specs.JudgeWithCertificate.{IsSaidBy, IsSaidOf, NamesSameCounts, SaysBeside, best_answer};
-ghost use Rattle.cli_runs.specs.JudgeWithCertificate.{lawful_answer};
-ghost use Rattle.cli_runs.specs.JudgeCourse.{HasTable};
-ghost use Rattle.cli_runs.specs.Texts.{reported_of, tabled_of};
+ghost use Rattle.cli_runs.specs.JudgeWithCertificate.{IsSaidBy, IsSaidOf, NamesSameCounts, SaysBeside, best_answer, lawful_answer};
+ghost use Rattle.cli_runs.specs.{JudgeCourse.HasTable, Texts.{reported_of, tabled_of}};
 
 use crate::table_runs::{Reported, Tabled, table_of};
 use certificate_checker::{Verdict, check};

@@ -1,8 +1,6 @@
 //! Laws of runs: each function does nothing, and its contract is the law.
 
-ghost use Rattle.cli_runs.specs.Agreement.{RunsAgree};
-ghost use Rattle.cli_runs.specs.Headline.{RunsTell};
-ghost use Rattle.cli_runs.specs.Loads.{RunsAreOfTheirLoads};
+ghost use Rattle.cli_runs.specs.{Agreement.RunsAgree, Headline.RunsTell, Loads.RunsAreOfTheirLoads};
 
 /// Ties the certificate that `solve` or `share` stored to later runs with the same bytes for the problem. If `solve`
 /// ends with status 0 or 1, `check` gives the same answer to its certificate. If it ends with status 0, `list` lists

@@ -2,8 +2,7 @@
 
 ghost use Rattle.std.specs.Prelude.{◌≡◌, ◌≤◌, ℕ, List, Some, length, map, IfOk, option_map};
 ghost use Rattle.county_problem.specs.ProblemValue.{problem_of};
-ghost use Rattle.list_groupings.specs.Answers.{IsListing, ListsAllBest};
-ghost use Rattle.list_groupings.specs.Walking.{sets_held};
+ghost use Rattle.list_groupings.specs.{Answers.{IsListing, ListsAllBest}, Walking.sets_held};
 ghost use Rattle.cli_answers.specs.Answers.{answer_of};
 ghost use Rattle.cli_runs.specs.ListCourse.{IsListAnswer, gap_word, open_line, open_answer as answer_of_gap};
 ghost use Rattle.cli_runs.specs.ListCourse.{grouping_numbered as numbered_in, listed_all, listed_by_number};

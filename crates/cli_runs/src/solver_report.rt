@@ -1,7 +1,6 @@
 //! What `solve` says of a problem.
 
-ghost use Rattle.std.specs.Prelude.{◌≡◌, ℕ, List, IfOk, option_map};
-ghost use Rattle.std.specs.Option.{option_and_then};
+ghost use Rattle.std.specs.{Prelude.{◌≡◌, ℕ, List, IfOk, option_map}, Option.option_and_then};
 ghost use Rattle.county_problem.specs.ProblemValue.{problem_of};
 ghost use Rattle.grouping_laws.specs.Grouping.{Lawful};
 ghost use Rattle.grouping_report.specs.GroupingText.{grouping_text as text_of};
@@ -9,13 +8,14 @@ ghost use Rattle.grouping_report.specs.Outcomes.{NamesLawful};
 ghost use Rattle.grouping_report.specs.declared.outcome.Outcome.TheVariants as outcome;
 ghost use Rattle.certificate_data.specs.TreeValue.{certificate_of};
 ghost use Rattle.certificate_text.specs.Spelling.{IsSpelling};
-ghost use Rattle.branch_bound.specs.Answers.{IsSolveAnswer, SolveIsRight};
+ghost use Rattle.board_report.specs.{EventSpelling.text_of_events, Resuming.resuming_events};
+ghost use Rattle.branch_bound.specs.Answers.{IsFoundOpen, IsSolveAnswer, SolveIsRight};
 ghost use Rattle.branch_bound.specs.declared.answer.Answer.TheVariants as solver;
-ghost use Rattle.cli_runs.specs.SolveCourse.{SaysSolved, IsSolved};
+ghost use Rattle.cli_runs.specs.{SolveCourse.{SaysSolved, IsSolved}, Texts.{solved_of, tabled_of}};
 ghost use Rattle.cli_runs.specs.TableCourse.{table_of as table_text_of};
-ghost use Rattle.cli_runs.specs.Texts.{solved_of, tabled_of};
 
 use crate::table_runs::{Tabled, table_of};
+use board_report::resuming_text;
 use branch_bound::{Answer as SolverAnswer, Watcher, solve_watched};
 use certificate_data::Certificate;
 use certificate_lines::WriteFault;
@@ -23,6 +23,7 @@ use certificate_text::write;
 use cli_answers::RunAnswer;
 use county_codes::Grouping;
 use grouping_report::{Outcome, grouping_text, report};
+use partial_trees::PartialTree;
 use std::alloc::{AllocError, Global};
 
 /// What `solve` says, and the texts for its files.
@@ -36,6 +37,8 @@ pub struct Solved {
     pub grouping: Option<Vec<u8>>,
     /// The table of that grouping, or `None` if no table is asked for.
     pub table: Option<Vec<u8>>,
+    /// The text of the events by which a board of that grouping goes on, if the steps ran out.
+    pub events: Option<Vec<u8>>,
 }
 
 /// Returns the text of a `certificate` that has one.
@@ -70,6 +73,7 @@ fn report_best(
         certificate: Some(lines),
         grouping: Some(groups),
         table,
+        events: None,
     })
 }
 
@@ -89,6 +93,7 @@ fn report_impossible(
         certificate: Some(lines),
         grouping: None,
         table: None,
+        events: None,
     })
 }
 
@@ -118,24 +123,47 @@ fn table_of_found(
     }
 }
 
-/// Returns what is said if the steps ran out after this number of `steps`, with the grouping that was `found`, if any.
+/// Returns the text of the events by which a board of the grouping that was `found` goes on, if there is one. `part` is
+/// what was proved of that grouping being best.
+fn events_of_found(
+    alloc: Global,
+    tabled: &Tabled,
+    found: &Option<Grouping>,
+    part: Option<PartialTree>,
+) -> Result<Option<Vec<u8>>, AllocError>
+    requires { (limit : ℕ) × IsFoundOpen (problem_of tabled.now.problem) limit found.now part }
+    ensures { IfOk result (λ events. option_map (λ t. t.items) events
+        ≡ option_map (λ _. text_of_events (resuming_events part)) found.now) }
+{
+    match found {
+        Some(_) => Ok(Some(resuming_text(alloc, &tabled.problem, part)?)),
+        None => Ok(None),
+    }
+}
+
+/// Returns what is said if the steps ran out after this number of `steps`, with the grouping that was `found`, if any,
+/// and the `part` that was proved of it being best.
 fn report_open(
     alloc: Global,
     tabled: &Tabled,
     found: Option<Grouping>,
+    part: Option<PartialTree>,
     steps: u64,
 ) -> Result<Solved, AllocError>
-    requires { NamesLawful tabled.now.problem (outcome.Open found steps) }
-    ensures { IfOk result (λ s. SaysSolved (tabled_of tabled.now) (solver.Open found steps) (solved_of s)) }
+    requires lawful { NamesLawful tabled.now.problem (outcome.Open found steps) }
+    requires part { (limit : ℕ) × IsFoundOpen (problem_of tabled.now.problem) limit found part }
+    ensures { IfOk result (λ s. SaysSolved (tabled_of tabled.now) (solver.Open found part steps) (solved_of s)) }
 {
     let groups = lines_of(alloc, &found)?;
     let table = table_of_found(alloc, tabled, &found)?;
+    let events = events_of_found(alloc, tabled, &found, part)?;
     let text = report(alloc, &tabled.problem, &Outcome::Open(found, steps))?;
     Ok(Solved {
         answer: RunAnswer { text, status: 3 },
         certificate: None,
         grouping: groups,
         table,
+        events,
     })
 }
 
@@ -153,13 +181,15 @@ fn report_answer(alloc: Global, tabled: &Tabled, found: SolverAnswer) -> Result<
             certificate,
         ),
         SolverAnswer::Impossible(certificate) => report_impossible(alloc, tabled, certificate),
-        SolverAnswer::Open { found, steps } => report_open(alloc, tabled, found, steps),
+        SolverAnswer::Open { found, part, steps } => {
+            report_open(alloc, tabled, found, part, steps)
+        }
     }
 }
 
 /// Returns what `solve` says of a problem. The solver takes at most this number of `steps`. Its answer is told as a
-/// report, with the texts of its certificate, of its grouping and of its table. `watcher` is told how far the search
-/// is, and changes nothing of what is said.
+/// report, with the texts of its certificate, of its grouping, of its table and of its events. `watcher` is told how
+/// far the search is, and changes nothing of what is said.
 ///
 /// # Errors
 ///

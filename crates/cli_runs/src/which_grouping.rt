@@ -1,7 +1,6 @@
 //! The number of a grouping in a list of groupings, by its sets.
 
-ghost use Rattle.std.specs.Prelude.{◌≡◌, ◌++◌, OnOk, map};
-ghost use Rattle.std.specs.List.{list_all, list_any};
+ghost use Rattle.std.specs.{Prelude.{◌≡◌, ◌++◌, OnOk, map}, List.{list_all, list_any}};
 ghost use Rattle.grouping_laws.specs.Sets.{contains};
 ghost use Rattle.list_groupings.specs.Walking.{sets_held};
 ghost use Rattle.cli_runs.specs.WhichGrouping.{have_same_counties as are_same_counties, has_sets_of as has_its_sets};

@@ -1,11 +1,10 @@
 -- What the getters read of the options that have a value.
-use Rattle.std.proofs.Common.{◌++◌, ◌∷◌, [], ◌≡◌, ◌⊎◌, ◌∙◌, ◌<◌, ◌≤◌, ◌^◌, ℕ, Bool, true, false, true≢false, refl, sym, ap, subst, inl, inr, List, Option, Some, None, Result, codes, is_some}
+use Rattle.std.proofs.Common.{◌++◌, ◌∷◌, [], ◌≡◌, ◌⊎◌, ◌∙◌, ◌<◌, ◌≤◌, ◌^◌, ℕ, Bool, true, false, refl, sym, ap, subst, inl, inr, List, Option, Some, None, Result, is_some}
 use Rattle.std.specs.Prelude.{find, option_and_then, option_map, pos, slice_get}
 use Rattle.std.specs.Str.{bytes_eq}
-use Rattle.std.proofs.lemmas.List.Elements.{All-cons, All-head, All-nil, All-tail}
 use Rattle.std.specs.Borrow.{Bor}
 use Rattle.std.specs.Option.{IsSomeAnd}
-use Rattle.std.specs.Str.Parse.{ExplainsUnsignedError, HasUnsignedDigitsIfOk, ParsesUnsigned}
+use Rattle.std.specs.Str.Parse.{ExplainsUnsignedError, HasUnsignedDigitsIfOk, ParsesUnsigned, signed_digits_value}
 use Rattle.std.specs.declared.num.ParseIntError.{ParseIntError}
 use Rattle.clap.specs.Lexer.{without_minus}
 use Rattle.clap.specs.Matches.{ReadsOne, first_value, one_text}
@@ -18,18 +17,13 @@ use Rattle.clap.specs.declared.builder.value_parser.ValueParser.TheVariants.{Sig
 use Rattle.clap.specs.declared.parser.matches.Found.{Found}
 use Rattle.clap.proofs.CallerLemmas.{some_of_text}
 use Rattle.clap.proofs.WalkLemmas.{first_value-rows, one_text-rows}
-use Rattle.cli_words.specs.Options.{HasItsValue, HasNone, HasValue, HasValues, Spells, always_has_value}
+use Rattle.cli_words.specs.Options.{HasNone, HasValue, HasValues, Spells}
 use Rattle.cli_words.specs.Words.{GivesItsNumber, GivesNumber, GivesText}
 use Rattle.cli_words.proofs.NumberLemmas.{signed_spells, unsigned_spells}
 
 -- what `from_str` gives at an unsigned type of k bits
 abbrev pub Parses : ℕ → List ℕ → Result ℕ ParseIntError → Type 0
 Parses k text r = ParsesUnsigned k 10 text r × ExplainsUnsignedError 10 text r × HasUnsignedDigitsIfOk text r
-
--- an option that is required or has a default has a value
-pub surely : (rows : List Row) (a : Rule) → always_has_value a ≡ true → HasValue rows a ⊎ HasNone rows a → HasValue rows a
-surely rows a always (inl h) = h
-surely rows a always (inr h) = absurd (true≢false (sym always ∙ h.optional))
 
 module _ (f : Found) (a : Rule) (bare : slice_get a.defaults 0 ≡ None) where
   -- a value of an option without a default is one that the words give
@@ -47,6 +41,12 @@ module _ (f : Found) (a : Rule) (bare : slice_get a.defaults 0 ≡ None) where
   text_given (inr h) None is = h.absent
   text_given (inr h) (Some s) is = let bad : Some s.now ≡ None = is ∙ (first_value-rows f a.id ∙ h.none) in cc
 
+-- what the words say by a number that was read: it is the option's, in its range, and the default's where they give none
+pub record SaysNumber (f : Found) (a : Rule) (low high n : ℕ) : Type 0 where
+  pub given : GivesNumber a.id (rows_of f) n
+  pub range : (low ≤ n) × (n ≤ high)
+  pub default : (text : Text) (d : ℕ) → slice_get a.defaults 0 ≡ Some text → signed_digits_value 10 text ≡ pos d → is_given a.id (rows_of f) ≡ false → n ≡ d
+
 module _ (f : Found) (a : Rule) (h : HasValue (rows_of f) a) where
   -- `get_str` gives the option's value
   pub text_read : (o : Option (Bor Text)) → option_map (λ s. s.now) o ≡ first_value f a.id → is_some o ≡ true
@@ -54,6 +54,28 @@ module _ (f : Found) (a : Rule) (h : HasValue (rows_of f) a) where
 
   pub text_is : (o : Option (Bor Text)) (s : Bor Text) → option_map (λ x. x.now) o ≡ first_value f a.id → o ≡ Some s → first_of a.id (rows_of f) ≡ Some s.now
   text_is o s is some = sym (first_value-rows f a.id) ∙ (sym is ∙ ap (option_map (λ x. x.now)) some)
+
+  pub number_given : (n : ℕ) → Spells h.text n → GivesNumber a.id (rows_of f) n
+  number_given n spells = subst (λ (o : Option Text). IsSomeAnd o (λ t. Spells t n)) (sym h.first) spells
+
+  -- where the words give none, that is the default's number
+  default_is : (text : Text) (d n : ℕ) → slice_get a.defaults 0 ≡ Some text → signed_digits_value 10 text ≡ pos d → Spells h.text n → is_given a.id (rows_of f) ≡ false
+      → n ≡ d
+  default_is text d n is value spells none =
+      let same : h.text ≡ text = let one : Some h.text ≡ Some text = sym (h.default none) ∙ is in cc in
+      let spelled : Spells text n = subst (λ (t : Text). Spells t n) same spells in
+      let numbers : pos n ≡ pos d = sym spelled.1 ∙ value in
+      cc
+
+  -- the number that a read gave
+  number_said : (low high : ℕ) (r : Option ℕ) (v : ℕ) → (n : ℕ) × (r ≡ Some n) × (low ≤ n) × (n ≤ high) × Spells h.text n → r ≡ Some v → SaysNumber f a low high v
+  number_said low high r v read is =
+      let one : read.0 ≡ v = let same : Some read.0 ≡ Some v = sym read.1 ∙ is in cc in
+      subst (SaysNumber f a low high) one (record {
+        given = number_given read.0 read.4;
+        range = (read.2, read.3);
+        default = λ text d bare value none. default_is text d read.0 bare value read.4 none;
+      })
 
   module _ (k low high : ℕ) (r : Option ℕ) (reads : (t : List ℕ) → one_text f a.id ≡ Some t → ReadsOne (Parses k) t r) (fits : high < 2 ^ k) where
     read_by : (p : ValueParser) → a.parser ≡ Some p → (one_text f a.id ≡ Some (read_as (reading_of p) h.text)) × Accepts a.ignore_case p h.text
@@ -74,21 +96,12 @@ module _ (f : Found) (a : Rule) (h : HasValue (rows_of f) a) where
         let by = read_by (Unsigned low high) parser in
         unsigned_spells ParseIntError (Parses k) k low high h.text r (reads h.text by.0) (λ u x given. given.0) fits by.1
 
-  -- the number that a read gave
-  pub number_is : (low high : ℕ) (r : Option ℕ) (v : ℕ) → (n : ℕ) × (r ≡ Some n) × (low ≤ n) × (n ≤ high) × Spells h.text n → r ≡ Some v
-      → (low ≤ v) × (v ≤ high) × Spells h.text v
-  number_is low high r v read is =
-      let one : read.0 ≡ v = let same : Some read.0 ≡ Some v = sym read.1 ∙ is in cc in
-      subst (λ (n : ℕ). (low ≤ n) × (n ≤ high) × Spells h.text n) one (read.2, read.3, read.4)
+    -- so the words say it
+    pub signed_said : a.parser ≡ Some (Signed (pos low) (pos high)) → (v : ℕ) → r ≡ Some v → SaysNumber f a low high v
+    signed_said parser v is = number_said low high r v (signed_read parser) is
 
-  pub number_given : (n : ℕ) → Spells h.text n → GivesNumber a.id (rows_of f) n
-  number_given n spells = subst (λ (o : Option Text). IsSomeAnd o (λ t. Spells t n)) (sym h.first) spells
-
-  -- where the words give none, that is the default's number
-  pub default_spells : (text : Text) (n : ℕ) → is_given a.id (rows_of f) ≡ false → slice_get a.defaults 0 ≡ Some text → Spells h.text n → Spells text n
-  default_spells text n none is spells =
-      let same : h.text ≡ text = let one : Some h.text ≡ Some text = sym (h.default none) ∙ is in cc in
-      subst (λ (t : Text). Spells t n) same spells
+    pub unsigned_said : a.parser ≡ Some (Unsigned low high) → (v : ℕ) → r ≡ Some v → SaysNumber f a low high v
+    unsigned_said parser v is = number_said low high r v (unsigned_read parser) is
 
 -- where there is no first value, no getter reads one
 one_of_none : (id : Text) (o : Option Row) → option_and_then (λ (r : Row). slice_get r.values 0) o ≡ None → option_and_then row_text o ≡ None
@@ -106,12 +119,7 @@ module _ (f : Found) (a : Rule) (bare : slice_get a.defaults 0 ≡ None) (k low 
   its_number_given (inr h) =
       subst (GivesItsNumber a.id (rows_of f)) (sym (none (one_text-rows f a.id ∙ one_of_none a.id (find (λ (x : Row). bytes_eq x.id a.id) (rows_of f)) h.none))) h.absent
 
--- the default of the options of steps
-pub is_ten_million : (n : ℕ) → Spells (codes "10000000") n → n ≡ 10000000
-is_ten_million n spells = let same : pos 10000000 ≡ pos n = spells.1 in cc
-
 -- the values of the first of these options
 pub front_values : (options more : List Rule) (rows : List Row) → HasValues (options ++ more) rows → HasValues options rows
-front_values [] more rows h = All-nil (HasItsValue rows)
-front_values (x ∷ xs) more rows h =
-    All-cons (HasItsValue rows) x xs (All-head (HasItsValue rows) x (xs ++ more) h) (front_values xs more rows (All-tail (HasItsValue rows) x (xs ++ more) h))
+front_values [] more rows h = tt
+front_values (x ∷ xs) more rows h = (h.0, front_values xs more rows h.1)

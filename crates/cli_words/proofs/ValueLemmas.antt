@@ -26,7 +26,7 @@ use Rattle.clap.specs.declared.parser.matches.ValueSource.TheVariants.{CommandLi
 use Rattle.clap.proofs.WalkLemmas.{both}
 use Rattle.clap.proofs.SimpleLemmas.{is_false}
 use Rattle.clap.proofs.ValueTestLemmas.{accepts-Accepts}
-use Rattle.cli_words.specs.Options.{HasNone, HasValue, HasValues, always_has_value, is_set, takes_value}
+use Rattle.cli_words.specs.Options.{HasNone, HasValue, HasValueIf, HasValues, always_has_value, is_set, takes_value}
 use Rattle.cli_words.proofs.KeyLemmas.{each_by_own_key, find-All, found_any, keys_differ, none_passes, same_by_key, same_bytes}
 use Rattle.cli_words.proofs.WalkLemmas.{IsFoundIn, neither, settle_keeps, walk_keeps}
 
@@ -370,15 +370,32 @@ module _ (s : Shape) (words : List Text) (a : Rule) (e : level_fault s [] nothin
         none = ap (option_and_then (λ (x : Row). slice_get x.values 0)) found;
       })
 
-in_front : (P : Rule → Type 0) (options rest : List Rule) → All P (map filled options ++ rest) → All (λ option. P (filled option)) options
-in_front P [] rest all = All-nil (λ option. P (filled option))
-in_front P (x ∷ xs) rest all = All-cons (λ option. P (filled option)) x xs (All-head P _ _ all) (in_front P xs rest (All-tail P _ _ all))
+-- an option that is required or has a default has a value
+surely : (rows : List Row) (a : Rule) → always_has_value a ≡ true → HasValue rows a ⊎ HasNone rows a → HasValue rows a
+surely rows a always (inl h) = h
+surely rows a always (inr h) = absurd (true≢false (sym always ∙ h.optional))
+
+-- an option that takes a value has its own, or rightly none
+abbrev HasIfTaken : List Row → Rule → Type 0
+HasIfTaken rows a = takes_value a ≡ true → HasValue rows a ⊎ HasNone rows a
+
+has_value_if : (rows : List Row) (a : Rule) → HasIfTaken rows a → (takes always : Bool) → takes_value a ≡ takes → always_has_value a ≡ always → HasValueIf takes always rows a
+has_value_if rows a h false always takes is = tt
+has_value_if rows a h true true takes is = surely rows a is (h takes)
+has_value_if rows a h true false takes is = h takes
+
+in_front : (rows : List Row) (options rest : List Rule) → All (HasIfTaken rows) (map filled options ++ rest) → HasValues options rows
+in_front rows [] rest all = tt
+in_front rows (x ∷ xs) rest all = (
+  has_value_if rows (filled x) (All-head (HasIfTaken rows) _ _ all) _ _ refl refl,
+  in_front rows xs rest (All-tail (HasIfTaken rows) _ _ all),
+)
 
 -- so it has the values of the options that clap completes in its first places
 pub level_values : (s : Shape) (words : List Text) (options rest : List Rule) → level_fault s [] nothing_held words false [] ≡ [] → keys_differ (λ (b : Rule). b.id) s.rules ≡ true
     → s.rules ≡ map filled options ++ rest → HasValues options (rows_after s.rules [] words)
 level_values s words options rest e differ is =
     let rows = rows_after s.rules [] words in
-    let each : All (λ a. takes_value a ≡ true → HasValue rows a ⊎ HasNone rows a) s.rules =
+    let each : All (HasIfTaken rows) s.rules =
     λ k d lt. level_value s words (slice_index_or s.rules k d) e differ (each_by_own_key (λ (b : Rule). b.id) s.rules differ k d lt) in
-    in_front (λ a. takes_value a ≡ true → HasValue rows a ⊎ HasNone rows a) options rest (subst (All (λ a. takes_value a ≡ true → HasValue rows a ⊎ HasNone rows a)) is each)
+    in_front rows options rest (subst (All (HasIfTaken rows)) is each)

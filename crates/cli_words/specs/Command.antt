@@ -28,14 +28,39 @@ with_default text option = record option { defaults = text ∷ [] }
 abbrev pub of_steps : Rule → Rule
 of_steps option = with_default (codes "10000000") (record option { parser = Some (Unsigned 0 18446744073709551615) })
 
+-- `--chamber SEATS`, which must be given
+abbrev pub chamber_option : Rule
+chamber_option = of_number 1 1000 (required (text_option (codes "chamber")))
+
+-- `--state CODE`, by default 37
+abbrev pub state_option : Rule
+state_option = with_default (codes "37") (of_number 0 99 (text_option (codes "state")))
+
+-- `--part PART`, the part of the allowance, by default 1
+abbrev pub part_option : Rule
+part_option = with_default (codes "1") (of_number 0 500 (text_option (codes "part")))
+
+-- `--of OF`, the whole of the allowance, by default 20
+abbrev pub whole_option : Rule
+whole_option = with_default (codes "20") (of_number 1 1000 (text_option (codes "of")))
+
+-- `--name NUMBER`
+abbrev pub number_option : Text → Rule
+number_option name = of_number 0 4294967295 (text_option name)
+
+-- `--limit COUNTIES`, the limit of a board's first round
+abbrev pub limit_option : Rule
+limit_option = of_number 0 65535 (text_option (codes "limit"))
+
+-- `--depth BRANCHINGS`, how many branchings stand above a board's pieces at most
+abbrev pub depth_option : Rule
+depth_option = of_number 0 255 (text_option (codes "depth"))
+
 -- the options of each subcommand: the two files, the number of seats, the state, the two numbers of the allowance, and
 -- the file of the record, which need not be given
 abbrev pub common_options : List Rule
 common_options = required (text_option (codes "geo")) ∷ required (text_option (codes "segment"))
-    ∷ of_number 1 1000 (required (text_option (codes "chamber")))
-    ∷ with_default (codes "37") (of_number 0 99 (text_option (codes "state")))
-    ∷ with_default (codes "1") (of_number 0 500 (text_option (codes "part")))
-    ∷ with_default (codes "20") (of_number 1 1000 (text_option (codes "of"))) ∷ text_option (codes "record") ∷ []
+    ∷ chamber_option ∷ state_option ∷ part_option ∷ whole_option ∷ text_option (codes "record") ∷ []
 
 -- the options that give a problem: those of each subcommand, the file of adjacency, and those of links and
 -- of withdrawn sets, which need not be given
@@ -55,12 +80,12 @@ judge_options =
     ++ text_option (codes "certificate") ∷ of_steps (text_option (codes "budget")) ∷ text_option (codes "table") ∷ []
 
 -- the options of `solve`: those that give a problem, the most steps of the search, and the files of the certificate, of
--- the grouping and of the table, which need not be given
+-- the grouping, of the table and of the events, which need not be given
 abbrev pub solve_options : List Rule
 solve_options =
     problem_options
     ++ of_steps (text_option (codes "steps")) ∷ text_option (codes "certificate") ∷ text_option (codes "out")
-    ∷ text_option (codes "table") ∷ []
+    ∷ text_option (codes "table") ∷ text_option (codes "events") ∷ []
 
 -- the options that give a certificate: those that give a problem, the file of the certificate, and the most steps of
 -- the checker
@@ -84,15 +109,13 @@ audit_options =
 abbrev pub list_options : List Rule
 list_options =
     certificate_options
-    ++ of_number 0 4294967295 (text_option (codes "number")) ∷ text_option (codes "out")
-    ∷ text_option (codes "which") ∷ text_option (codes "groupings") ∷ []
+    ++ number_option (codes "number") ∷ text_option (codes "out") ∷ text_option (codes "which")
+    ∷ text_option (codes "groupings") ∷ []
 
 -- the options that give a board: those that give a problem and a grouping, the limit of its first round in counties,
 -- and how many branchings stand above its pieces at most; these two need not be given
 abbrev pub board_options : List Rule
-board_options =
-    grouping_options
-    ++ of_number 0 65535 (text_option (codes "limit")) ∷ of_number 0 255 (text_option (codes "depth")) ∷ []
+board_options = grouping_options ++ limit_option ∷ depth_option ∷ []
 
 -- the options of `share`: those that give a board, the file of the events, the most steps of a test, and the file of
 -- the certificate, which need not be given
@@ -106,8 +129,8 @@ share_options =
 -- number of a piece, and the most steps of the search
 abbrev pub piece_options : List Rule
 piece_options =
-    board_options ++ text_option (codes "events") ∷ of_number 0 4294967295 (required (text_option (codes "round")))
-    ∷ of_number 0 4294967295 (required (text_option (codes "number"))) ∷ of_steps (text_option (codes "steps")) ∷ []
+    board_options ++ text_option (codes "events") ∷ required (number_option (codes "round"))
+    ∷ required (number_option (codes "number")) ∷ of_steps (text_option (codes "steps")) ∷ []
 
 -- the options of `board`: those of `share`, but for the file of the events
 abbrev pub serve_options : List Rule

@@ -1,7 +1,6 @@
 -- What the values of a subcommand's options are, where the words are taken.
-use Rattle.std.specs.Prelude.{◌≡◌, ◌⊎◌, ◌&&◌, ◌||◌, not, ℕ, Bool, true, false, Some, None, List, find, pos, slice_get}
+use Rattle.std.specs.Prelude.{◌≡◌, ◌⊎◌, ◌&&◌, ◌||◌, ⊤, not, ℕ, Bool, true, false, Some, None, List, [], ◌∷◌, find, pos, slice_get}
 use Rattle.std.specs.Prelude.{nat_lt}
-use Rattle.std.specs.List.{All}
 use Rattle.std.specs.Option.{IsSomeAnd}
 use Rattle.std.specs.Str.{bytes_eq}
 use Rattle.std.specs.Str.Parse.{IsNumeral, signed_digits_value, without_leading_sign}
@@ -41,14 +40,21 @@ pub record HasNone (rows : List Row) (option : Rule) : Type 0 where
   pub absent : is_given option.id rows ≡ false
   pub none : first_of option.id rows ≡ None
 
--- the rows have the option's value, as clap completes it, or rightly none, if it takes one
+-- the rows have the option's value, if it takes one, or rightly none, if it doesn't always have one
+abbrev pub HasValueIf : (takes always : Bool) → List Row → Rule → Type 0
+HasValueIf false always rows option = ⊤
+HasValueIf true true rows option = HasValue rows option
+HasValueIf true false rows option = HasValue rows option ⊎ HasNone rows option
+
+-- the rows have the option's value, as clap completes it, or rightly none
 abbrev pub HasItsValue : List Row → Rule → Type 0
 HasItsValue rows option =
-    takes_value (filled option) ≡ true → HasValue rows (filled option) ⊎ HasNone rows (filled option)
+    HasValueIf (takes_value (filled option)) (always_has_value (filled option)) rows (filled option)
 
 -- the rows have the value of each of the options, as clap completes it, or rightly none
 abbrev pub HasValues : List Rule → List Row → Type 0
-HasValues options rows = All (HasItsValue rows) options
+HasValues [] rows = ⊤
+HasValues (option ∷ more) rows = HasItsValue rows option × HasValues more rows
 
 -- the name is that of a subcommand, and the rows have the values of its options
 abbrev pub HasCommand : Text × List Row → Type 0

@@ -99,7 +99,7 @@ pub record SaysJudge (rows : List Row) (words : JudgeWords) : Type 0 where
   pub table : GivesText (codes "table") rows words.table
 
 -- the values of the options of `solve` say which problem is meant, how many steps the search may take, and
--- the files that its certificate, its grouping and its table are written to
+-- the files that its certificate, its grouping, its table and its events are written to
 pub record SaysSolve (rows : List Row) (words : SolveWords) : Type 0 where
   pub problem : SaysProblem rows words.problem
   pub steps : GivesNumber (codes "steps") rows words.steps
@@ -107,6 +107,7 @@ pub record SaysSolve (rows : List Row) (words : SolveWords) : Type 0 where
   pub certificate : GivesText (codes "certificate") rows words.certificate
   pub out : GivesText (codes "out") rows words.out
   pub table : GivesText (codes "table") rows words.table
+  pub events : GivesText (codes "events") rows words.events
 
 -- the values of the options that give a certificate say which problem and which certificate are meant, and how many
 -- steps the checker may take

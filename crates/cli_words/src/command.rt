@@ -1,11 +1,7 @@
 //! The command `countygroups`, as `clap` parses it.
 ghost use Rattle.std.specs.Prelude.{◌≡◌, IfOk, codes, false};
 ghost use Rattle.clap.specs.Words.{app_of, rule_of};
-ghost use Rattle.cli_words.specs.Command.{AddsCommand, AddsOption, HasMore, HasShape, countygroups, countygroups_alone};
-ghost use Rattle.cli_words.specs.Command.{subcommand, of_number, common_options, problem_options, judge_options};
-ghost use Rattle.cli_words.specs.Command.{solve_options, check_options, audit_options, list_options, board_options};
-ghost use Rattle.cli_words.specs.Command.{certificate_options, share_options, piece_options, serve_options};
-ghost use Rattle.cli_words.specs.Command.{desk_options, of_steps, required, text_option, with_default};
+ghost use Rattle.cli_words.specs.Command.{AddsCommand, AddsOption, HasMore, HasShape, audit_options, board_options, certificate_options, chamber_option, check_options, common_options, countygroups, countygroups_alone, depth_option, desk_options, judge_options, limit_option, list_options, number_option, of_steps, part_option, piece_options, problem_options, required, serve_options, share_options, solve_options, state_option, subcommand, text_option, whole_option};
 
 use crate::version::VERSION;
 use clap::{Arg, ArgAction, Command, value_parser};
@@ -68,6 +64,9 @@ Exit status:
 
 /// What `solve --help` ends with.
 const AFTER_SOLVE: &str = "\
+If the steps run out, --events stores what was proved by then, as events. The proof goes on from
+there on a board of the grouping of --out that `share`, `piece` or `board` gives these events.
+
 Example:
   countygroups solve --geo nc2020geo.pl --segment nc000012020.pl --chamber 50 \\
       --adjacency county_adjacency2023.txt --certificate senate.certificate --out senate.grouping
@@ -76,7 +75,7 @@ Exit status:
   0  the grouping is the best one; it, its certificate and its table are stored
   1  no grouping is lawful; the certificate of it is stored
   2  the words are no command
-  3  the steps ran out; a lawful grouping that was found is stored, and its table
+  3  the steps ran out; a lawful grouping that was found is stored, its table and its events
   4  a file or the problem was refused
   5  a file could not be read or stored, memory was refused, or the answer could not be written";
 
@@ -232,7 +231,7 @@ fn file_option<'a>(alloc: Global, name: &'a str, help: &'a str) -> Arg<'a>
 
 /// Creates the required option `--chamber SEATS`, from 1 to 1000.
 fn chamber_option<'a>(alloc: Global) -> Arg<'a>
-    ensures rule { rule_of result ≡ of_number 1 1000 (required (text_option (codes "chamber"))) }
+    ensures rule { rule_of result ≡ chamber_option }
     ensures local { result.global ≡ false }
 {
     text_option(alloc, "chamber", "SEATS", "The number of seats, 1 to 1000")
@@ -242,7 +241,7 @@ fn chamber_option<'a>(alloc: Global) -> Arg<'a>
 
 /// Creates the option `--state CODE`, from 0 to 99. The default is North Carolina's 37.
 fn state_option<'a>(alloc: Global) -> Arg<'a>
-    ensures rule { rule_of result ≡ with_default (codes "37") (of_number 0 99 (text_option (codes "state"))) }
+    ensures rule { rule_of result ≡ state_option }
     ensures local { result.global ≡ false }
 {
     text_option(alloc, "state", "CODE", "The state's FIPS code, 0 to 99")
@@ -252,7 +251,7 @@ fn state_option<'a>(alloc: Global) -> Arg<'a>
 
 /// Creates the option `--part PART`, the part of the allowance, from 0 to 500. The default is 1.
 fn part_option<'a>(alloc: Global) -> Arg<'a>
-    ensures rule { rule_of result ≡ with_default (codes "1") (of_number 0 500 (text_option (codes "part"))) }
+    ensures rule { rule_of result ≡ part_option }
     ensures local { result.global ≡ false }
 {
     let help =
@@ -264,7 +263,7 @@ fn part_option<'a>(alloc: Global) -> Arg<'a>
 
 /// Creates the option `--of OF`, the whole of the allowance, from 1 to 1000. The default is 20.
 fn whole_option<'a>(alloc: Global) -> Arg<'a>
-    ensures rule { rule_of result ≡ with_default (codes "20") (of_number 1 1000 (text_option (codes "of"))) }
+    ensures rule { rule_of result ≡ whole_option }
     ensures local { result.global ≡ false }
 {
     let help = "The OF of that fraction, at least twice PART: 1 to 1000. \
@@ -397,7 +396,14 @@ fn solve_command<'a>(alloc: Global) -> Result<Command<'a>, AllocError>
     let made = with_option(made, certificate);
     let out = text_option(alloc, "out", "FILE", "The file to write the grouping to");
     let made = with_option(made, out);
-    with_option(made, table_option(alloc))
+    let made = with_option(made, table_option(alloc));
+    let events = text_option(
+        alloc,
+        "events",
+        "FILE",
+        "The file to write the events to that go on where the steps ran out",
+    );
+    with_option(made, events)
 }
 
 /// Returns the `command` with the options that give a certificate: those that give a problem, the certificate and the
@@ -428,7 +434,7 @@ fn check_command<'a>(alloc: Global) -> Result<Command<'a>, AllocError>
 
 /// Creates an option `--name NUMBER`, from 0 to 4,294,967,295.
 fn number_option<'a>(alloc: Global, name: &'a str, help: &'a str) -> Arg<'a>
-    ensures rule { rule_of result ≡ of_number 0 4294967295 (text_option name.entry.now) }
+    ensures rule { rule_of result ≡ number_option name.entry.now }
     ensures local { result.global ≡ false }
 {
     text_option(alloc, name, "NUMBER", help).value_parser(value_parser!(u32).range(0..=4294967295))
@@ -496,7 +502,7 @@ fn audit_command<'a>(alloc: Global) -> Result<Command<'a>, AllocError>
 
 /// Creates the option `--limit COUNTIES`, from 0 to 65,535.
 fn limit_option<'a>(alloc: Global) -> Arg<'a>
-    ensures rule { rule_of result ≡ of_number 0 65535 (text_option (codes "limit")) }
+    ensures rule { rule_of result ≡ limit_option }
     ensures local { result.global ≡ false }
 {
     let help = "The most counties of a group in the first round, 0 to 65535";
@@ -505,7 +511,7 @@ fn limit_option<'a>(alloc: Global) -> Arg<'a>
 
 /// Creates the option `--depth BRANCHINGS`, from 0 to 255.
 fn depth_option<'a>(alloc: Global) -> Arg<'a>
-    ensures rule { rule_of result ≡ of_number 0 255 (text_option (codes "depth")) }
+    ensures rule { rule_of result ≡ depth_option }
     ensures local { result.global ≡ false }
 {
     let help = "The most branchings above a piece, 0 to 255 (with --limit)";
@@ -546,7 +552,7 @@ fn share_command<'a>(alloc: Global) -> Result<Command<'a>, AllocError>
 
 /// Creates a required option `--name NUMBER`, from 0 to 4,294,967,295.
 fn required_number_option<'a>(alloc: Global, name: &'a str, help: &'a str) -> Arg<'a>
-    ensures rule { rule_of result ≡ of_number 0 4294967295 (required (text_option name.entry.now)) }
+    ensures rule { rule_of result ≡ required (number_option name.entry.now) }
     ensures local { result.global ≡ false }
 {
     number_option(alloc, name, help).required(true)

@@ -11,13 +11,15 @@
 //! that part, and `front_values` gives the values of the options in front of its own.
 //!
 //! An option which is required or has a default has a value wherever `clap` takes the words. Any other option has one
-//! exactly where it is given. The lemma `level_values` says this for any list of options. What the getters read of
-//! these values is in `proofs/ReadLemmas.antt`: `text_is`, `text_given` for a text that need not be given,
-//! `signed_read`, and `unsigned_read` for a `u64`.
+//! exactly where it is given. The lemma `level_values` says this for any list of options. The values are read in
+//! `values.rt`, by one function for each kind: `path`, `path_or_none`, `steps`, `number`, `number_or_none`. What the
+//! getters of `clap` give is in `proofs/ReadLemmas.antt`: `text_is`, `text_given` for a text that need not be given,
+//! `signed_said`, and `unsigned_said` for a `u64`.
 #![tactic(auto)]
 
 mod command;
 mod end;
+mod values;
 mod version;
 mod words;
 

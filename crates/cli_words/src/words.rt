@@ -1,22 +1,17 @@
 //! The command that the words name.
-ghost use Rattle.std.specs.Prelude.{◌≡◌, ◌≢◌, ◌⊎◌, [], IfErr, IfOk, MatchResult, None, Some, true, codes};
+ghost use Rattle.std.specs.Prelude.{◌≡◌, ◌⊎◌, [], IfErr, IfOk, MatchResult, None, Some, true, codes};
 ghost use Rattle.std.specs.Option.{IsSomeAnd};
-ghost use Rattle.clap.specs.Takes.{is_given};
-ghost use Rattle.clap.specs.Walk.{texts};
-ghost use Rattle.clap.specs.Words.{FailsBy, first_of, found_of, kind_of, rows_of, subcommand_rows_of};
-ghost use Rattle.cli_words.specs.Command.{audit_options, board_options, certificate_options, check_options};
-ghost use Rattle.cli_words.specs.Command.{common_options, desk_options, grouping_options, judge_options, list_options};
-ghost use Rattle.cli_words.specs.Command.{piece_options, problem_options, serve_options, share_options, solve_options};
+ghost use Rattle.clap.specs.{Walk.texts, Words.{FailsBy, first_of, found_of, kind_of, rows_of, subcommand_rows_of}};
+ghost use Rattle.cli_words.specs.Command.{audit_options, board_options, certificate_options, check_options, common_options, desk_options, grouping_options, judge_options, list_options, piece_options, problem_options, serve_options, share_options, solve_options};
 ghost use Rattle.cli_words.specs.Options.{HasCommand, HasValues};
-ghost use Rattle.cli_words.specs.Words.{AreUnpaired, EndsFor, EndsTaken, GivesRoundWords, GivesStored, GivesText, IsOptionsFault};
-ghost use Rattle.cli_words.specs.Words.{LacksLimit, Means, SaysAudit, SaysBoard, SaysCertificate, SaysCheck};
-ghost use Rattle.cli_words.specs.Words.{SaysCommand, SaysCommon, SaysDesk, SaysJudge, SaysList, SaysPiece};
-ghost use Rattle.cli_words.specs.Words.{SaysProblem, SaysServe, SaysShare, SaysSolve, SaysWindow};
-ghost use Rattle.cli_words.specs.Words.{faults_of, subcommand_in, takes_words};
+ghost use Rattle.cli_words.specs.Words.{AreUnpaired, EndsFor, EndsTaken, GivesRoundWords, GivesStored, GivesText, IsOptionsFault, LacksLimit, Means, SaysAudit, SaysBoard, SaysCertificate, SaysCheck, SaysCommand, SaysCommon, SaysDesk, SaysJudge, SaysList, SaysPiece, SaysProblem, SaysServe, SaysShare, SaysSolve, faults_of, subcommand_in, takes_words};
 ghost use Rattle.cli_words.specs.declared.end.OptionsFault.TheVariants.{Depth, NumberOrOut};
 
 use crate::command::program;
 use crate::end::{OptionsFault, WordsEnd};
+use crate::values::{
+    chamber, depth, limit, number, number_or_none, path, path_or_none, state, steps, window,
+};
 use clap::error::ErrorKind;
 use clap::{ArgMatches, Error};
 use county_codes::Window;
@@ -111,6 +106,8 @@ pub struct SolveWords<'a> {
     pub out: Option<&'a str>,
     /// The name of the file that the table is written to, where the words give one.
     pub table: Option<&'a str>,
+    /// The name of the file that the events are written to, where the words give one.
+    pub events: Option<&'a str>,
 }
 
 /// The options that give a certificate.
@@ -244,29 +241,18 @@ pub struct DeskWords<'a> {
     pub steps: u64,
 }
 
-/// Reads the allowance from the values of the options.
-fn window_words<'a>(found: &ArgMatches<'a>) -> Window
-    requires { HasValues common_options (rows_of (found_of found.now)) }
-    ensures { SaysWindow (rows_of (found_of found.now)) result }
-{
-    Window {
-        part: found.get_one::<u16>("part").unwrap(),
-        whole: found.get_one::<u16>("of").unwrap(),
-    }
-}
-
 /// Reads the values of the options that each subcommand has.
 fn common_words<'a>(found: &ArgMatches<'a>) -> CommonWords<'a>
     requires { HasValues common_options (rows_of (found_of found.now)) }
     ensures { SaysCommon (rows_of (found_of found.now)) result }
 {
     CommonWords {
-        geo: found.get_str("geo").unwrap(),
-        segment: found.get_str("segment").unwrap(),
-        chamber: found.get_one::<u16>("chamber").unwrap(),
-        state: found.get_one::<u8>("state").unwrap(),
-        window: window_words(found),
-        record_file: found.get_str("record"),
+        geo: path(found, "geo"),
+        segment: path(found, "segment"),
+        chamber: chamber(found),
+        state: state(found),
+        window: window(found),
+        record_file: path_or_none(found, "record"),
     }
 }
 
@@ -277,9 +263,9 @@ fn problem_words<'a>(found: &ArgMatches<'a>) -> ProblemWords<'a>
 {
     ProblemWords {
         common: common_words(found),
-        adjacency: found.get_str("adjacency").unwrap(),
-        links: found.get_str("links"),
-        withdrawn: found.get_str("withdrawn"),
+        adjacency: path(found, "adjacency"),
+        links: path_or_none(found, "links"),
+        withdrawn: path_or_none(found, "withdrawn"),
     }
 }
 
@@ -290,7 +276,7 @@ fn grouping_words<'a>(found: &ArgMatches<'a>) -> (ProblemWords<'a>, &'a str)
     ensures grouping { first_of (codes "grouping") (rows_of (found_of found.now)) ≡ Some result.1.now }
 {
     let problem = problem_words(found);
-    (problem, found.get_str("grouping").unwrap())
+    (problem, path(found, "grouping"))
 }
 
 /// Reads the values of the options of `judge`.
@@ -299,13 +285,13 @@ fn judge_words<'a>(found: &ArgMatches<'a>) -> JudgeWords<'a>
     ensures { SaysJudge (rows_of (found_of found.now)) result }
 {
     let (problem, grouping) = grouping_words(found);
-    let file = found.get_str("certificate");
+    let file = path_or_none(found, "certificate");
     JudgeWords {
         problem,
         grouping,
         certificate: file,
-        budget: found.get_one::<u64>("budget").unwrap(),
-        table: found.get_str("table"),
+        budget: steps(found, "budget"),
+        table: path_or_none(found, "table"),
     }
 }
 
@@ -316,10 +302,11 @@ fn solve_words<'a>(found: &ArgMatches<'a>) -> SolveWords<'a>
 {
     SolveWords {
         problem: problem_words(found),
-        steps: found.get_one::<u64>("steps").unwrap(),
-        certificate: found.get_str("certificate"),
-        out: found.get_str("out"),
-        table: found.get_str("table"),
+        steps: steps(found, "steps"),
+        certificate: path_or_none(found, "certificate"),
+        out: path_or_none(found, "out"),
+        table: path_or_none(found, "table"),
+        events: path_or_none(found, "events"),
     }
 }
 
@@ -330,8 +317,8 @@ fn certificate_words<'a>(found: &ArgMatches<'a>) -> CertificateWords<'a>
 {
     CertificateWords {
         problem: problem_words(found),
-        certificate: found.get_str("certificate").unwrap(),
-        budget: found.get_one::<u64>("budget").unwrap(),
+        certificate: path(found, "certificate"),
+        budget: steps(found, "budget"),
     }
 }
 
@@ -342,7 +329,7 @@ fn check_words<'a>(found: &ArgMatches<'a>) -> CheckWords<'a>
 {
     CheckWords {
         check: certificate_words(found),
-        table: found.get_str("table"),
+        table: path_or_none(found, "table"),
     }
 }
 
@@ -353,9 +340,9 @@ fn audit_words<'a>(found: &ArgMatches<'a>) -> AuditWords<'a>
 {
     AuditWords {
         problem: problem_words(found),
-        grouping: found.get_str("grouping").unwrap(),
-        assignments: found.get_str("assignments").unwrap(),
-        districts: found.get_str("districts"),
+        grouping: path(found, "grouping"),
+        assignments: path(found, "assignments"),
+        districts: path_or_none(found, "districts"),
     }
 }
 
@@ -368,8 +355,8 @@ fn stored_words<'a>(found: &ArgMatches<'a>) -> Result<Option<StoredWords<'a>>, O
         (GivesStored (rows_of (found_of found.now)))
         (λ fault. (fault ≡ NumberOrOut) × AreUnpaired (rows_of (found_of found.now))) }
 {
-    let number = found.get_one::<u32>("number");
-    let out = found.get_str("out");
+    let number = number_or_none(found, "number");
+    let out = path_or_none(found, "out");
     match number {
         Some(number) => match out {
             Some(out) => Ok(Some(StoredWords { number, out })),
@@ -400,7 +387,7 @@ fn list_words_with<'a>(
         check: certificate_words(found),
         stored,
         which,
-        groupings: found.get_str("groupings"),
+        groupings: path_or_none(found, "groupings"),
     }
 }
 
@@ -414,7 +401,7 @@ fn list_words<'a>(found: &ArgMatches<'a>) -> Result<ListWords<'a>, OptionsFault>
         (IsOptionsFault (codes "list", rows_of (found_of found.now))) }
 {
     let stored = stored_words(found)?;
-    let which = found.get_str("which");
+    let which = path_or_none(found, "which");
     match stored {
         None => Ok(list_words_with(found, None, which)),
         Some(_) => match which {
@@ -433,8 +420,8 @@ fn round_words<'a>(found: &ArgMatches<'a>) -> Result<RoundWords, OptionsFault>
         (GivesRoundWords (rows_of (found_of found.now)))
         (λ fault. (fault ≡ Depth) × LacksLimit (rows_of (found_of found.now))) }
 {
-    let limit = found.get_one::<u16>("limit");
-    let depth = found.get_one::<u8>("depth");
+    let limit = limit(found);
+    let depth = depth(found);
     match depth {
         Some(depth) => match limit {
             Some(limit) => Ok(RoundWords::Plain { limit, depth }),
@@ -471,11 +458,11 @@ fn share_words<'a>(found: &ArgMatches<'a>) -> Result<ShareWords<'a>, OptionsFaul
         (λ fault. (fault ≡ Depth) × LacksLimit (rows_of (found_of found.now))) }
 {
     let board = board_words(found)?;
-    let certificate = found.get_str("certificate");
+    let certificate = path_or_none(found, "certificate");
     Ok(ShareWords {
         board,
-        events: found.get_str("events").unwrap(),
-        budget: found.get_one::<u64>("budget").unwrap(),
+        events: path(found, "events"),
+        budget: steps(found, "budget"),
         certificate,
     })
 }
@@ -491,10 +478,10 @@ fn piece_words<'a>(found: &ArgMatches<'a>) -> Result<PieceWords<'a>, OptionsFaul
     let board = board_words(found)?;
     Ok(PieceWords {
         board,
-        events: found.get_str("events"),
-        round: found.get_one::<u32>("round").unwrap(),
-        number: found.get_one::<u32>("number").unwrap(),
-        steps: found.get_one::<u64>("steps").unwrap(),
+        events: path_or_none(found, "events"),
+        round: number(found, "round"),
+        number: number(found, "number"),
+        steps: steps(found, "steps"),
     })
 }
 
@@ -507,10 +494,10 @@ fn serve_words<'a>(found: &ArgMatches<'a>) -> Result<ServeWords<'a>, OptionsFaul
         (λ fault. (fault ≡ Depth) × LacksLimit (rows_of (found_of found.now))) }
 {
     let board = board_words(found)?;
-    let file = found.get_str("certificate");
+    let file = path_or_none(found, "certificate");
     Ok(ServeWords {
         board,
-        budget: found.get_one::<u64>("budget").unwrap(),
+        budget: steps(found, "budget"),
         certificate: file,
     })
 }
@@ -522,7 +509,7 @@ fn desk_words<'a>(found: &ArgMatches<'a>) -> DeskWords<'a>
 {
     DeskWords {
         problem: problem_words(found),
-        steps: found.get_one::<u64>("steps").unwrap(),
+        steps: steps(found, "steps"),
     }
 }
 

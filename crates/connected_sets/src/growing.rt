@@ -1,12 +1,9 @@
 //! The growth of connected sets, place by place. A test says what is kept, what is passed over and which place comes
 //! next.
 
-ghost use Rattle.std.specs.Prelude.{◌≡◌, ℕ, ◌+◌, Bool, List, ◌<◌, ◌≤◌, ◌&&◌, not, ◌==◌, MatchOption, MatchResult, OnOk};
-ghost use Rattle.std.specs.Prelude.{IfOk, IsErrOf, length};
-ghost use Rattle.connected_laws.specs.Growing.{IsCandidate, IsMove, IsWhole};
-ghost use Rattle.connected_laws.specs.Listing.{IsListed, HasStepped};
-ghost use Rattle.connected_sets.specs.Growths.{problem_in, places_in, size_in, IsSoundGrowth};
-ghost use Rattle.connected_sets.specs.Graphs.{IsGraph};
+ghost use Rattle.std.specs.Prelude.{◌≡◌, ℕ, ◌+◌, Bool, List, ◌<◌, ◌≤◌, ◌&&◌, not, ◌==◌, MatchOption, MatchResult, OnOk, IfOk, IsErrOf, length};
+ghost use Rattle.connected_laws.specs.{Growing.{IsCandidate, IsMove, IsWhole}, Listing.{IsListed, HasStepped}};
+ghost use Rattle.connected_sets.specs.{Growths.{problem_in, places_in, size_in, IsSoundGrowth}, Graphs.IsGraph};
 ghost use Rattle.connected_sets.specs.declared.stop.Stop.{Stop};
 
 use crate::growth_test::GrowthTest;

@@ -4,8 +4,7 @@ ghost use Rattle.std.specs.Prelude.{◌≡◌, ℕ, Bool, List, [], true, false,
 ghost use Rattle.place_sets.specs.PlaceSets.{places_of};
 ghost use Rattle.grouping_laws.specs.Problem.{Problem};
 ghost use Rattle.connected_laws.specs.Growing.{IsWhole, AreKept};
-ghost use Rattle.connected_sets.specs.Growths.{problem_in, places_in, IsSoundGrowth};
-ghost use Rattle.connected_sets.specs.Graphs.{IsGraph};
+ghost use Rattle.connected_sets.specs.{Growths.{problem_in, places_in, IsSoundGrowth}, Graphs.IsGraph};
 
 use crate::input::{Growth, GrowthInput};
 use county_problem::Ordered;

@@ -2,8 +2,7 @@
 
 ghost use Rattle.std.specs.Prelude.{◌≡◌, ℕ, IfOk};
 ghost use Rattle.place_sets.specs.Lists.{contains};
-ghost use Rattle.county_codes.specs.CodeLists.{first_repeated, first_unlisted};
-ghost use Rattle.county_codes.specs.Counties.{codes_of};
+ghost use Rattle.county_codes.specs.{CodeLists.{first_repeated, first_unlisted}, Counties.codes_of};
 
 use crate::code::CountyCode;
 use crate::county::County;

@@ -1,10 +1,8 @@
 //! The codes of an order and of a set of its places, and the place of a code.
 
-ghost use Rattle.std.specs.Prelude.{◌≡◌, false, ◌<◌, ◌≤◌, length, All, IfOk, MatchOption};
-ghost use Rattle.std.specs.List.{AllByRecursion};
+ghost use Rattle.std.specs.{Prelude.{◌≡◌, false, ◌<◌, ◌≤◌, length, All, IfOk, MatchOption}, List.AllByRecursion};
 ghost use Rattle.grouping_laws.specs.Sets.{contains};
-ghost use Rattle.county_problem.specs.OrderedValue.{code_at};
-ghost use Rattle.county_problem.specs.OrderCodes.{codes_of_set};
+ghost use Rattle.county_problem.specs.{OrderedValue.code_at, OrderCodes.codes_of_set};
 
 use crate::ordered_counties::Ordered;
 use county_codes::{Codes, CountyCode};

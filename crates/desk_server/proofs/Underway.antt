@@ -85,7 +85,7 @@ module _ (p : Problem) (last : Option RoundTold) (held : Held) (from : Given) wh
         length-append a.texts (told ∷ []),
       )
 
--- what was answered so far, at a moment where so many texts were answered
+-- what was answered so far, at a moment when this number of texts was answered
 pub record IsUnderway {C : Type 0} (p : Problem) (last : Option RoundTold) (old new : Moment C)
     (count : ℕ) : Type 0 where
   pub text : List ℕ

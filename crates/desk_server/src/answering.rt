@@ -10,8 +10,7 @@ ghost use Rattle.search_groups.specs.PartLists.{AreListsOf};
 ghost use Rattle.share_board.specs.Spelling.{HasFiveDigits};
 ghost use Rattle.piece_states.specs.PieceValue.{piece_of};
 ghost use Rattle.board_texts.specs.RoundText.{RoundTold};
-ghost use Rattle.desk_server.specs.Rounds.{HoldsRound};
-ghost use Rattle.desk_server.specs.Answers.{IsAnswer, IsAnswerIn, IsAnswerIfAny, IsAnswerAt};
+ghost use Rattle.desk_server.specs.{Rounds.HoldsRound, Answers.{IsAnswer, IsAnswerIn, IsAnswerIfAny, IsAnswerAt}};
 
 use crate::desk::{Desk, NumberedRound};
 use board_report::piece_text;

@@ -1,6 +1,6 @@
 //! A desk from its first text to its last.
 
-ghost use Rattle.std.specs.Prelude.{◌≡◌, ◌≤◌, ℕ, List, length, IfOk};
+ghost use Rattle.std.specs.Prelude.{◌≤◌, ℕ, List, length};
 ghost use Rattle.county_problem.specs.ProblemValue.{problem_of};
 ghost use Rattle.board_texts.specs.Coming.{Held};
 ghost use Rattle.written_output.specs.Writing.{HasWritten};
@@ -8,27 +8,15 @@ ghost use Rattle.desk_server.specs.Runs.{IsDeskRun};
 
 use crate::desk::Desk;
 use crate::serving::{answer_all, memory_fault};
+use board_report::ordered_by_code;
 use certificate_lines::TextFault;
 use cli_file_stores::Sink;
 use connected_sets::CountyGraph;
-use county_codes::listed_codes;
-use county_problem::{OrderFault, Ordered, Problem};
+use county_problem::Problem;
 use field_lines::Source;
 use place_sets::{CountySet, MaskSet, Places, fits_mask};
-use std::alloc::{AllocError, Global};
+use std::alloc::Global;
 use written_output::Written;
-
-/// Returns the counties of a `problem` in the order of ascending codes.
-fn ordered_by_code<'a>(alloc: Global, problem: &'a Problem) -> Result<Ordered<'a>, AllocError>
-    ensures { IfOk result (λ o. o ≡ record { problem = problem.now; order = (problem_of problem.now).counties }) }
-{
-    let order = listed_codes(alloc, problem.counties())?;
-    match Ordered::build(alloc, problem, &order) {
-        Ok(ordered) => Ok(ordered),
-        Err(OrderFault::Memory) => Err(AllocError),
-        Err(OrderFault::WrongOrder) => unreachable!(),
-    }
-}
 
 /// Returns what `prove_pieces` returns, with any form of sets of places that has room for the counties.
 fn prove_over<C: CountySet, S: Source, W: Sink>(

@@ -4,14 +4,10 @@ ghost use Rattle.std.specs.Prelude.{◌≡◌, Option, false, OnOk, OnErr};
 ghost use Rattle.field_lines.specs.Source.{Given};
 ghost use Rattle.connected_sets.specs.Graphs.{graph_order, graph_places, graph_problem, place_problem, IsGraph};
 ghost use Rattle.search_groups.specs.PartLists.{AreListsOf};
-ghost use Rattle.board_texts.specs.RoundText.{RoundTold};
-ghost use Rattle.board_texts.specs.BoardText.{HasBoardText};
-ghost use Rattle.board_texts.specs.TextValue.{board_text_of};
+ghost use Rattle.board_texts.specs.{RoundText.RoundTold, BoardText.HasBoardText, TextValue.board_text_of};
 ghost use Rattle.board_texts.specs.Coming.{is_read_fault};
 ghost use Rattle.certificate_lines.specs.Rest.{IsTextMemory};
-ghost use Rattle.desk_server.specs.Rounds.{HoldsRound};
-ghost use Rattle.desk_server.specs.Taking.{moment, IsQuiet, Tells, TakesNext};
-ghost use Rattle.desk_server.specs.Serving.{HasAnswered};
+ghost use Rattle.desk_server.specs.{Rounds.HoldsRound, Taking.{moment, IsQuiet, Tells, TakesNext}, Serving.HasAnswered};
 
 use crate::answering::answer_piece;
 use crate::desk::Desk;

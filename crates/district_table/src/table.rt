@@ -4,8 +4,7 @@ ghost use Rattle.std.specs.Prelude.{◌≡◌, ◌∷◌, ◌++◌, IfOk, OnOk, 
 ghost use Rattle.county_codes.specs.Digits.{five_digits};
 ghost use Rattle.county_problem.specs.ProblemValue.{problem_of};
 ghost use Rattle.grouping_table.specs.Quoting.{line_text};
-ghost use Rattle.district_table.specs.DistrictTable.{set_label, with_blanks, district_fields, district_lines};
-ghost use Rattle.district_table.specs.DistrictTable.{IsDistrictsText};
+ghost use Rattle.district_table.specs.DistrictTable.{set_label, with_blanks, district_fields, district_lines, IsDistrictsText};
 
 use baf_auditor::{District, Set};
 use county_codes::{CountyCode, push_code, push_codes};

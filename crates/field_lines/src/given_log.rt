@@ -1,7 +1,6 @@
 //! What a source gave, for proofs alone.
 
-ghost use Rattle.std.specs.Prelude.{◌≡◌, ℕ, List, [], ◌++◌};
-ghost use Rattle.std.specs.Borrow.{ftrue};
+ghost use Rattle.std.specs.{Prelude.{◌≡◌, ℕ, List, [], ◌++◌}, Borrow.ftrue};
 
 use std::marker::Model;
 

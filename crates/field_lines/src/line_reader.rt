@@ -1,8 +1,7 @@
 //! The lines of a cut text that is pulled from a source.
 
 ghost use Rattle.std.specs.Prelude.{◌≡◌, ◌+◌, ◌<◌, ◌≤◌, IfOk, IfErr, IfSome, length};
-ghost use Rattle.field_lines.specs.Fault.{most_lines, most_bytes, line_of_fault};
-ghost use Rattle.field_lines.specs.ReadLine.{TakesPiece, TakesLine};
+ghost use Rattle.field_lines.specs.{Fault.{most_lines, most_bytes, line_of_fault}, ReadLine.{TakesPiece, TakesLine}};
 
 use crate::fault::LineFault;
 use crate::lines::{fault_at, line_in};
@@ -78,8 +77,7 @@ pub struct LineReader {
 
 impl Model for LineReader {
     ghost use Rattle.std.specs.Prelude.{◌≤◌, ◌+◌, IfSome};
-    ghost use Rattle.field_lines.specs.Fault.{most_lines, line_of_fault};
-    ghost use Rattle.field_lines.specs.LinesFrom.{LinesHeld};
+    ghost use Rattle.field_lines.specs.{Fault.{most_lines, line_of_fault}, LinesFrom.LinesHeld};
 
     /// The bytes that are held, the number of the next line, and the fault that was returned.
     ghost Value = { LinesHeld };
@@ -90,12 +88,9 @@ impl Model for LineReader {
 }
 
 impl LineReader {
-    ghost use Rattle.std.specs.Prelude.{◌≡◌, ◌≤◌, ◌+◌, IfOk, IfErr, IfSome, length};
-    ghost use Rattle.std.specs.Borrow.{sem};
-    ghost use Rattle.std.specs.Io.BufRead.{Rests};
+    ghost use Rattle.std.specs.{Prelude.{◌≡◌, ◌≤◌, ◌+◌, IfOk, IfErr, IfSome, length}, Borrow.sem, Io.BufRead.Rests};
     ghost use Rattle.field_lines.specs.Fault.{most_lines, most_bytes, line_of_fault};
-    ghost use Rattle.field_lines.specs.LinesFrom.{nothing_read, IsNextRead};
-    ghost use Rattle.field_lines.specs.contracts.line_reader.LineReader.{the_row};
+    ghost use Rattle.field_lines.specs.{LinesFrom.{nothing_read, IsNextRead}, contracts.line_reader.LineReader.the_row};
 
     /// Creates a reader that has pulled nothing.
     ///

@@ -1,10 +1,7 @@
 //! The lines of a cut text, either in memory or pulled from a source.
 
-ghost use Rattle.std.specs.Prelude.{Bool, false, ◌≤◌, ◌+◌, IfOk, IfErr, IfSome, length};
-ghost use Rattle.std.specs.Borrow.{sem};
-ghost use Rattle.std.specs.Io.BufRead.{Rests};
-ghost use Rattle.field_lines.specs.Fault.{most_lines, most_bytes, line_of_fault};
-ghost use Rattle.field_lines.specs.Source.{Given, nothing_comes};
+ghost use Rattle.std.specs.{Prelude.{Bool, false, ◌≤◌, ◌+◌, IfOk, IfErr, IfSome, length}, Borrow.sem, Io.BufRead.Rests};
+ghost use Rattle.field_lines.specs.{Fault.{most_lines, most_bytes, line_of_fault}, Source.{Given, nothing_comes}};
 ghost use Rattle.field_lines.specs.LinesFrom.{LinesLeft, lines_of_cut, lines_held, IsNextAnswer};
 
 use crate::fault::LineFault;

@@ -1,12 +1,8 @@
 //! The numbers that fields of digits spell, and a field by its index.
 
-ghost use Rattle.std.specs.Prelude.{◌≡◌, ◌<◌, ◌≤◌, ◌^◌, true, Some, IfSome, length};
-ghost use Rattle.std.specs.List.{list_all, slice_get};
-ghost use Rattle.std.specs.Char.{is_ascii_digit};
-ghost use Rattle.std.specs.Option.{option_map};
-ghost use Rattle.std.specs.Str.Parse.{digits_value};
-ghost use Rattle.field_lines.specs.Fields.{fields_of};
-ghost use Rattle.field_lines.specs.Number.{kept_in, number_in, digits_of};
+ghost use Rattle.std.specs.{Prelude.{◌≡◌, ◌<◌, ◌≤◌, ◌^◌, true, Some, IfSome, length}, List.{list_all, slice_get}};
+ghost use Rattle.std.specs.{Char.is_ascii_digit, Option.option_map, Str.Parse.digits_value};
+ghost use Rattle.field_lines.specs.{Fields.fields_of, Number.{kept_in, number_in, digits_of}};
 
 use crate::fields::Fields;
 

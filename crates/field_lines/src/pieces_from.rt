@@ -1,8 +1,6 @@
 //! The pieces of a text, either in memory or pulled from a source.
 
-ghost use Rattle.std.specs.Prelude.{Bool, false};
-ghost use Rattle.std.specs.Borrow.{sem};
-ghost use Rattle.std.specs.Io.BufRead.{Rests};
+ghost use Rattle.std.specs.{Prelude.{Bool, false}, Borrow.sem, Io.BufRead.Rests};
 ghost use Rattle.field_lines.specs.Source.{Given, nothing_comes};
 ghost use Rattle.field_lines.specs.PiecesFrom.{PiecesLeft, pieces_of_text, pieces_left, IsNextPieceOf};
 

@@ -1,7 +1,6 @@
 //! Bytes that were pulled from a source and aren't taken yet.
 
-ghost use Rattle.std.specs.Prelude.{◌≡◌, ◌==◌, ◌+◌, ◌<◌, ◌≤◌, ◌++◌, false, None, Some, take, length, IfOk, OnErr};
-ghost use Rattle.std.specs.Prelude.{slice_range, if◌then◌else◌};
+ghost use Rattle.std.specs.Prelude.{◌≡◌, ◌==◌, ◌+◌, ◌<◌, ◌≤◌, ◌++◌, false, None, Some, take, length, IfOk, OnErr, slice_range, if◌then◌else◌};
 ghost use Rattle.std.specs.Result.{is_err};
 
 use crate::front::{FrontPiece, lf_after};
@@ -65,11 +64,9 @@ fn rest_of(count: usize) -> Option<FrontPiece>
 }
 
 impl PulledBytes {
-    ghost use Rattle.std.specs.Prelude.{◌≡◌, ◌+◌, ◌<◌, ◌≤◌, Bool, true, false, List, [], ◌++◌, ◌==◌, take, drop};
-    ghost use Rattle.std.specs.Prelude.{length, IfOk, OnOk, OnErr, MatchOption, slice_range, vec_len};
+    ghost use Rattle.std.specs.Prelude.{◌≡◌, ◌+◌, ◌<◌, ◌≤◌, Bool, true, false, List, [], ◌++◌, ◌==◌, take, drop, length, IfOk, OnOk, OnErr, MatchOption, slice_range, vec_len};
     ghost use Rattle.std.specs.Result.{is_err};
-    ghost use Rattle.field_lines.specs.HeldBytes.{no_bytes, Pulls};
-    ghost use Rattle.field_lines.specs.Front.{IsFrontPiece, IsWithin, HasFront};
+    ghost use Rattle.field_lines.specs.{HeldBytes.{no_bytes, Pulls}, Front.{IsFrontPiece, IsWithin, HasFront}};
     ghost use Rattle.field_lines.specs.TakenPieces.{IsPlace, taken_bytes, TakesFirst};
 
     /// Creates a value that holds no bytes yet. Returns an error if memory was refused.

@@ -66,12 +66,8 @@ impl Model for RawReader {
 }
 
 impl RawReader {
-    ghost use Rattle.std.specs.Prelude.{◌≡◌, ◌≤◌, IfOk, IfErr, IfSome, length};
-    ghost use Rattle.std.specs.Borrow.{sem};
-    ghost use Rattle.std.specs.Io.BufRead.{Rests};
-    ghost use Rattle.field_lines.specs.Fault.{most_bytes};
-    ghost use Rattle.field_lines.specs.LinesFrom.{nothing_read};
-    ghost use Rattle.field_lines.specs.PiecesFrom.{IsRawRead};
+    ghost use Rattle.std.specs.{Prelude.{◌≡◌, ◌≤◌, IfOk, IfErr, IfSome, length}, Borrow.sem, Io.BufRead.Rests};
+    ghost use Rattle.field_lines.specs.{Fault.most_bytes, LinesFrom.nothing_read, PiecesFrom.IsRawRead};
     ghost use Rattle.field_lines.specs.contracts.raw_reader.RawReader.{the_row};
 
     /// Creates a reader that has pulled nothing.

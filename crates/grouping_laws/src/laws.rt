@@ -1,7 +1,6 @@
 //! Laws of groupings and of their counts: the functions do nothing, and their contracts are the laws.
 
-ghost use Rattle.grouping_laws.specs.Problem.{Problem};
-ghost use Rattle.grouping_laws.specs.Allowance.{HasWindow, named_window};
+ghost use Rattle.grouping_laws.specs.{Problem.Problem, Allowance.{HasWindow, named_window}};
 ghost use Rattle.grouping_laws.specs.Totals.{SizesAddUp, WindowsAddUp, GroupsFit};
 ghost use Rattle.grouping_laws.specs.Order.{GreaterIsIrreflexive, GreaterIsTransitive, GreaterIsTotal};
 

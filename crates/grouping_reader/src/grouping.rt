@@ -2,8 +2,7 @@
 
 ghost use Rattle.std.specs.Prelude.{◌≡◌};
 ghost use Rattle.field_lines.specs.Values.{GivesUnless, AddsUnless};
-ghost use Rattle.grouping_reader.specs.Faults.{IsCodeLineMemory};
-ghost use Rattle.grouping_reader.specs.GroupingLines.{group_on, grouping_list};
+ghost use Rattle.grouping_reader.specs.{Faults.IsCodeLineMemory, GroupingLines.{group_on, grouping_list}};
 ghost use Rattle.grouping_reader.specs.declared.fault.CodeLineKind.TheVariants.{Memory};
 
 use crate::fault::{CodeLineFault, CodeLineKind};

@@ -1,12 +1,9 @@
 //! The seats and the county codes of a line.
 
-ghost use Rattle.std.specs.Prelude.{◌≡◌, length, drop, true, is_some, IfErr};
-ghost use Rattle.std.specs.Option.{option_and_then};
-ghost use Rattle.field_lines.specs.Fields.{fields_of, field_of};
+ghost use Rattle.std.specs.{Prelude.{◌≡◌, length, drop, true, is_some, IfErr}, Option.option_and_then};
+ghost use Rattle.field_lines.specs.{Fields.{fields_of, field_of}, Values.GivesUnless};
 ghost use Rattle.field_lines.specs.Number.{number_in as number_spelled, digits_of};
-ghost use Rattle.field_lines.specs.Values.{GivesUnless};
-ghost use Rattle.grouping_reader.specs.SeatLine.{codes_on, seat_line};
-ghost use Rattle.grouping_reader.specs.declared.fault.CodeLineKind.TheVariants.{Memory};
+ghost use Rattle.grouping_reader.specs.{SeatLine.{codes_on, seat_line}, declared.fault.CodeLineKind.TheVariants.Memory};
 
 use crate::fault::CodeLineKind;
 use county_codes::{Codes, CountyCode};

@@ -1,8 +1,7 @@
 //! The text of an audit's findings.
 
 ghost use Rattle.std.specs.Prelude.{◌≡◌, ◌++◌, OnOk, IfOk, codes};
-ghost use Rattle.grouping_report.specs.FindingsText.{fifteen_digits, with_block, set_words, with_set, with_label};
-ghost use Rattle.grouping_report.specs.FindingsText.{crossing_words, number_words, size_words, finding_words};
+ghost use Rattle.grouping_report.specs.FindingsText.{fifteen_digits, with_block, set_words, with_set, with_label, crossing_words, number_words, size_words, finding_words};
 ghost use Rattle.grouping_report.specs.FindingsText.{findings_text as text_of};
 
 use crate::faults::{push_grouping_fault, push_words_number};

@@ -4,8 +4,7 @@ ghost use Rattle.std.specs.Prelude.{◌≡◌, ℕ, ◌++◌, ◌≤◌, OnOk, I
 ghost use Rattle.grouping_laws.specs.Sets.{count_in};
 ghost use Rattle.county_problem.specs.ProblemValue.{problem_of};
 ghost use Rattle.grouping_laws.specs.Grouping.{Lawful, sets_of, counts as counts_by_size};
-ghost use Rattle.grouping_report.specs.Report.{head_lines, answer_line, longest_size, numbers_to, counts_line};
-ghost use Rattle.grouping_report.specs.Report.{group_line, group_lines, report_text, open_words};
+ghost use Rattle.grouping_report.specs.Report.{head_lines, answer_line, longest_size, numbers_to, counts_line, group_line, group_lines, report_text, open_words};
 ghost use Rattle.grouping_report.specs.Outcomes.{NamesLawful, outcome_text};
 
 use crate::faults::push_words_number;

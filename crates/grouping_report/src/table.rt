@@ -1,8 +1,7 @@
 //! The size table: the bounds of a district, and for each county its people and the seats that they suit.
 
 ghost use Rattle.std.specs.Prelude.{◌≡◌, ◌≤◌, ℕ, ◌++◌, OnOk, IfOk, decimal};
-ghost use Rattle.grouping_report.specs.SizeTable.{size_text, county_line, lines_text, run_text, bounds_text};
-ghost use Rattle.grouping_report.specs.SizeTable.{district_line};
+ghost use Rattle.grouping_report.specs.SizeTable.{size_text, county_line, lines_text, run_text, bounds_text, district_line};
 ghost use Rattle.county_problem.specs.Building.{people_in};
 
 use crate::first_lines::push_first_lines;

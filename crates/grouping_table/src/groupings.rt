@@ -1,10 +1,9 @@
 //! The long table of several groupings: a header, and for each grouping a line for each county.
 
 ghost use Rattle.std.specs.Prelude.{◌≡◌, ◌++◌, IfOk, OnOk, map};
-ghost use Rattle.grouping_table.specs.Quoting.{line_text};
-ghost use Rattle.grouping_table.specs.LabelledSets.{labelled_sets as sets_under_labels};
-ghost use Rattle.grouping_table.specs.Table.{unnamed_counties};
+ghost use Rattle.grouping_table.specs.{Quoting.line_text, Table.unnamed_counties};
 ghost use Rattle.grouping_table.specs.GroupingsTable.{grouping_fields, grouping_lines, groupings_lines, groupings_text};
+ghost use Rattle.grouping_table.specs.LabelledSets.{labelled_sets as sets_under_labels};
 ghost use Rattle.pl94_counties.specs.CountyNames.{county_name};
 
 use crate::csv_lines::csv_line;

@@ -1,11 +1,9 @@
 //! The lines of the table: a header, and a line for each county.
 
-ghost use Rattle.std.specs.Prelude.{◌≡◌, ◌++◌, IfOk, OnOk, map};
-ghost use Rattle.std.specs.Option.{option_copied};
-ghost use Rattle.grouping_table.specs.Quoting.{line_text};
+ghost use Rattle.std.specs.{Prelude.{◌≡◌, ◌++◌, IfOk, OnOk, map}, Option.option_copied};
+ghost use Rattle.grouping_table.specs.{Quoting.line_text, Table.{county_fields, county_lines, table_text}};
 ghost use Rattle.grouping_table.specs.LabelledSets.{set_of_code as set_of_code};
 ghost use Rattle.pl94_counties.specs.CountyNames.{county_name};
-ghost use Rattle.grouping_table.specs.Table.{county_fields, county_lines, table_text};
 
 use crate::csv_lines::csv_line;
 use crate::sets::{LabelledSet, labelled_sets, set_of};

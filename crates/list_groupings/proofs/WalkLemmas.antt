@@ -1,8 +1,9 @@
 -- What goes through a part of a tree, and through the parts behind it.
-use Rattle.std.proofs.Common.{◌≡◌, ℕ, suc, ◌+◌, ◌≤◌, Bool, true, false, cond, List, [], ◌∷◌, ◌++◌, append-nil, append_assoc, map, filter, length, refl, sym, ap, ◌∙◌, subst, arith, inl, ⊎_elim, Some, None, Option, MatchOption, Result, Ok, Err}
+use Rattle.std.proofs.Common.{◌≡◌, ℕ, ◌+◌, ◌≤◌, Bool, true, false, not, cond, List, [], ◌∷◌, ◌++◌, append-nil, append_assoc, map, filter, length, refl, sym, ap, ◌∙◌, subst, arith, inl, ⊎_elim, Some, None, Option, MatchOption, Result, Ok, Err}
 use Rattle.std.proofs.Math.Path.{fun_ext}
 use Rattle.std.proofs.lemmas.Bool.{false≢true}
 use Rattle.std.proofs.lemmas.List.{length-map, map-append}
+use Rattle.std.proofs.lemmas.List.Filters.{length-filter_both}
 use Rattle.std.proofs.lemmas.List.Elements.{All-append}
 use Rattle.county_codes.specs.declared.group.Grouping.{Grouping as GroupingHeld}
 use Rattle.grouping_laws.specs.Sets.{indicator, count, count_in, contains}
@@ -94,15 +95,7 @@ map_empty f xs e = omega (arith, e, length-map xs f)
 pub few_waiting : (p : Problem) (s : State) (position : Position) → IsPosition p s position → length position.rest.items ≤ length p.counties
 few_waiting p s position h =
     let e : length position.rest.items ≡ length (filter s.rest p.counties) = ap (λ (l : List Waiting). length l) h.rest ∙ length-map (filter s.rest p.counties) (waiting s.least) in
-    omega (arith, e, fewer s.rest p.counties)
-  where
-    fewer : (t : ℕ → Bool) (xs : List ℕ) → length (filter t xs) ≤ length xs
-    fewer t [] = omega arith
-    fewer t (x ∷ xs) = go (t x) (fewer t xs)
-      where
-        go : (b : Bool) → length (filter t xs) ≤ length xs → length (cond b (x ∷ filter t xs) (filter t xs)) ≤ suc (length xs)
-        go true h = omega (arith, h)
-        go false h = omega (arith, h)
+    omega (arith, e, length-filter_both s.rest (λ c. not (s.rest c)) (λ c. refl) p.counties)
 
 pub none_left : (p : Problem) (round : Round) (s : State) (position : Position) → IsState p round s → IsPosition p s position → length position.rest.items ≡ 0 → (c : ℕ) → s.rest c ≡ false
 none_left p round s position state h e c = go (s.rest c) refl
@@ -138,33 +131,38 @@ pub covered : (p : Problem) (round : Round) (s : State) → IsState p round s �
 covered p round s state none c = omega (arith, state.once c, false_digit (s.rest c) (none c))
 
 -- bound lines, with the counts of the round's target
-pub bounds_of : (p : Problem) (round : Round) (s : State) (f : ℕ → ℕ) (lines : List Allowance) → ((i : ℕ) → f i ≡ wanted round.target i) → IsBound p round s lines → Bounds round.format p round.limit s f 1 0 lines
+bounds_of : (p : Problem) (round : Round) (s : State) (f : ℕ → ℕ) (lines : List Allowance) → ((i : ℕ) → f i ≡ wanted round.target i) → IsBound p round s lines → Bounds round.format p round.limit s f 1 0 lines
 bounds_of p round s f lines same b =
     subst (λ (g : ℕ → ℕ). Bounds round.format p round.limit s g 1 0 lines) (ap wanted (sym b.1) ∙ sym (fun_ext same)) b.2
 
-pub short_of : (p : Problem) (round : Round) (s : State) (f : ℕ → ℕ) (lines : List Allowance) → ((i : ℕ) → f i ≡ wanted round.target i) → falls_short p s f 1 0 lines ≡ falls_short p s (wanted round.target) 1 0 lines
+short_of : (p : Problem) (round : Round) (s : State) (f : ℕ → ℕ) (lines : List Allowance) → ((i : ℕ) → f i ≡ wanted round.target i) → falls_short p s f 1 0 lines ≡ falls_short p s (wanted round.target) 1 0 lines
 short_of p round s f lines same = ap (λ (g : ℕ → ℕ). falls_short p s g 1 0 lines) (fun_ext same)
 
-module _ (p : Problem) (round : Round) (s : State) (lines : List Allowance) (old new : Found) (counted : new.line ≡ old.line + (1 + length lines)) where
-  abbrev pub Walks : Result (Unit {0}) WalkStop → Type 0
-  Walks result = HasWalked p (IsComplete (leaf (bound lines)) p round s) (IsFirstGap (leaf (bound lines)) p round s old.line) (ends (leaf (bound lines)) p round s) (1 + length lines) old result new
+-- a bound leaf, and whether its lines are said to fall short by the counts of the round's target
+module _ (p : Problem) (round : Round) (s : State) (f : ℕ → ℕ) (lines : List Allowance) (said : Bool) (wanted_is : (i : ℕ) → f i ≡ wanted round.target i) (proves : IsBound p round s lines)
+    (value : Bounds round.format p round.limit s f 1 0 lines → said ≡ falls_short p s f 1 0 lines) where
+  pub short_as : (b : Bool) → said ≡ b → falls_short p s (wanted round.target) 1 0 lines ≡ b
+  short_as b is = sym (short_of p round s f lines wanted_is) ∙ (sym (value (bounds_of p round s f lines wanted_is proves)) ∙ is)
 
-  abbrev short : Bool
-  short = falls_short p s (wanted round.target) 1 0 lines
+  module _ (old new : Found) (counted : new.line ≡ old.line + (1 + length lines)) where
+    abbrev Walks : Result (Unit {0}) WalkStop → Type 0
+    Walks result = HasWalked p (IsComplete (leaf (bound lines)) p round s) (IsFirstGap (leaf (bound lines)) p round s old.line) (ends (leaf (bound lines)) p round s) (1 + length lines) old result new
 
-  pub walked_short : short ≡ true → new.list.items ≡ old.list.items → Walks (Ok tt)
-  walked_short e same = (
-    λ no. absurd (false≢true (sym no ∙ e)),
-    counted,
-    subst (λ z. HasAdded p z old.list.items new.list.items) (sym (ap (λ b. cond b [] (s.closed ∷ [])) e)) (subst (λ (z : List GroupingHeld). HasAdded p [] old.list.items z) (sym same) (added_none p old.list.items)),
-  )
+    pub walked_short : said ≡ true → new.list.items ≡ old.list.items → Walks (Ok tt)
+    walked_short is same =
+        let e = short_as true is in (
+          λ no. absurd (false≢true (sym no ∙ e)),
+          counted,
+          subst (λ z. HasAdded p z old.list.items new.list.items) (sym (ap (λ b. cond b [] (s.closed ∷ [])) e)) (subst (λ (z : List GroupingHeld). HasAdded p [] old.list.items z) (sym same) (added_none p old.list.items)),
+        )
 
-  pub walked_end : short ≡ false → IsFilled p s → (g : GroupingHeld) → new.list.items ≡ old.list.items ++ g ∷ [] → Lawful p (sets_held g) → SameSets (sets_of (sets_held g)) s.closed → IsInOrder (sets_held g) → Walks (Ok tt)
-  walked_end e filled g push lawful same in_order = (
-    λ no. filled,
-    counted,
-    subst (λ z. HasAdded p z old.list.items new.list.items) (sym (ap (λ b. cond b [] (s.closed ∷ [])) e)) (added_one p s.closed g old.list.items new.list.items push lawful same in_order),
-  )
+    pub walked_end : said ≡ false → IsFilled p s → (g : GroupingHeld) → new.list.items ≡ old.list.items ++ g ∷ [] → Lawful p (sets_held g) → SameSets (sets_of (sets_held g)) s.closed → IsInOrder (sets_held g) → Walks (Ok tt)
+    walked_end is filled g push lawful same in_order =
+        let e = short_as false is in (
+          λ no. filled,
+          counted,
+          subst (λ z. HasAdded p z old.list.items new.list.items) (sym (ap (λ b. cond b [] (s.closed ∷ [])) e)) (added_one p s.closed g old.list.items new.list.items push lawful same in_order),
+        )
 
 -- what stops in a part stops in the whole
 pub going_stops : (p : Problem) (W L P : Type 0) (WG LG PG : Gap → ℕ → Type 0) (whole left part : List (List (List ℕ))) (m n i : ℕ) (old now mid new other : Found) (found : WalkStop)

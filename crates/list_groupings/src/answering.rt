@@ -2,9 +2,8 @@
 
 ghost use Rattle.std.specs.Prelude.{◌≡◌, ◌+◌, ◌≤◌, ℕ, IfOk};
 ghost use Rattle.county_problem.specs.ProblemValue.{problem_of};
-ghost use Rattle.checker_laws.specs.Lines.{window_line};
+ghost use Rattle.checker_laws.specs.{Lines.window_line, TextVerdict.IsTextVerdict};
 ghost use Rattle.checker_laws.specs.Verdict as said;
-ghost use Rattle.checker_laws.specs.TextVerdict.{IsTextVerdict};
 ghost use Rattle.certificate_checker.specs.Answers.{lines_in_front};
 ghost use Rattle.list_groupings.specs.Answers.{IsReady, IsListing, IsListedWithin, ListsAllBest};
 

@@ -1,10 +1,8 @@
 //! The grouping of closed groups that have each county.
 
 ghost use Rattle.std.specs.Prelude.{◌≡◌, ◌≢◌, ℕ, ◌≤◌, List, map, filter, length, All, IfOk, IfSome, MatchOption};
-ghost use Rattle.grouping_laws.specs.Sets.{indicator, sum_by, count, count_in, contains};
-ghost use Rattle.grouping_laws.specs.Problem.{LawfulGroup, people_of};
-ghost use Rattle.grouping_laws.specs.Grouping.{Lawful, sets_of};
-ghost use Rattle.grouping_laws.specs.Ranges.{SuitAll, seated};
+ghost use Rattle.grouping_laws.specs.{Sets.{indicator, sum_by, count, count_in, contains}, Ranges.{SuitAll, seated}};
+ghost use Rattle.grouping_laws.specs.{Problem.{LawfulGroup, people_of}, Grouping.{Lawful, sets_of}};
 ghost use Rattle.county_problem.specs.ProblemValue.{problem_of};
 ghost use Rattle.search_ends.specs.FinishedStates.{CanSeat};
 ghost use Rattle.list_laws.specs.AllBest.{SameSets};

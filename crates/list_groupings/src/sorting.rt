@@ -1,8 +1,6 @@
 //! The order of groups and groupings.
 
-ghost use Rattle.std.specs.Prelude.{◌≡◌, ℕ, List, IfOk};
-ghost use Rattle.std.specs.Cmp.Lexicographic.{slice_cmp};
-ghost use Rattle.std.specs.Ordering.{nat_cmp, is_lt};
+ghost use Rattle.std.specs.{Prelude.{◌≡◌, ℕ, List, IfOk}, Cmp.Lexicographic.slice_cmp, Ordering.{nat_cmp, is_lt}};
 ghost use Rattle.std.specs.List.Sorted.{IsPermutation, IsSortedBy};
 ghost use Rattle.grouping_laws.specs.Grouping.{sets_of};
 ghost use Rattle.list_groupings.specs.Keys.{set_order};

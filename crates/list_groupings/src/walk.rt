@@ -1,11 +1,10 @@
 //! The walk through the tree of a certificate. It finds the groupings at the ends of the tree, up to the first gap.
 
 ghost use Rattle.std.specs.Prelude.{◌≡◌, ℕ, ◌+◌, ◌<◌, ◌^◌, map, length};
-ghost use Rattle.certificate_laws.specs.State.{State};
-ghost use Rattle.certificate_laws.specs.Proving.{limit_of};
+ghost use Rattle.certificate_laws.specs.{State.State, Proving.limit_of};
 ghost use Rattle.certificate_data.specs.RoundValue.{round_of};
-ghost use Rattle.certificate_data.specs.Tree.{leaf as leaf_tree, bound};
 ghost use Rattle.certificate_data.specs.TreeValue.{tree_of, leaf_of, list_of_takes, allowance_of};
+ghost use Rattle.certificate_data.specs.Tree.{leaf as leaf_tree, bound};
 ghost use Rattle.checker_laws.specs.Lines.{tree_lines, takes_lines, leaf_lines};
 ghost use Rattle.list_groupings.specs.Walking.{IsWalkInput, IsTreeAt, AreAt, WalksTree, WalksTakes};
 

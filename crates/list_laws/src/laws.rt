@@ -1,11 +1,8 @@
 //! Laws of complete lists. The functions do nothing, and their contracts are the laws.
 
-ghost use Rattle.list_laws.specs.AllBest.{AreAllBest, ListsAreOne, SharedGroups};
-ghost use Rattle.list_laws.specs.Completeness.{IsComplete};
-ghost use Rattle.list_laws.specs.Examples.{only_together};
-ghost use Rattle.list_laws.specs.Level.{LevelStatesAreFilled};
-ghost use Rattle.list_laws.specs.Listing.{CompleteTreesList, CompleteCertificatesList};
-ghost use Rattle.list_laws.specs.Searching.{CompleteSearchEnds};
+ghost use Rattle.list_laws.specs.{AllBest.{AreAllBest, ListsAreOne, SharedGroups}, Completeness.IsComplete};
+ghost use Rattle.list_laws.specs.{Examples.only_together, Level.LevelStatesAreFilled};
+ghost use Rattle.list_laws.specs.{Listing.{CompleteTreesList, CompleteCertificatesList}, Searching.CompleteSearchEnds};
 ghost use Rattle.list_laws.specs.Shortfalls.{LeavesAreTold};
 ghost use Rattle.certificate_laws.specs.Examples.{stranding, plain_round, plain_tree, wide_round, lone_leaf};
 ghost use Rattle.certificate_laws.specs.State.{empty_state};

@@ -4,8 +4,8 @@ ghost use Rattle.std.specs.Prelude.{◌≡◌, ℕ, ◌++◌, ◌==◌, ◌≤�
 ghost use Rattle.std.specs.List.{list_any, list_all};
 ghost use Rattle.grouping_laws.specs.Sets.{contains};
 ghost use Rattle.list_report.specs.SharedSets.{same_sets};
-ghost use Rattle.list_report.specs.Alternatives.{sets_inside, add_choice, alternatives as alternatives_in};
 ghost use Rattle.list_report.specs.Alternatives.{with_alternatives, number_of_alternative, product};
+ghost use Rattle.list_report.specs.Alternatives.{sets_inside, add_choice, alternatives as alternatives_in};
 
 use crate::sets::Sets;
 use county_codes::{Codes, CountyCode, has_code};

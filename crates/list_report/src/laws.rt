@@ -1,7 +1,6 @@
 //! Laws of what a list says. The functions do nothing; their contracts are the laws.
 
-ghost use Rattle.list_report.specs.GroupPeople.{PeopleAreOfGroups};
-ghost use Rattle.list_report.specs.Chains.{RegionsAreJoined, FirstIsLeast};
+ghost use Rattle.list_report.specs.{GroupPeople.PeopleAreOfGroups, Chains.{RegionsAreJoined, FirstIsLeast}};
 
 /// States which counties share a region, for lawful groupings. Take two counties that no shared set has. They lie in
 /// one region exactly if they are joined by a chain of sets that aren't shared, where each set has a county in common

@@ -2,8 +2,7 @@
 
 ghost use Rattle.std.specs.Prelude.{◌≡◌, ℕ, ◌++◌, ◌≤◌, List, length, map, IfOk, OnOk};
 ghost use Rattle.county_codes.specs.Counties.{codes_of};
-ghost use Rattle.list_report.specs.SharedSets.{shared_sets};
-ghost use Rattle.list_report.specs.Listing.{body_text, listing_text, regions_found};
+ghost use Rattle.list_report.specs.{SharedSets.shared_sets, Listing.{body_text, listing_text, regions_found}};
 
 use crate::alternatives::{Region, regions_with};
 use crate::regions::regions_between;

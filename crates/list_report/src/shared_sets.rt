@@ -1,7 +1,6 @@
 //! The sets that all listed groupings have, and the others.
 
-ghost use Rattle.std.specs.Prelude.{◌≡◌, ℕ, ◌++◌, List, not, filter, IfOk, OnOk};
-ghost use Rattle.std.specs.List.{list_all};
+ghost use Rattle.std.specs.{Prelude.{◌≡◌, ℕ, ◌++◌, List, not, filter, IfOk, OnOk}, List.list_all};
 ghost use Rattle.list_report.specs.SharedSets.{has_set, first_sets, shared_sets, unshared_sets};
 
 use crate::sets::Sets;

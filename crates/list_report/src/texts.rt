@@ -4,9 +4,7 @@ ghost use Rattle.std.specs.Prelude.{◌≡◌, ℕ, ◌+◌, ◌++◌, ◌==◌,
 ghost use Rattle.grouping_laws.specs.Sets.{contains};
 ghost use Rattle.grouping_report.specs.FaultWords.{with_number};
 ghost use Rattle.list_report.specs.Alternatives.{sets_inside, number_of_alternative, product};
-ghost use Rattle.list_report.specs.Listing.{people_inside, seats_words, set_line, set_lines, alternatives_text};
-ghost use Rattle.list_report.specs.Listing.{region_line, regions_text, choice_numbers, choice_lines, choices_text};
-ghost use Rattle.list_report.specs.Listing.{shared_text};
+ghost use Rattle.list_report.specs.Listing.{people_inside, seats_words, set_line, set_lines, alternatives_text, region_line, regions_text, choice_numbers, choice_lines, choices_text, shared_text};
 
 use crate::alternatives::{Region, alternative_number, has_product, inside};
 use crate::sets::Sets;
@@ -121,17 +119,15 @@ fn push_alternatives(
 }
 
 /// Appends the line of a region.
-fn push_region_line(
-    out: &mut Vec<u8>,
-    number: u64,
-    counties: u64,
-    alternatives: u64,
-) -> Result<(), AllocError>
-    ensures { OnOk result (out.new.items ≡ out.old.items ++ region_line number counties alternatives) }
+fn push_region_line(out: &mut Vec<u8>, number: u64, region: &Region) -> Result<(), AllocError>
+    ensures { OnOk result (out.new.items
+        ≡ out.old.items ++ region_line number (length region.now.counties) (length region.now.alternatives)) }
 {
+    let counties = region.counties.as_slice();
+    let alternatives = region.alternatives.as_slice();
     push_words_number(out, b"region ", number)?;
-    push_words_number(out, b" counties ", counties)?;
-    push_words_number(out, b" alternatives ", alternatives)?;
+    push_words_number(out, b" counties ", counties.len() as u64)?;
+    push_words_number(out, b" alternatives ", alternatives.len() as u64)?;
     out.extend_from_slice(b"\n")
 }
 
@@ -146,10 +142,8 @@ fn push_region(
         ≡ out.old.items ++ (region_line number (length region.now.counties) (length region.now.alternatives)
         ++ alternatives_text problem.now 1 region.now.alternatives)) }
 {
-    let alternatives = region.alternatives.as_slice();
-    let counties = region.counties.as_slice().len() as u64;
-    push_region_line(out, number, counties, alternatives.len() as u64)?;
-    push_alternatives(out, problem, alternatives)
+    push_region_line(out, number, region)?;
+    push_alternatives(out, problem, region.alternatives.as_slice())
 }
 
 /// Appends the regions.

@@ -1,5 +1,5 @@
 -- Partial trees that fit, part by part.
-use Rattle.std.proofs.Common.{◌≡◌, ℕ, zero, suc, ◌-◌, Bool, true, false, List, [], ◌∷◌, ◌++◌, length, map, Option, refl, sym, subst, append_assoc, arith}
+use Rattle.std.proofs.Common.{◌≡◌, ◌↔◌, ℕ, zero, suc, ◌-◌, Bool, true, false, List, [], ◌∷◌, ◌++◌, length, map, Option, refl, sym, subst, append_assoc, arith}
 use Rattle.certificate_data.specs.declared.format.Format.{Format}
 use Rattle.certificate_data.specs.Tree.{Allowance, Tree, leaf, stuck, seats, bound, branch, Takes, no_take, take}
 use Rattle.certificate_data.specs.TreeValue.{declared_allowance}
@@ -17,76 +17,61 @@ use Rattle.certificate_text.specs.Trees.{items_of_tree, items_of_takes}
 use Rattle.certificate_text.specs.Tests.{Fitting, Tests}
 use Rattle.certificate_text.proofs.FitLaws.{fitting_then, fitting_with, refused_with, refused_after, fitting_line, line_refused}
 
--- lines of a bound leaf fit before what fits elsewhere
-lines_as : (n : ℕ) (lines : List Allowance) (old new : List Wanted) (later : List Item) → length lines ≡ n → (AllFit old later → AllFit new later)
-    → AllFit (allowances_wanted n ++ old) (map (λ a. item.Allows (declared_allowance a)) lines ++ later) → AllFit (allowances_wanted n ++ new) (map (λ a. item.Allows (declared_allowance a)) lines ++ later)
-lines_as zero [] old new later many k h = k h
-lines_as zero (line ∷ lines) old new later many k h = absurd (omega (arith, many))
-lines_as (suc n) [] old new later many k h = absurd (omega (arith, many))
-lines_as (suc n) (line ∷ lines) old new later many k h =
-    let left : suc n - 1 ≡ n = omega arith in
-    let items = map (λ a. item.Allows (declared_allowance a)) lines ++ later in
-    let first = subst (λ (l : List Wanted). AllFit (l ++ old) (item.Allows (declared_allowance line) ∷ items)) (allowances_more (suc n) (omega arith)) h in
-    let was = subst (λ (j : ℕ). AllFit (allowances_wanted j ++ old) items) left first.1 in
-    let is = lines_as n lines old new later (omega (arith, many)) k was in
-    let both : AllFit (want.Allowances (suc n) ∷ new) (item.Allows (declared_allowance line) ∷ items) = (first.0, subst (λ (j : ℕ). AllFit (allowances_wanted j ++ new) items) (sym left) is) in
-    subst (λ (l : List Wanted). AllFit (l ++ new) (item.Allows (declared_allowance line) ∷ items)) (sym (allowances_more (suc n) (omega arith))) both
+-- the same fits where items are put together in another way
+regrouped : (old new : List Wanted) (xs ys : List Item) → xs ≡ ys → (AllFit old ys ↔ AllFit new ys) → AllFit old xs ↔ AllFit new xs
+regrouped old new xs ys e k = (λ h. subst (AllFit new) (sym e) (k.0 (subst (AllFit old) e h)), λ h. subst (AllFit old) (sym e) (k.1 (subst (AllFit new) e h)))
 
--- the items of a tree fit as those of a partial tree
+-- lines of a bound leaf fit before what fits elsewhere
+line_as : (n : ℕ) (line : Allowance) (old new : List Wanted) (later : List Item) → (AllFit (allowances_wanted n ++ old) later → AllFit (allowances_wanted n ++ new) later)
+    → AllFit (allowances_wanted (suc n) ++ old) (item.Allows (declared_allowance line) ∷ later) → AllFit (allowances_wanted (suc n) ++ new) (item.Allows (declared_allowance line) ∷ later)
+line_as n line old new later k h =
+    let left : suc n - 1 ≡ n = omega arith in
+    let first = subst (λ (l : List Wanted). AllFit (l ++ old) (item.Allows (declared_allowance line) ∷ later)) (allowances_more (suc n) (omega arith)) h in
+    let rest = k (subst (λ (j : ℕ). AllFit (allowances_wanted j ++ old) later) left first.1) in
+    let both : AllFit (want.Allowances (suc n) ∷ new) (item.Allows (declared_allowance line) ∷ later) = (first.0, subst (λ (j : ℕ). AllFit (allowances_wanted j ++ new) later) (sym left) rest) in
+    subst (λ (l : List Wanted). AllFit (l ++ new) (item.Allows (declared_allowance line) ∷ later)) (sym (allowances_more (suc n) (omega arith))) both
+
+lines_as : (n : ℕ) (lines : List Allowance) (old new : List Wanted) (later : List Item) → length lines ≡ n → (AllFit old later ↔ AllFit new later)
+    → AllFit (allowances_wanted n ++ old) (map (λ a. item.Allows (declared_allowance a)) lines ++ later) ↔ AllFit (allowances_wanted n ++ new) (map (λ a. item.Allows (declared_allowance a)) lines ++ later)
+lines_as zero [] old new later many k = k
+lines_as zero (line ∷ lines) old new later many k = absurd (omega (arith, many))
+lines_as (suc n) [] old new later many k = absurd (omega (arith, many))
+lines_as (suc n) (line ∷ lines) old new later many k =
+    let items = map (λ a. item.Allows (declared_allowance a)) lines ++ later in
+    let rest = lines_as n lines old new later (omega (arith, many)) k in
+    (line_as n line old new items rest.0, line_as n line new old items rest.1)
+
+-- the items of a tree fit as those of a partial tree just where they fit as its own
 mutual
-  pub as_part : (format : Format) (levels : ℕ) (t : Tree) (old new : List Wanted) (later : List Item) → (AllFit old later → AllFit new later)
-      → AllFit (want.Tree format levels ∷ old) (items_of_tree t ++ later) → AllFit (want.Part format levels ∷ new) (items_of_tree t ++ later)
-  as_part format levels (leaf (stuck c)) old new later k h = (h.0, k h.1)
-  as_part format levels (leaf seats) old new later k h = (h.0, k h.1)
-  as_part format levels (leaf (bound lines)) old new later k h = (h.0, lines_as (length lines) lines old new later refl k h.1)
-  as_part format levels (branch c j ts t) old new later k h =
-      let split = append_assoc (items_of_takes ts) (item.Mark ∷ items_of_tree t) later in
-      let inside = subst (AllFit (want.Takes format levels ∷ old)) split h.1 in
-      (h.0, subst (AllFit (want.PartTakes format levels ∷ new)) (sym split) (as_part_takes format levels ts old new (items_of_tree t ++ later) (as_part format (after_raise format levels) t old new later k) inside))
+  pub as_part : (format : Format) (levels : ℕ) (t : Tree) (old new : List Wanted) (later : List Item) → (AllFit old later ↔ AllFit new later)
+      → AllFit (want.Tree format levels ∷ old) (items_of_tree t ++ later) ↔ AllFit (want.Part format levels ∷ new) (items_of_tree t ++ later)
+  as_part format levels (leaf (stuck c)) old new later k = (λ h. (h.0, k.0 h.1), λ h. (h.0, k.1 h.1))
+  as_part format levels (leaf seats) old new later k = (λ h. (h.0, k.0 h.1), λ h. (h.0, k.1 h.1))
+  as_part format levels (leaf (bound lines)) old new later k =
+      let rest = lines_as (length lines) lines old new later refl k in
+      (λ h. (h.0, rest.0 h.1), λ h. (h.0, rest.1 h.1))
+  as_part format levels (branch c j ts t) old new later k =
+      let rest = regrouped (want.Takes format levels ∷ old) (want.PartTakes format levels ∷ new) ((items_of_takes ts ++ item.Mark ∷ items_of_tree t) ++ later) (items_of_takes ts ++ item.Mark ∷ (items_of_tree t ++ later)) (append_assoc (items_of_takes ts) (item.Mark ∷ items_of_tree t) later)
+      (as_part_takes format levels ts old new (items_of_tree t ++ later) (as_part format (after_raise format levels) t old new later k)) in
+      (λ h. (h.0, rest.0 h.1), λ h. (h.0, rest.1 h.1))
 
   as_part_takes : (format : Format) (levels : ℕ) (ts : Takes) (old new : List Wanted) (later : List Item)
-      → (AllFit (want.Tree format (after_raise format levels) ∷ old) later → AllFit (want.Part format (after_raise format levels) ∷ new) later)
-      → AllFit (want.Takes format levels ∷ old) (items_of_takes ts ++ item.Mark ∷ later) → AllFit (want.PartTakes format levels ∷ new) (items_of_takes ts ++ item.Mark ∷ later)
-  as_part_takes format levels no_take old new later k h = (h.0, k h.1)
-  as_part_takes format levels (take cs t ts) old new later k h =
-      let split = append_assoc (items_of_tree t) (items_of_takes ts) (item.Mark ∷ later) in
-      let inside = subst (AllFit (want.Tree format (levels - 1) ∷ want.Takes format levels ∷ old)) split h.1 in (
-        h.0,
-        subst (AllFit (want.Part format (levels - 1) ∷ want.PartTakes format levels ∷ new)) (sym split)
-            (as_part format (levels - 1) t (want.Takes format levels ∷ old) (want.PartTakes format levels ∷ new) (items_of_takes ts ++ item.Mark ∷ later) (as_part_takes format levels ts old new later k) inside),
-      )
-
--- and the other way round
-mutual
-  as_tree : (format : Format) (levels : ℕ) (t : Tree) (old new : List Wanted) (later : List Item) → (AllFit old later → AllFit new later)
-      → AllFit (want.Part format levels ∷ old) (items_of_tree t ++ later) → AllFit (want.Tree format levels ∷ new) (items_of_tree t ++ later)
-  as_tree format levels (leaf (stuck c)) old new later k h = (h.0, k h.1)
-  as_tree format levels (leaf seats) old new later k h = (h.0, k h.1)
-  as_tree format levels (leaf (bound lines)) old new later k h = (h.0, lines_as (length lines) lines old new later refl k h.1)
-  as_tree format levels (branch c j ts t) old new later k h =
-      let split = append_assoc (items_of_takes ts) (item.Mark ∷ items_of_tree t) later in
-      let inside = subst (AllFit (want.PartTakes format levels ∷ old)) split h.1 in
-      (h.0, subst (AllFit (want.Takes format levels ∷ new)) (sym split) (as_tree_takes format levels ts old new (items_of_tree t ++ later) (as_tree format (after_raise format levels) t old new later k) inside))
-
-  as_tree_takes : (format : Format) (levels : ℕ) (ts : Takes) (old new : List Wanted) (later : List Item)
-      → (AllFit (want.Part format (after_raise format levels) ∷ old) later → AllFit (want.Tree format (after_raise format levels) ∷ new) later)
-      → AllFit (want.PartTakes format levels ∷ old) (items_of_takes ts ++ item.Mark ∷ later) → AllFit (want.Takes format levels ∷ new) (items_of_takes ts ++ item.Mark ∷ later)
-  as_tree_takes format levels no_take old new later k h = (h.0, k h.1)
-  as_tree_takes format levels (take cs t ts) old new later k h =
-      let split = append_assoc (items_of_tree t) (items_of_takes ts) (item.Mark ∷ later) in
-      let inside = subst (AllFit (want.Part format (levels - 1) ∷ want.PartTakes format levels ∷ old)) split h.1 in (
-        h.0,
-        subst (AllFit (want.Tree format (levels - 1) ∷ want.Takes format levels ∷ new)) (sym split)
-            (as_tree format (levels - 1) t (want.PartTakes format levels ∷ old) (want.Takes format levels ∷ new) (items_of_takes ts ++ item.Mark ∷ later) (as_tree_takes format levels ts old new later k) inside),
-      )
+      → (AllFit (want.Tree format (after_raise format levels) ∷ old) later ↔ AllFit (want.Part format (after_raise format levels) ∷ new) later)
+      → AllFit (want.Takes format levels ∷ old) (items_of_takes ts ++ item.Mark ∷ later) ↔ AllFit (want.PartTakes format levels ∷ new) (items_of_takes ts ++ item.Mark ∷ later)
+  as_part_takes format levels no_take old new later k = (λ h. (h.0, k.0 h.1), λ h. (h.0, k.1 h.1))
+  as_part_takes format levels (take cs t ts) old new later k =
+      let behind = items_of_takes ts ++ item.Mark ∷ later in
+      let rest = regrouped (want.Tree format (levels - 1) ∷ want.Takes format levels ∷ old) (want.Part format (levels - 1) ∷ want.PartTakes format levels ∷ new) ((items_of_tree t ++ items_of_takes ts) ++ item.Mark ∷ later) (items_of_tree t ++ behind) (append_assoc (items_of_tree t) (items_of_takes ts) (item.Mark ∷ later))
+      (as_part format (levels - 1) t (want.Takes format levels ∷ old) (want.PartTakes format levels ∷ new) behind (as_part_takes format levels ts old new later k)) in
+      (λ h. (h.0, rest.0 h.1), λ h. (h.0, rest.1 h.1))
 
 -- a whole tree fits where a partial tree is wanted just where it fits as a tree
 pub whole_tested : (format : Format) (levels : ℕ) (t : Tree) (r : Bool) → Tests (want.Tree format levels ∷ []) (items_of_tree t) [] r → Tests (want.Part format levels ∷ []) (items_of_tree t) [] r
 whole_tested format levels t true h = record {
-  fits = λ more later f. as_part format levels t more more later (λ x. x) (h.fits more later f);
-  rest = λ more later f. h.rest more later (as_tree format levels t more more later (λ x. x) f);
+  fits = λ more later f. (as_part format levels t more more later (λ x. x, λ x. x)).0 (h.fits more later f);
+  rest = λ more later f. h.rest more later ((as_part format levels t more more later (λ x. x, λ x. x)).1 f);
 }
-whole_tested format levels t false h = λ more later f. h more later (as_tree format levels t more more later (λ x. x) f)
+whole_tested format levels t false h = λ more later f. h more later ((as_part format levels t more more later (λ x. x, λ x. x)).1 f)
 
 pub open_fitting : (format : Format) (levels : ℕ) → Fitting (want.Part format levels ∷ []) (item.Open ∷ []) []
 open_fitting format levels = fitting_line (want.Part format levels) item.Open tt

@@ -1,5 +1,5 @@
 -- The items of partial trees as lists of branches and takes, and where an open leaf stands.
-use Rattle.std.proofs.Common.{◌≡◌, ℕ, zero, suc, ◌+◌, ◌<◌, ◌≤◌, List, [], ◌∷◌, ◌++◌, length, get_or, ◌==◌, Bool, true, false, Option, Some, None, All, refl, ap, sym, subst, ◌∙◌, append_assoc, arith}
+use Rattle.std.proofs.Common.{◌≡◌, ℕ, zero, suc, ◌+◌, ◌<◌, ◌≤◌, List, [], ◌∷◌, ◌++◌, length, get_or, ◌==◌, Bool, true, false, Option, Some, None, All, refl, ap, sym, subst, ◌∙◌, append_assoc, append-nil, arith}
 use Rattle.std.specs.List.{AllByRecursion, flat_map}
 use Rattle.std.specs.Option.{is_some}
 use Rattle.std.proofs.lemmas.Bool.{false≢true, ne_eqb}
@@ -38,6 +38,16 @@ takes_items (t ∷ ts) = ap items_of_begun (take_made t (list_of_begun ts)) ∙ 
 
 pub part_items : (t : Declared) → items_of_part (partial_of t) ≡ flat_map part_branch_items (out-PartialTree t).branches.items ++ items_of_part (rest_of (out-PartialTree t).rest)
 part_items t = ap items_of_part (tree_made t) ∙ list_items (out-PartialTree t).branches.items (rest_of (out-PartialTree t).rest)
+
+-- and by a list that is that of its branches
+pub part_listed : (t : Declared) (bs : List PartialBranch) → bs ≡ (out-PartialTree t).branches.items → flat_map part_branch_items bs ++ items_of_part (rest_of (out-PartialTree t).rest) ≡ items_of_part (partial_of t)
+part_listed t bs are = ap (λ (l : List PartialBranch). flat_map part_branch_items l ++ items_of_part (rest_of (out-PartialTree t).rest)) are ∙ sym (part_items t)
+
+pub branch_listed : (b : PartialBranch) (ts : List PartialTake) → ts ≡ (out-PartialBranch b).takes.items
+    → (item.Opens (opening.Branch (out-PartialBranch b).county (out-PartialBranch b).limit) ∷ flat_map part_take_items ts) ++ item.Mark ∷ [] ≡ part_branch_items b
+branch_listed b ts are =
+    ap (λ (l : List Item). item.Opens (opening.Branch (out-PartialBranch b).county (out-PartialBranch b).limit) ∷ (l ++ item.Mark ∷ []))
+    (ap (λ (l : List PartialTake). flat_map part_take_items l) are ∙ sym (takes_items (out-PartialBranch b).takes.items))
 
 -- branches behind branches, and takes behind takes
 pub onto_more : (xs ys : List PartialBranch) (t : PartialTree) → list_onto (xs ++ ys) t ≡ list_onto xs (list_onto ys t)
@@ -169,9 +179,13 @@ middle P (z ∷ xs) x ys h = middle P xs x ys h.1
 pub all_at : {X : Type 0} (P : X → Type 0) (all xs : List X) (x : X) (ys : List X) → xs ++ x ∷ ys ≡ all → All P all → P x
 all_at P all xs x ys is h = middle P xs x ys (subst (AllByRecursion P) (sym is) (recursion_from_All P all h))
 
-pub nothing_left : {X : Type 0} (l : List X) → length l ≡ 0 → l ≡ []
-nothing_left [] h = refl
-nothing_left (x ∷ xs) h = absurd (omega (arith, h))
+-- the items that were read and those that are left are all
+pub read_on : {X : Type 0} (done left : List X) (x : X) (rest all : List X) → left ≡ x ∷ rest → done ++ left ≡ all → done ++ x ∷ rest ≡ all
+read_on {X = X} done left x rest all first is = ap (λ (l : List X). done ++ l) (sym first) ∙ is
+
+pub all_read : {X : Type 0} (done left all : List X) → length left ≡ 0 → done ++ left ≡ all → done ≡ all
+all_read done [] all none is = sym (append-nil done) ∙ is
+all_read done (x ∷ left) all none is = absurd (omega (arith, none))
 
 -- what tests of a list and of an option tell
 pub none_left : {X : Type 0} (l : List X) (r : Bool) → r ≡ (length l == 0) → r ≡ true → l ≡ []

@@ -33,7 +33,7 @@ module _ (p : Problem) (round : Round) (order : IsOrder p round.order) where
     part_fits (whole tree) s n more rest state spelled v few f =
         let within = within_tree tree p round s n order state v few in
         let lines = spelled_lines round.format (length round.order) tree spelled.fits in
-        as_part round.format n tree more more rest (λ x. x) (tree_fits round.format n tree more rest within lines f)
+        (as_part round.format n tree more more rest (λ x. x, λ x. x)).0 (tree_fits round.format n tree more rest within lines f)
     part_fits (begun county limit takes raised) s n more rest state spelled v few f =
         let can = v.1 in
         let some = some_depth p round order s state county (limit_of round limit) can round.format in

@@ -48,10 +48,10 @@ pub record TakesFound (more : List Wanted) (items : List Item) : Type 0 where
   pub branches : BranchesOfTakesAreOpen takes
   pub kind : ((own : Takes) × (items_of_begun takes ≡ items_of_takes own)) ⊎ (1 ≤ open_in takes)
 
--- they are found in at most `most` items
+-- they are found in fewer than `most` items
 record Finds (most : ℕ) : Type 0 where
-  pub part : (format : Format) (levels : ℕ) (more : List Wanted) (items : List Item) → length items ≤ most → AllFit (want.Part format levels ∷ more) items → PartFound more items
-  pub takes : (format : Format) (levels : ℕ) (more : List Wanted) (items : List Item) → length items ≤ most → AllFit (want.PartTakes format levels ∷ more) items → TakesFound (want.Part format (after_raise format levels) ∷ more) items
+  pub part : (format : Format) (levels : ℕ) (more : List Wanted) (items : List Item) → length items < most → AllFit (want.Part format levels ∷ more) items → PartFound more items
+  pub takes : (format : Format) (levels : ℕ) (more : List Wanted) (items : List Item) → length items < most → AllFit (want.PartTakes format levels ∷ more) items → TakesFound (want.Part format (after_raise format levels) ∷ more) items
 
 -- a leaf is a whole tree
 leaf_found : (own : Tree) (more : List Wanted) (items later : List Item) → items ≡ items_of_tree own ++ later → AllFit more later → length later < length items → PartFound more items
@@ -85,7 +85,7 @@ module _ (county : ℕ) (limit : Option ℕ) (more : List Wanted) (items : List 
       fits (omega (arith, fewer))
 
 module _ (most : ℕ) (finds : Finds most) (format : Format) (levels : ℕ) (more : List Wanted) where
-  part_opened : (o : Option Opening) (items : List Item) → length items ≤ most → AllFit (wanted_after (want.Part format levels) (parted o) ++ more) items → PartFound more (parted o ∷ items)
+  part_opened : (o : Option Opening) (items : List Item) → length items < most → AllFit (wanted_after (want.Part format levels) (parted o) ++ more) items → PartFound more (parted o ∷ items)
   part_opened None items short f = record { tree = open_leaf; later = items; are = refl; fits = f; fewer = omega arith; branches = tt; kind = inr (omega arith) }
   part_opened (Some (opening.Stuck county)) items short f = leaf_found (leaf (stuck county)) more (item.Opens (opening.Stuck county) ∷ items) items refl f (omega arith)
   part_opened (Some opening.Seats) items short f = leaf_found (leaf seats) more (item.Opens opening.Seats ∷ items) items refl f (omega arith)
@@ -110,7 +110,7 @@ module _ (most : ℕ) (finds : Finds most) (format : Format) (levels : ℕ) (mor
       go (inl a) (inr b) = begun_found county limit more items ts.takes t.tree t.later are t.fits (omega (arith, ts.fewer, t.fewer)) (omega (arith, b)) ts.branches t.branches
       go (inr a) k = begun_found county limit more items ts.takes t.tree t.later are t.fits (omega (arith, ts.fewer, t.fewer)) (omega (arith, a)) ts.branches t.branches
 
-  takes_opened : (o : Option (List ℕ)) (items : List Item) → length items ≤ most → AllFit (wanted_after (want.PartTakes format levels) (taken o) ++ more) items → TakesFound (want.Part format (after_raise format levels) ∷ more) (taken o ∷ items)
+  takes_opened : (o : Option (List ℕ)) (items : List Item) → length items < most → AllFit (wanted_after (want.PartTakes format levels) (taken o) ++ more) items → TakesFound (want.Part format (after_raise format levels) ∷ more) (taken o ∷ items)
   takes_opened None items short f = record { takes = no_begun; later = items; are = refl; fits = f; fewer = omega arith; branches = tt; kind = inl (no_take, refl) }
   takes_opened (Some codes) items short f = record {
     takes = take_begun codes t.tree ts.takes;
@@ -141,36 +141,32 @@ module _ (most : ℕ) (finds : Finds most) (format : Format) (levels : ℕ) (mor
       go (inl a) (inr b) = inr (omega (arith, b))
       go (inr a) k = inr (omega (arith, a))
 
-  part_next : (i : Item) (items : List Item) → length items ≤ most → AllFit (want.Part format levels ∷ more) (i ∷ items) → PartFound more (i ∷ items)
+  part_next : (i : Item) (items : List Item) → length items < most → AllFit (want.Part format levels ∷ more) (i ∷ items) → PartFound more (i ∷ items)
   part_next i items short f =
       let o = part_only format levels i f.0 in
       subst (λ (x : Item). PartFound more (x ∷ items)) (sym o.1) (part_opened o.0 items short (subst (λ (x : Item). AllFit (wanted_after (want.Part format levels) x ++ more) items) o.1 f.1))
 
-  takes_next : (i : Item) (items : List Item) → length items ≤ most → AllFit (want.PartTakes format levels ∷ more) (i ∷ items) → TakesFound (want.Part format (after_raise format levels) ∷ more) (i ∷ items)
+  takes_next : (i : Item) (items : List Item) → length items < most → AllFit (want.PartTakes format levels ∷ more) (i ∷ items) → TakesFound (want.Part format (after_raise format levels) ∷ more) (i ∷ items)
   takes_next i items short f =
       let o = takes_only format levels i f.0 in
       subst (λ (x : Item). TakesFound (want.Part format (after_raise format levels) ∷ more) (x ∷ items)) (sym o.1)
       (takes_opened o.0 items short (subst (λ (x : Item). AllFit (wanted_after (want.PartTakes format levels) x ++ more) items) o.1 f.1))
 
-no_part : (format : Format) (levels : ℕ) (more : List Wanted) (items : List Item) → length items ≤ 0 → AllFit (want.Part format levels ∷ more) items → PartFound more items
-no_part format levels more [] short f = absurd f
-no_part format levels more (i ∷ items) short f = absurd (omega arith)
-
-no_takes : (format : Format) (levels : ℕ) (more : List Wanted) (items : List Item) → length items ≤ 0 → AllFit (want.PartTakes format levels ∷ more) items → TakesFound (want.Part format (after_raise format levels) ∷ more) items
-no_takes format levels more [] short f = absurd f
-no_takes format levels more (i ∷ items) short f = absurd (omega arith)
-
-part_step : (most : ℕ) → Finds most → (format : Format) (levels : ℕ) (more : List Wanted) (items : List Item) → length items ≤ suc most → AllFit (want.Part format levels ∷ more) items → PartFound more items
-part_step most finds format levels more [] short f = absurd f
-part_step most finds format levels more (i ∷ items) short f = part_next most finds format levels more i items (omega arith) f
-
-takes_step : (most : ℕ) → Finds most → (format : Format) (levels : ℕ) (more : List Wanted) (items : List Item) → length items ≤ suc most → AllFit (want.PartTakes format levels ∷ more) items → TakesFound (want.Part format (after_raise format levels) ∷ more) items
-takes_step most finds format levels more [] short f = absurd f
-takes_step most finds format levels more (i ∷ items) short f = takes_next most finds format levels more i items (omega arith) f
+-- items that are wanted have a first one
+from_first : (most : ℕ) (wanted : List Wanted) (Found : List Item → Type 0) → (AllFit wanted [] → ⊥) → ((i : Item) (rest : List Item) → length rest < most → AllFit wanted (i ∷ rest) → Found (i ∷ rest))
+    → (items : List Item) → length items < suc most → AllFit wanted items → Found items
+from_first most wanted Found none next [] short f = absurd (none f)
+from_first most wanted Found none next (i ∷ rest) short f = next i rest (omega arith) f
 
 finds_all : (most : ℕ) → Finds most
-finds_all zero = record { part = no_part; takes = no_takes }
-finds_all (suc most) = record { part = part_step most (finds_all most); takes = takes_step most (finds_all most) }
+finds_all zero = record {
+  part = λ format levels more items short f. absurd (omega (arith, short));
+  takes = λ format levels more items short f. absurd (omega (arith, short));
+}
+finds_all (suc most) = record {
+  part = λ format levels more. from_first most (want.Part format levels ∷ more) (PartFound more) (λ f. f) (part_next most (finds_all most) format levels more);
+  takes = λ format levels more. from_first most (want.PartTakes format levels ∷ more) (TakesFound (want.Part format (after_raise format levels) ∷ more)) (λ f. f) (takes_next most (finds_all most) format levels more);
+}
 
 pub part_found : (format : Format) (levels : ℕ) (more : List Wanted) (items : List Item) → AllFit (want.Part format levels ∷ more) items → PartFound more items
-part_found format levels more items f = (finds_all (length items)).part format levels more items (omega arith) f
+part_found format levels more items f = (finds_all (suc (length items))).part format levels more items (omega arith) f

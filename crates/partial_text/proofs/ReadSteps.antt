@@ -125,3 +125,10 @@ pub ended : {X : Type 0} (a : List Wanted) (view : X → List Item) (items : Lis
     → IfOk r (λ x. view x ≡ items) → IfErr r (λ f. IsTextMemory f) → ReadsItems a old items left new → ReadsAll a view left old r new
 ended a view items left old new (Ok x) same refused h = reads_as a left old new items (view x) (sym same) h
 ended a view items left old new (Err fault) same refused h = λ mem more. absurd (mem refused)
+
+-- the answer at a leaf that is one line
+pub leaf_ended : (format : Format) (a : List Wanted) (start : Rest) (k : ℕ) (xs : List Item) (r : Option Opening) (old new : Rest) (answer : Result Declared TextFault) → ReadsItems a start xs (want.Part format k ∷ []) old
+    → TakesTextLine (by_words (line.part_on format k)) r old new → wanted_after (want.Part format k) (parted r) ≡ []
+    → IfOk answer (λ t. items_of_part (partial_of t) ≡ xs ++ parted r ∷ []) → IfErr answer (λ f. IsTextMemory f) → ReadsAll a (λ t. items_of_part (partial_of t)) [] start answer new
+leaf_ended format a start k xs r old new answer before takes none same refused =
+    ended a (λ t. items_of_part (partial_of t)) (xs ++ parted r ∷ []) [] start new answer same refused (leaf_end format a start k xs r old new (xs ++ parted r ∷ []) before takes none refl)

@@ -3,8 +3,7 @@
 ghost use Rattle.std.specs.Prelude.{◌≡◌, ℕ, List, [], ◌++◌};
 ghost use Rattle.certificate_data.specs.declared.format.Format.{Format};
 ghost use Rattle.board_laws.specs.PartialTrees.{PartialTree};
-ghost use Rattle.partial_text.specs.Spelling.{IsPartSpelling};
-ghost use Rattle.partial_text.specs.TextLaws.{PartsHaveTexts};
+ghost use Rattle.partial_text.specs.{Spelling.IsPartSpelling, TextLaws.PartsHaveTexts};
 
 /// States that a partial tree has at most one text, and a text spells at most one partial tree, for a format and a
 /// number of counties. No partial tree's text begins another's.

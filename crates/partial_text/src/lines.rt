@@ -4,8 +4,7 @@ ghost use Rattle.std.specs.Prelude.{◌≡◌, [], ◌∷◌, IfOk, OnOk};
 ghost use Rattle.certificate_lines.specs.Spelling.{text_of_items};
 ghost use Rattle.certificate_lines.specs.declared.item.Item.TheVariants as item;
 ghost use Rattle.partial_trees.specs.PartialValue.{rest_of, partial_of};
-ghost use Rattle.partial_text.specs.PartItems.{items_of_part};
-ghost use Rattle.partial_text.specs.Reading.{part_branch_items, part_take_items};
+ghost use Rattle.partial_text.specs.{PartItems.items_of_part, Reading.{part_branch_items, part_take_items}};
 ghost use Rattle.partial_text.specs.Writing.{AddsLines};
 
 use certificate_data::Tree;

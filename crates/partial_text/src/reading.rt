@@ -1,26 +1,20 @@
 //! Partial trees, read from their lines.
 
-ghost use Rattle.std.specs.Prelude.{◌≡◌, ◌<◌, ◌≤◌, ◌+◌, ℕ, true, false, List, [], ◌∷◌, ◌++◌, length, take, All, Err};
-ghost use Rattle.std.specs.Prelude.{IfOk, IfErr, OnOk};
+ghost use Rattle.std.specs.Prelude.{◌≡◌, ◌<◌, ◌≤◌, ◌+◌, ℕ, true, false, List, [], ◌∷◌, ◌++◌, length, take, All, Err, IfOk, IfErr, OnOk};
 ghost use Rattle.std.specs.List.{flat_map};
 ghost use Rattle.field_lines.specs.RawPieces.{raw_lines};
 ghost use Rattle.certificate_laws.specs.Depth.{after_raise};
-ghost use Rattle.certificate_lines.specs.Items.{items_from};
-ghost use Rattle.certificate_lines.specs.Lines.{most};
-ghost use Rattle.certificate_lines.specs.Reading.{ReadsAll, IsUnlessMemory};
-ghost use Rattle.certificate_lines.specs.Rest.{IsTextMemory};
+ghost use Rattle.certificate_lines.specs.{Items.items_from, Lines.most, Reading.{ReadsAll, IsUnlessMemory}};
+ghost use Rattle.certificate_lines.specs.{Rest.IsTextMemory, declared.item.Wanted.Wanted};
 ghost use Rattle.certificate_lines.specs.declared.item.Item.TheVariants as item;
-ghost use Rattle.certificate_lines.specs.declared.item.Wanted.{Wanted};
 ghost use Rattle.certificate_lines.specs.declared.item.Wanted.TheVariants as want;
 ghost use Rattle.certificate_data.specs.TreeValue.{leaf_of, list_of_takes};
-ghost use Rattle.certificate_text.specs.Trees.{leaf_items, items_of_takes};
-ghost use Rattle.certificate_text.specs.Writing.{branch_items};
+ghost use Rattle.certificate_text.specs.{Trees.{leaf_items, items_of_takes}, Writing.branch_items};
 ghost use Rattle.board_laws.specs.PartialTrees.{PartialTree as PartValue, open_leaves, open_in};
 ghost use Rattle.partial_trees.specs.PartialValue.{partial_of, list_of_begun};
 ghost use Rattle.partial_trees.specs.OpenBranches.{BranchesAreOpen, BranchesOfTakesAreOpen};
 ghost use Rattle.partial_text.specs.PartItems.{items_of_part, items_of_begun};
-ghost use Rattle.partial_text.specs.Reading.{part_branch_items, tree_in, takes_in, IsWholeTake, IsWholeBranch};
-ghost use Rattle.partial_text.specs.Reading.{StayOpen, StayOpenBefore};
+ghost use Rattle.partial_text.specs.Reading.{part_branch_items, tree_in, takes_in, IsWholeTake, IsWholeBranch, StayOpen, StayOpenBefore};
 ghost use Rattle.partial_text.specs.Spelling.{IsPartSpelling};
 
 use certificate_data::{Branch, Format, Leaf, Take, Tree};

@@ -3,20 +3,16 @@
 ghost use Rattle.std.specs.Prelude.{◌≡◌, ℕ, ◌≤◌, true, false, Some, [], ◌∷◌, ◌++◌, All, map, IfOk, IfErr, OnOk, IsTrue};
 ghost use Rattle.county_codes.specs.Limits.{most_counties};
 ghost use Rattle.connected_sets.specs.Graphs.{graph_problem, graph_order, graph_places, place_problem, IsGraph};
-ghost use Rattle.certificate_data.specs.RoundValue.{round_of, target_of};
-ghost use Rattle.certificate_laws.specs.State.{IsState};
-ghost use Rattle.certificate_laws.specs.Groups.{IsGroupAt};
+ghost use Rattle.certificate_data.specs.{RoundValue.{round_of, target_of}, TreeValue.tree_of};
+ghost use Rattle.certificate_laws.specs.{State.IsState, Groups.IsGroupAt};
 ghost use Rattle.checker_laws.specs.Verdict.{IsLawfulTarget};
 ghost use Rattle.search_groups.specs.PartLists.{AreListsOf};
-ghost use Rattle.certificate_checker.specs.Judging.{AreWanted};
-ghost use Rattle.certificate_checker.specs.Knowing.{IsKnownAt};
-ghost use Rattle.partial_trees.specs.OpenStates.{open_states};
-ghost use Rattle.state_groups.specs.PlacedValues.{state_at, codes_of_sets, IsPlaced, IsClosable};
-ghost use Rattle.partial_trees.specs.PartialValue.{partial_of, list_of_begun};
+ghost use Rattle.certificate_checker.specs.{Judging.AreWanted, Knowing.IsKnownAt};
+ghost use Rattle.partial_trees.specs.{OpenStates.open_states, PartialValue.{partial_of, list_of_begun}};
 ghost use Rattle.partial_trees.specs.Judged.{IsPartInput, IsTakenPart, AreTakenParts};
 ghost use Rattle.partial_trees.specs.Refusals.{IsPartProof, IsPartRefusal, IsTakesRefusal};
+ghost use Rattle.state_groups.specs.PlacedValues.{state_at, codes_of_sets, IsPlaced, IsClosable};
 ghost use Rattle.board_laws.specs.PartialTrees.{whole};
-ghost use Rattle.certificate_data.specs.TreeValue.{tree_of};
 
 use crate::input::PartInput;
 use crate::stop::PartStop;

@@ -1,8 +1,7 @@
 //! Why a partial tree isn't taken.
 
 ghost use Rattle.std.specs.Prelude.{◌≡◌};
-ghost use Rattle.partial_trees.specs.declared.stop.PartStop.TheVariants.{Memory};
-ghost use Rattle.partial_trees.specs.Refusals.{part_stop};
+ghost use Rattle.partial_trees.specs.{declared.stop.PartStop.TheVariants.Memory, Refusals.part_stop};
 
 use state_judge::LineStop;
 use std::alloc::AllocError;

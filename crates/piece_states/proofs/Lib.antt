@@ -3,6 +3,7 @@ pub mod Lines
 pub mod Groups
 pub mod AskedLemmas
 pub mod RoundStates
+pub mod LineWords
 pub mod LinesRead
 pub mod ReadSteps
 pub mod ToldBack

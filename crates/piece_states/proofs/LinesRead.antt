@@ -1,10 +1,9 @@
 -- A line that is read is that of what it says, word by word.
-use Rattle.std.proofs.Common.{◌≡◌, ℕ, ◌≤◌, cond, Bool, true, false, List, [], ◌∷◌, ◌++◌, length, drop, codes, Ok, Err, refl, ap, sym, subst, ◌∙◌, arith, lit<}
+use Rattle.std.proofs.Common.{◌≡◌, ℕ, ◌≤◌, cond, Bool, true, false, List, [], ◌∷◌, length, drop, codes, Ok, Err, refl, ap, subst, ◌∙◌, arith, lit<}
 use Rattle.std.specs.Fmt.{decimal}
-use Rattle.std.specs.List.{join_with_byte}
 use Rattle.field_lines.specs.Chain.{◌>>=◌}
 use Rattle.field_lines.specs.RawPieces.{RawLine, bytes_of}
-use Rattle.certificate_lines.specs.Words.{line_words, code}
+use Rattle.certificate_lines.specs.Words.{code}
 use Rattle.certificate_lines.specs.Lines.{most, begins, counted, number_at, code_word_at, named, each}
 use Rattle.certificate_lines.specs.Items.{by_words}
 use Rattle.certificate_lines.specs.Fitting.{IsSet}
@@ -12,7 +11,7 @@ use Rattle.county_codes.specs.Digits.{five_digits}
 use Rattle.certificate_lines.specs.declared.fault.TextKind.TheVariants.{BadWord}
 use Rattle.certificate_lines.proofs.WordLaws.{bind_ok}
 use Rattle.certificate_lines.proofs.FormLaws.{named_ok, counted_ok, number_at_ok, code_at_ok, codes_ok, length_map}
-use Rattle.certificate_lines.proofs.TextLaws.{line_words_ok}
+use Rattle.piece_states.proofs.LineWords.{empty, begins_ok, line_was, two_ok}
 use Rattle.piece_states.specs.declared.line.ToldLine.{ToldLine}
 use Rattle.piece_states.specs.declared.line.ToldLine.TheVariants.{Closed, Least, End}
 use Rattle.piece_states.specs.PieceValue.{asked_of}
@@ -31,13 +30,6 @@ abbrev pub FitsTold : Bool → ToldLine → Type 0
 FitsTold closing (Closed group) = (closing ≡ true) × IsSet group
 FitsTold closing (Least asked) = FitsAsked (asked_of asked)
 FitsTold closing End = Unit {0}
-
-empty : (words : List (List ℕ)) → length words ≤ 0 → words ≡ []
-empty [] few = refl
-empty (word ∷ words) few = absurd (omega (arith, few))
-
-begins_ok : (name : List ℕ) (words : List (List ℕ)) → begins name words ≡ true → words ≡ name ∷ drop 1 words
-begins_ok name words e = named_ok name words (drop 1 words) (rw e refl)
 
 -- words are those of a line, whose numbers are in their ranges
 pub record AreOf (closing : Bool) (words : List (List ℕ)) (line : ToldLine) : Type 0 where
@@ -123,13 +115,9 @@ pub record LineIs (closing : Bool) (piece : RawLine) (line : ToldLine) : Type 0 
 
 pub told_read : (closing : Bool) (piece : RawLine) (line : ToldLine) → by_words (told_on closing) piece ≡ Ok line → LineIs closing piece line
 told_read closing piece line h =
-    let w = bind_ok (line_words piece.bytes piece.ended) (told_on closing) line h in
-    let whole = line_words_ok piece.bytes piece.ended w.value w.first in
-    let is = told_ok closing w.value line w.then in
-    record {
-      bytes = rw whole.0 (ap (λ (bytes : List ℕ). bytes ++ 10 ∷ []) (sym whole.1 ∙ ap (λ (ws : List (List ℕ)). join_with_byte 32 ws) is.words_are));
-      fits = is.fits;
-    }
+    let was = line_was (told_on closing) piece line h in
+    let is = told_ok closing was.words line was.value in
+    record { bytes = was.bytes ∙ ap line_of is.words_are; fits = is.fits }
 
 -- a first line that was read is that of its numbers
 pub record FirstIs (piece : RawLine) (first : ℕ × ℕ) : Type 0 where
@@ -146,27 +134,15 @@ open_ok : (words : List (List ℕ)) (first : ℕ × ℕ) → open_on words ≡ O
 unfolding open_on
 open_ok words first h =
     let z = bind_ok (named (codes "open") words) _ first h in
-    let a = bind_ok (counted 2 2 z.value) _ first z.then in
-    let b = bind_ok (number_at 0 greatest a.value) _ first a.then in
-    let d = bind_ok (number_at 0 greatest b.value.1) _ first b.then in
-    let few = counted_ok 2 2 z.value a.value a.first in
-    let n = number_at_ok 0 greatest (lit< tt) a.value b.value b.first in
-    let m = number_at_ok 0 greatest (lit< tt) b.value.1 d.value d.first in
-    let same : ◌≡◌ {A = ℕ × ℕ} (b.value.0, d.value.0) first = cc (d.then) in
-    let none : d.value.1 ≡ [] = empty d.value.1 (omega (arith, few.to, ap length n.words_are, ap length m.words_are)) in
-    subst (λ (l : ℕ × ℕ). AreFirst words l) same (record {
-      words_are = named_ok (codes "open") words z.value z.first ∙ ap (λ (ws : List (List ℕ)). codes "open" ∷ ws) (few.same ∙ n.words_are ∙ ap (λ (ws : List (List ℕ)). decimal b.value.0 ∷ ws) (m.words_are ∙ ap (λ (ws : List (List ℕ)). decimal d.value.0 ∷ ws) none));
-      round = n.to;
-      number = m.to;
+    let two = two_ok greatest (lit< tt) z.value first greatest (lit< tt) (λ round piece. (round, piece)) z.then in
+    subst (λ (l : ℕ × ℕ). AreFirst words l) two.is (record {
+      words_are = named_ok (codes "open") words z.value z.first ∙ ap (λ (ws : List (List ℕ)). codes "open" ∷ ws) two.words_are;
+      round = two.to;
+      number = two.to_then;
     })
 
 pub open_read : (piece : RawLine) (first : ℕ × ℕ) → by_words open_on piece ≡ Ok first → FirstIs piece first
 open_read piece first h =
-    let w = bind_ok (line_words piece.bytes piece.ended) open_on first h in
-    let whole = line_words_ok piece.bytes piece.ended w.value w.first in
-    let is = open_ok w.value first w.then in
-    record {
-      bytes = rw whole.0 (ap (λ (bytes : List ℕ). bytes ++ 10 ∷ []) (sym whole.1 ∙ ap (λ (ws : List (List ℕ)). join_with_byte 32 ws) is.words_are));
-      round = is.round;
-      number = is.number;
-    }
+    let was = line_was open_on piece first h in
+    let is = open_ok was.words first was.value in
+    record { bytes = was.bytes ∙ ap line_of is.words_are; round = is.round; number = is.number }

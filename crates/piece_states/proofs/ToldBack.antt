@@ -1,15 +1,11 @@
 -- What is spelled as an open piece is read as that piece.
-use Rattle.std.proofs.Common.{◌≡◌, ℕ, ◌+◌, ◌*◌, ◌<◌, ◌≤◌, ◌^◌, Bool, true, false, List, [], ◌∷◌, ◌++◌, map, length, codes, Result, Ok, Err, refl, ap, sym, ◌∙◌, arith, lit<, length-append, append_assoc}
+use Rattle.std.proofs.Common.{◌≡◌, ℕ, ◌+◌, ◌≤◌, Bool, true, false, List, [], ◌∷◌, ◌++◌, map, codes, Result, Ok, Err, refl, ap, sym, ◌∙◌, arith, lit<, append_assoc}
 use Rattle.std.specs.Fmt.{decimal}
 use Rattle.std.specs.List.{AllByRecursion, flat_map, join_with_byte}
-use Rattle.std.proofs.lemmas.Fmt.{decimal_nonempty, length-decimal-le}
 use Rattle.std.proofs.lemmas.Bool.{false≢true}
-use Rattle.field_lines.specs.Fault.{most_bytes}
 use Rattle.field_lines.specs.RawPieces.{RawLine, raw_lines_from}
-use Rattle.field_lines.proofs.NumbersBack.{decimal_digits}
 use Rattle.county_codes.specs.Digits.{five_digits}
 use Rattle.certificate_lines.specs.Lines.{most}
-use Rattle.certificate_lines.specs.Items.{by_words}
 use Rattle.certificate_lines.specs.Fitting.{IsSet}
 use Rattle.field_lines.specs.Values.{GivesUnless}
 use Rattle.certificate_lines.specs.Rest.{text_fault_at, IsTextMemory}
@@ -17,8 +13,8 @@ use Rattle.certificate_lines.specs.Reading.{IsUnlessMemory}
 use Rattle.certificate_text.proofs.GiveLaws.{memory_only}
 use Rattle.certificate_lines.specs.declared.fault.TextFault.{TextFault}
 use Rattle.certificate_lines.specs.declared.fault.TextKind.{TextKind}
-use Rattle.certificate_text.proofs.SpellLaws.{Printed, printed_line, line_words_back, counted_back, number_at_back, code_at_back, codes_back}
-use Rattle.certificate_text.proofs.TextBack.{IsShort, named_word, digits_shown, code_word, code_words, words_of_short, length_map, line_cut}
+use Rattle.certificate_text.proofs.SpellLaws.{counted_back, number_at_back, code_at_back, codes_back}
+use Rattle.certificate_text.proofs.TextBack.{named_word, code_word, code_words, length_map, line_cut}
 use Rattle.piece_states.specs.declared.line.ToldLine.{ToldLine}
 use Rattle.piece_states.specs.declared.line.ToldLine.TheVariants.{Closed, Least, End}
 use Rattle.piece_states.specs.Told.{Asked}
@@ -26,35 +22,9 @@ use Rattle.piece_states.specs.PieceValue.{PieceTold}
 use Rattle.piece_states.specs.Text.{open_words, closed_words, asked_words, line_of, text_of_told, text_of_piece}
 use Rattle.piece_states.specs.TextLines.{greatest, greatest_size, open_on, closed_on, least_on, told_on}
 use Rattle.piece_states.specs.Reading.{told_behind, told_with, told_from, piece_with, piece_from, piece_in, FitsAsked, HasText}
+use Rattle.piece_states.proofs.LineWords.{IsRead, number_word, said}
 use Rattle.piece_states.proofs.LinesRead.{told_words, FitsTold}
 use Rattle.piece_states.proofs.ReadSteps.{told_by_line}
-
-number_word : (n : ℕ) → n ≤ greatest → IsShort (decimal n)
-number_word n few =
-    let fits : n < 2 ^ 64 = omega (arith, few) in
-    let small : n < 10 ^ 19 = omega (arith, few) in
-    record {
-      is_word = record { some = decimal_nonempty n fits; shown = digits_shown (decimal n) (decimal_digits n fits) };
-      short = omega (arith, length-decimal-le 19 n (omega arith) small fits);
-    }
-
-short_line : (first : List ℕ) (words : List (List ℕ)) → IsShort first → AllByRecursion IsShort words → length (join_with_byte 32 (first ∷ words)) ≤ 21 * (length words + 1)
-short_line first [] a b = omega (arith, a.short)
-short_line first (w ∷ words) a b = omega (arith, a.short, short_line w words b.0 b.1, length-append first (32 ∷ join_with_byte 32 (w ∷ words)))
-
--- a line of these words is read as what it says
-record IsRead {X : Type 0} (read : List (List ℕ) → Result X TextKind) (words : List (List ℕ)) (x : X) : Type 0 where
-  pub printed : AllByRecursion Printed (join_with_byte 32 words)
-  pub read_as : (n : ℕ) → by_words read (record { number = n; bytes = join_with_byte 32 words; ended = true }) ≡ Ok x
-
-said : {X : Type 0} (read : List (List ℕ) → Result X TextKind) (first : List ℕ) (words : List (List ℕ)) (x : X) → IsShort first → AllByRecursion IsShort words → length words ≤ 256 → read (first ∷ words) ≡ Ok x
-    → IsRead read (first ∷ words) x
-said read first words x a b few h =
-    let short : length (join_with_byte 32 (first ∷ words)) ≤ most_bytes = omega (arith, short_line first words a b, few) in
-    record {
-      printed = printed_line first words a.is_word (words_of_short words b);
-      read_as = λ n. rw (line_words_back first words a.is_word (words_of_short words b) short) h;
-    }
 
 open_back : (round piece : ℕ) → round ≤ greatest → piece ≤ greatest → open_on (open_words round piece) ≡ Ok (round, piece)
 unfolding open_on

@@ -1,17 +1,13 @@
 //! Closing of the groups that are told, where each of them may be closed.
 
 ghost use Rattle.std.specs.Prelude.{◌≡◌, ℕ, true, ◌<◌, ◌≤◌, filter, length, None, IfOk, IfSome, IsTrue, ◌↔◌};
-ghost use Rattle.grouping_laws.specs.Sets.{contains};
-ghost use Rattle.grouping_laws.specs.Problem.{Connected};
+ghost use Rattle.grouping_laws.specs.{Sets.contains, Problem.Connected};
 ghost use Rattle.place_sets.specs.PlaceSets.{places_of};
 ghost use Rattle.connected_sets.specs.Graphs.{graph_problem, graph_order, graph_places, place_problem, IsGraph};
 ghost use Rattle.certificate_data.specs.RoundValue.{round_of};
-ghost use Rattle.certificate_laws.specs.State.{close};
-ghost use Rattle.certificate_laws.specs.Fitting.{Fits};
-ghost use Rattle.state_groups.specs.StateValue.{state_of};
-ghost use Rattle.state_groups.specs.PlacedValues.{state_at, codes_of_set, IsPlaced};
-ghost use Rattle.piece_states.specs.Told.{close_all};
-ghost use Rattle.piece_states.specs.RoundStates.{CanClose, EachCanClose};
+ghost use Rattle.certificate_laws.specs.{State.close, Fitting.Fits};
+ghost use Rattle.state_groups.specs.{StateValue.state_of, PlacedValues.{state_at, codes_of_set, IsPlaced}};
+ghost use Rattle.piece_states.specs.{Told.close_all, RoundStates.{CanClose, EachCanClose}};
 
 use certificate_data::{Format, Round};
 use connected_sets::{CountyGraph, part_around};

@@ -1,8 +1,7 @@
 //! Laws of what is told. Each function does nothing; its contract is the law.
 
 ghost use Rattle.std.specs.Prelude.{◌≡◌};
-ghost use Rattle.piece_states.specs.Text.{text_of_piece};
-ghost use Rattle.piece_states.specs.Examples.{told_path, path_text};
+ghost use Rattle.piece_states.specs.{Text.text_of_piece, Examples.{told_path, path_text}};
 ghost use Rattle.piece_states.specs.Laws.{StatesAreTold, StatesHaveTexts, BranchesKeepTold};
 
 /// States that a state of a round is the one that is told of it.

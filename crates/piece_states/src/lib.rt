@@ -24,6 +24,7 @@ mod writing;
 
 pub use laws::{branches_keep_told, states_are_told, states_have_texts};
 pub use line::ToldLine;
+pub use line_words::skipped;
 pub use piece::{Asked, OpenPiece};
 pub use reading::front_open_piece;
 pub use told::told_state;

@@ -2,8 +2,7 @@
 
 ghost use Rattle.std.specs.Prelude.{◌≡◌, drop, if◌then◌else◌};
 ghost use Rattle.field_lines.specs.Values.{GivesUnless};
-ghost use Rattle.certificate_lines.specs.Lines.{begins};
-ghost use Rattle.certificate_lines.specs.declared.fault.TextKind.TheVariants.{Memory};
+ghost use Rattle.certificate_lines.specs.{Lines.begins, declared.fault.TextKind.TheVariants.Memory};
 ghost use Rattle.piece_states.specs.TextLines.{open_on, closed_on, least_on, told_on};
 
 use crate::line::ToldLine;
@@ -12,7 +11,7 @@ use certificate_lines::{MOST, TextKind, Words};
 use std::alloc::Global;
 
 /// Takes the next word if it is `name`, and returns whether it was.
-fn skipped(words: &mut Words, name: &[u8]) -> bool
+pub fn skipped(words: &mut Words, name: &[u8]) -> bool
     ensures was { result ≡ begins name.now words.old }
     ensures rest { words.new ≡ (if result then drop 1 words.old else words.old) }
 {

@@ -4,9 +4,7 @@ ghost use Rattle.std.specs.Prelude.{◌≡◌, ◌-◌, ◌≤◌, true, false, 
 ghost use Rattle.certificate_data.specs.RoundValue.{round_of};
 ghost use Rattle.certificate_laws.specs.State.{IsLeastSize, raise};
 ghost use Rattle.state_groups.specs.PlacedValues.{state_at, IsPlaced};
-ghost use Rattle.piece_states.specs.Told.{raise_all};
-ghost use Rattle.piece_states.specs.PieceValue.{asked_of};
-ghost use Rattle.piece_states.specs.RoundStates.{CanAsk, EachCanAsk};
+ghost use Rattle.piece_states.specs.{Told.raise_all, PieceValue.asked_of, RoundStates.{CanAsk, EachCanAsk}};
 
 use crate::piece::Asked;
 use certificate_data::{Format, Round};

@@ -2,11 +2,9 @@
 
 ghost use Rattle.std.specs.Prelude.{◌≡◌, ◌≤◌, ◌++◌, ℕ, List, true, length, map, take, IfOk};
 ghost use Rattle.field_lines.specs.Values.{GivesUnless};
-ghost use Rattle.certificate_lines.specs.Items.{by_words};
-ghost use Rattle.certificate_lines.specs.Reading.{IsUnlessMemory};
+ghost use Rattle.certificate_lines.specs.{Items.by_words, Reading.IsUnlessMemory};
 ghost use Rattle.certificate_lines.specs.Rest.{IsTextMemory, ReadsLine, lines_of};
-ghost use Rattle.piece_states.specs.TextLines.{open_on, told_on};
-ghost use Rattle.piece_states.specs.Text.{text_of_told, text_of_piece};
+ghost use Rattle.piece_states.specs.{TextLines.{open_on, told_on}, Text.{text_of_told, text_of_piece}};
 ghost use Rattle.piece_states.specs.PieceValue.{PieceTold, asked_of, told_by, piece_of};
 ghost use Rattle.piece_states.specs.Reading.{told_from, piece_in, HasText};
 

@@ -5,9 +5,7 @@ ghost use Rattle.connected_sets.specs.Graphs.{graph_problem, graph_order, graph_
 ghost use Rattle.certificate_data.specs.RoundValue.{round_of};
 ghost use Rattle.certificate_laws.specs.State.{IsState};
 ghost use Rattle.state_groups.specs.PlacedValues.{state_at, IsPlaced};
-ghost use Rattle.piece_states.specs.Told.{state_told};
-ghost use Rattle.piece_states.specs.PieceValue.{told_by};
-ghost use Rattle.piece_states.specs.RoundStates.{IsTold};
+ghost use Rattle.piece_states.specs.{Told.state_told, PieceValue.told_by, RoundStates.IsTold};
 
 use crate::closing::close_told;
 use crate::piece::OpenPiece;

@@ -1,7 +1,6 @@
 //! Writing of open pieces as their lines.
 
-ghost use Rattle.std.specs.Prelude.{◌≡◌, ◌<◌, [], ◌∷◌, ◌++◌, length, codes, OnOk};
-ghost use Rattle.std.specs.List.{flat_map};
+ghost use Rattle.std.specs.{Prelude.{◌≡◌, ◌<◌, [], ◌∷◌, ◌++◌, length, codes, OnOk}, List.flat_map};
 ghost use Rattle.county_problem.specs.OrderedValue.{code_at};
 ghost use Rattle.state_groups.specs.PlacedValues.{state_at, codes_of_sets, IsPlaced};
 ghost use Rattle.piece_states.specs.Told.{told_of, asked_by};

@@ -2,15 +2,11 @@
 
 ghost use Rattle.std.specs.Prelude.{◌≡◌, ◌≤◌, false, Ok, Some, None, IfOk, IfErr, map, All};
 ghost use Rattle.std.specs.List.Sorted.{IsStrictlyIncreasing};
-ghost use Rattle.field_lines.specs.Values.{GivesUnless};
-ghost use Rattle.field_lines.specs.Cut.{cut};
-ghost use Rattle.field_lines.specs.LinesFrom.{ReadsText};
-ghost use Rattle.pl94_counties.specs.PeopleByCode.{Adds, IsPl94Memory};
-ghost use Rattle.pl94_counties.specs.Geo.{rule_of, area_on};
+ghost use Rattle.field_lines.specs.{Values.GivesUnless, Cut.cut, LinesFrom.ReadsText};
+ghost use Rattle.pl94_counties.specs.{PeopleByCode.{Adds, IsPl94Memory}, Geo.{rule_of, area_on}};
 ghost use Rattle.pl94_counties.specs.Areas.{found_list_in, some_areas, area_list_in, area_list};
 ghost use Rattle.pl94_counties.specs.Readers.{IsPl94Refused, ReadsBoth, read_failed};
-ghost use Rattle.pl94_counties.specs.JoinedLines.{IsJoined, IsListedArea};
-ghost use Rattle.pl94_counties.specs.TextFaults.{IsPl94OfText};
+ghost use Rattle.pl94_counties.specs.{JoinedLines.{IsJoined, IsListedArea}, TextFaults.IsPl94OfText};
 
 use crate::fault::{File, Pl94Fault, Pl94Kind};
 use crate::geo::{Area, area_in};

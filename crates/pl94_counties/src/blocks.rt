@@ -2,12 +2,9 @@
 
 ghost use Rattle.std.specs.Prelude.{◌≡◌, ◌≤◌, false, ◌<◌, ◌^◌, IfOk, IfErr, map, All, length};
 ghost use Rattle.std.specs.List.Sorted.{IsStrictlyIncreasing};
-ghost use Rattle.field_lines.specs.Values.{GivesUnless};
-ghost use Rattle.field_lines.specs.Cut.{cut};
-ghost use Rattle.pl94_counties.specs.PeopleByCode.{IsPl94Memory};
-ghost use Rattle.pl94_counties.specs.JoinedLines.{IsJoined, IsListedArea};
-ghost use Rattle.pl94_counties.specs.TextFaults.{IsPl94OfText};
-ghost use Rattle.pl94_counties.specs.Readers.{ReadsBoth, read_failed};
+ghost use Rattle.field_lines.specs.{Values.GivesUnless, Cut.cut};
+ghost use Rattle.pl94_counties.specs.{PeopleByCode.IsPl94Memory, JoinedLines.{IsJoined, IsListedArea}};
+ghost use Rattle.pl94_counties.specs.{TextFaults.IsPl94OfText, Readers.{ReadsBoth, read_failed}};
 ghost use Rattle.pl94_counties.specs.Counties.{block_of, block_list};
 ghost use Rattle.pl94_counties.specs.declared.geo.Area.TheVariants as areas;
 

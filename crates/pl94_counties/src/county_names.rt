@@ -1,9 +1,7 @@
 //! The names of counties, and counties with their names.
 
-ghost use Rattle.std.specs.Prelude.{◌≡◌, ◌≤◌, ◌++◌, ◌∷◌, [], true, false, IfOk, IfErr, OnOk, MatchOption};
-ghost use Rattle.std.specs.Prelude.{◌==◌, find, map, option_to_list};
-ghost use Rattle.std.specs.Option.{option_copied};
-ghost use Rattle.std.specs.Str.{is_utf8};
+ghost use Rattle.std.specs.Prelude.{◌≡◌, ◌≤◌, ◌++◌, ◌∷◌, [], true, false, IfOk, IfErr, OnOk, MatchOption, ◌==◌, find, map, option_to_list};
+ghost use Rattle.std.specs.{Option.option_copied, Str.is_utf8};
 ghost use Rattle.pl94_counties.specs.CountyNames.{IsNoMemory, code_name, county_name, name_on as name_on_line};
 ghost use Rattle.pl94_counties.specs.CountyNames.{has_bad_name, named_on, name_of as name_of_code};
 ghost use Rattle.pl94_counties.specs.CountyNames.{with_names as named_by};

@@ -1,8 +1,6 @@
 //! The fields of a line of the geographic header or of segment 1.
 
-ghost use Rattle.std.specs.Prelude.{◌≡◌, ◌+◌, OnSome, drop};
-ghost use Rattle.std.specs.List.{slice_get};
-ghost use Rattle.std.specs.Option.{option_map};
+ghost use Rattle.std.specs.{Prelude.{◌≡◌, ◌+◌, OnSome, drop}, List.slice_get, Option.option_map};
 
 use field_lines::Fields;
 

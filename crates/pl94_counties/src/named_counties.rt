@@ -1,19 +1,13 @@
 //! The counties of a state with their names, by one reading of each file.
 
-ghost use Rattle.std.specs.Prelude.{◌≡◌, ◌≤◌, false, Ok, None, IfOk, IfErr, map};
-ghost use Rattle.std.specs.List.{filter_map};
+ghost use Rattle.std.specs.{Prelude.{◌≡◌, ◌≤◌, false, Ok, None, IfOk, IfErr, map}, List.filter_map};
 ghost use Rattle.std.specs.List.Sorted.{IsStrictlyIncreasing};
 ghost use Rattle.county_codes.specs.Counties.{codes_of};
-ghost use Rattle.field_lines.specs.Values.{GivesUnless};
-ghost use Rattle.field_lines.specs.LinesFrom.{ReadsText};
+ghost use Rattle.field_lines.specs.{Values.GivesUnless, LinesFrom.ReadsText};
 ghost use Rattle.pl94_counties.specs.declared.geo.Area.TheVariants as areas;
-ghost use Rattle.pl94_counties.specs.Areas.{found_list_in};
-ghost use Rattle.pl94_counties.specs.Counties.{county_in, county_list};
+ghost use Rattle.pl94_counties.specs.{Areas.found_list_in, Counties.{county_in, county_list}, Readers.ReadsTexts};
+ghost use Rattle.pl94_counties.specs.NamedReaders.{entries_shown, StandInOrder, AddsNamed, entries_by_lines, named_entries_in, named_entries, some_named, IsNamedRefused, IsNoReadFailure, named_read_failed};
 ghost use Rattle.pl94_counties.specs.CountyNames.{IsNoMemory, county_name, with_names as named_by, named_list};
-ghost use Rattle.pl94_counties.specs.Readers.{ReadsTexts};
-ghost use Rattle.pl94_counties.specs.NamedReaders.{entries_shown, StandInOrder, AddsNamed, entries_by_lines};
-ghost use Rattle.pl94_counties.specs.NamedReaders.{named_entries_in, named_entries, some_named, IsNamedRefused};
-ghost use Rattle.pl94_counties.specs.NamedReaders.{IsNoReadFailure, named_read_failed};
 
 use crate::area_list::{add_line, no_memory};
 use crate::counties::list;

@@ -1,8 +1,6 @@
 //! Lists of sets: equal sets, and sets ordered by size and then by places.
 
-ghost use Rattle.std.specs.Prelude.{◌≡◌, ℕ, map, IfOk};
-ghost use Rattle.std.specs.Cmp.Lexicographic.{slice_cmp};
-ghost use Rattle.std.specs.Ordering.{nat_cmp, is_lt};
+ghost use Rattle.std.specs.{Prelude.{◌≡◌, ℕ, map, IfOk}, Cmp.Lexicographic.slice_cmp, Ordering.{nat_cmp, is_lt}};
 ghost use Rattle.std.specs.List.Sorted.{IsPermutation, IsSortedBy};
 ghost use Rattle.place_sets.specs.PlaceSets.{lists_of, sort_key, AreBelow};
 

@@ -3,6 +3,7 @@ use Rattle.std.proofs.Common.{◌≡◌, ℕ, ◌+◌, ◌≤◌, ◌<◌, Bool,
 use Rattle.std.specs.Prelude.{nat_lt}
 use Rattle.std.proofs.lemmas.Bool.{false≢true, eqb-true, ltb-false, lt-ltb}
 use Rattle.std.proofs.lemmas.List.{ext_get_or, get_or-map, length-map}
+use Rattle.std.proofs.lemmas.List.Sums.{length-filter, count_by-le-length}
 use Rattle.grouping_laws.specs.Sets.{indicator, count, contains}
 use Rattle.grouping_laws.specs.Problem.{Problem, IsProblem}
 use Rattle.grouping_laws.specs.GroupsFrom.{IsOrder, place}
@@ -84,17 +85,11 @@ module _ (value : ℕ → ℕ) where
       let r = has_mapped (weight_for value) (filter (λ c. nat_lt 0 (value c)) cs) w h in
       subst (λ (z : Weight). contains cs z.county ≡ true) r.2 (has_member cs r.0 (has-filter (λ c. nat_lt 0 (value c)) cs r.0 r.1).0)
 
-  length_kept : (q : ℕ → Bool) (cs : List ℕ) → length (filter q cs) ≤ length cs
-  length_kept q [] = omega arith
-  length_kept q (x ∷ xs) = go (q x) (length_kept q xs)
-    where
-      go : (b : Bool) → length (filter q xs) ≤ length xs → length (cond b (x ∷ filter q xs) (filter q xs)) ≤ length (x ∷ xs)
-      go true l = omega (arith, l)
-      go false l = omega (arith, l)
-
   -- no more than there are counties
   pub above_few : (cs : List ℕ) → length (weights_above value cs) ≤ length cs
-  above_few cs = omega (arith, length-map (filter (λ c. nat_lt 0 (value c)) cs) (weight_for value), length_kept (λ c. nat_lt 0 (value c)) cs)
+  above_few cs =
+      let q = λ (c : ℕ). nat_lt 0 (value c) in
+      omega (arith, length-map (filter q cs) (weight_for value), length-filter q cs, count_by-le-length q cs)
 
 module _ (p : Problem) (law : IsProblem p) (order : List ℕ) (whole : IsOrder p order) where
   in_problem : (c : ℕ) → contains order c ≡ true → contains p.counties c ≡ true

@@ -7,6 +7,7 @@ use Rattle.grouping_laws.specs.GroupsFrom.{IsOrder}
 use Rattle.grouping_laws.proofs.Alike.{Alike, length_alike, in_order_alike, member_same}
 use Rattle.grouping_laws.proofs.Elements.{Has, has_all, all_from_has, has_from_contains}
 use Rattle.grouping_laws.proofs.PlaceCodes.{has_mapped}
+use Rattle.grouping_laws.proofs.PlaceProblem.{order_once}
 use Rattle.place_sets.specs.PlaceSets.{places_of}
 use Rattle.place_sets.proofs.Sums.{total_alike}
 use Rattle.certificate_data.specs.Round.{Round}
@@ -17,10 +18,13 @@ use Rattle.certificate_laws.specs.Places.{IsStateAt}
 use Rattle.certificate_data.specs.Tree.{Weight}
 use Rattle.certificate_laws.specs.BoundLines.{room_at}
 use Rattle.certificate_laws.proofs.Decided.{fits_alike}
+use Rattle.certificate_laws.proofs.PlaceStates.{states_have_codes}
 use Rattle.certificate_data.specs.declared.weights.Weight.{Weight as WeightHeld}
 use Rattle.certificate_data.specs.declared.allowance.Allowance.TheVariants.{Weigh}
-use Rattle.certificate_data.specs.TreeValue as held
-use Rattle.state_groups.specs.PlacedValues.{codes_of_set, codes_of_sets}
+use Rattle.certificate_data.specs.TreeValue as values
+use Rattle.state_groups.specs.declared.state.State.{State as StateHeld}
+use Rattle.state_groups.specs.StateValue.{state_of}
+use Rattle.state_groups.specs.PlacedValues.{state_at, codes_of_set, codes_of_sets, IsPlaced}
 use Rattle.state_judge.specs.Weights.{weights_of, county_weight}
 use Rattle.state_judge.proofs.FairLines.{set_weight, open_sum}
 use Rattle.search_groups.specs.KnownGroups.{IsKnown}
@@ -45,7 +49,7 @@ known_heavy p round s i quota w groups whole known heavy g fits e =
 -- the weights of counties of the problem
 known_counties : (p : Problem) (value : ℕ → ℕ) (ws : List WeightHeld) → ws ≡ weights_above value p.counties → All (λ (w : Weight). contains p.counties w.county ≡ true) (weights_of ws)
 known_counties p value ws e = all_from_has (λ (w : Weight). contains p.counties w.county ≡ true) (weights_of ws) (λ w h.
-    let r = has_mapped held.weight_of ws w h in
+    let r = has_mapped values.weight_of ws w h in
     subst (λ (z : Weight). contains p.counties z.county ≡ true) r.2 (above_known value p.counties r.0 (subst (λ (z : List WeightHeld). Has z r.0) e r.1)))
 
 -- where each set weighs so much by the table, its codes do
@@ -64,15 +68,24 @@ less_shared a b c n k e l = least (ap (λ z. z / n) e)
 
 module _ (C : Type 0) (test : C → ℕ → Bool) (p : Problem) (law : IsProblem p) (order : List ℕ) (whole : IsOrder p order) where
   -- a line of the table's weights, with a quota that no group weighs less than, where the open places share them between fewer than `k` groups
-  pub weighed_fewer : (round : Round) (s t : State) (i k quota : ℕ) (table : List ℕ) (ws : List WeightHeld) (sets : List C) (region : ℕ → Bool) → order ≡ round.order → IsStateAt order s t → length table ≡ length order → AreTableWeights order p.counties table ws
-      → IsKnown p round s i (codes_of_sets order test sets) → All (λ g. quota ≤ sum_by (λ x. get_or table x 0) (places_of (length table) (test g))) sets → 1 ≤ quota → quota ≤ 256000000
-      → ((x : ℕ) → region x ≡ open_to t i x) → sum_by (λ x. get_or table x 0) (places_of (length table) region) / quota < k → AllowsFewer round.format p s i k (Weigh quota ws)
-  weighed_fewer round s t i k quota table ws sets region same at number are known heavy from to covers less = record {
+  pub weighed_fewer : (round : Round) (held : StateHeld C) → IsPlaced (length order) test held → (i k quota : ℕ) (table : List ℕ) (ws : List WeightHeld) (sets : List C) (region : ℕ → Bool) → order ≡ round.order → length table ≡ length order → AreTableWeights order p.counties table ws
+      → IsKnown p round (state_at order test held) i (codes_of_sets order test sets) → All (λ g. quota ≤ sum_by (λ x. get_or table x 0) (places_of (length table) (test g))) sets → 1 ≤ quota → quota ≤ 256000000
+      → ((x : ℕ) → region x ≡ open_to (state_of test held) i x) → sum_by (λ x. get_or table x 0) (places_of (length table) region) / quota < k → AllowsFewer round.format p (state_at order test held) i k (Weigh quota ws)
+  weighed_fewer round held placed i k quota table ws sets region same number are known heavy from to covers less = record {
     fair = (from, known_counties p (placed_weight order table) ws are.are, known_heavy p round s i quota w (codes_of_sets order test sets) (subst (IsOrder p) same whole) known (all_heavy test order table w quota sets table_is heavy));
     fewer = less_shared (room_at p s i 0 / i) (sum_by (λ x. get_or table x 0) (places_of (length table) region)) (sum_by w (listed p (open_to s i))) quota k (open_sum w p order table s t i region law whole at table_is covers) less;
     spelled = weights_fit quota ws from to are.few are.each are.ascending;
   }
     where
+      t : State
+      t = state_of test held
+
+      s : State
+      s = state_at order test held
+
+      at : IsStateAt order s t
+      at = states_have_codes.there order t (order_once p order whole) placed.rest
+
       w : ℕ → ℕ
       w = county_weight ws
 

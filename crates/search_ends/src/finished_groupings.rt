@@ -1,26 +1,20 @@
 //! The lawful grouping of a state that a search can't go on from.
 
 ghost use Rattle.std.specs.Prelude.{◌≡◌, ℕ, filter, All, AllPairs, IfOk};
-ghost use Rattle.grouping_laws.specs.Sets.{contains};
-ghost use Rattle.grouping_laws.specs.Grouping.{sets_of};
-ghost use Rattle.grouping_laws.specs.GroupsFrom.{IsBefore};
-ghost use Rattle.connected_sets.specs.Graphs.{graph_problem, graph_order, graph_places, IsGraph};
-ghost use Rattle.certificate_data.specs.RoundValue.{round_of};
-ghost use Rattle.certificate_laws.specs.State.{IsState};
-ghost use Rattle.certificate_laws.specs.Fitting.{NoGroupFits};
-ghost use Rattle.certificate_laws.specs.Leaves.{IsStuck, IsOffSeats};
+ghost use Rattle.grouping_laws.specs.{Sets.contains, Grouping.sets_of, GroupsFrom.IsBefore};
+ghost use Rattle.connected_sets.specs.Graphs.{graph_order, graph_places, IsGraph};
+ghost use Rattle.certificate_laws.specs.{State.IsState, Fitting.NoGroupFits, Leaves.{IsStuck, IsOffSeats}};
 ghost use Rattle.certificate_laws.specs.Search.{IsFound};
 ghost use Rattle.certificate_text.specs.TreeItems.{HasTargetLines};
-ghost use Rattle.state_groups.specs.PlacedValues.{state_at, IsPlaced};
-ghost use Rattle.search_groups.specs.Standing.{StandsAhead};
+ghost use Rattle.state_groups.specs.PlacedValues.{IsPlaced};
+ghost use Rattle.search_groups.specs.{Positions.{search_problem, search_round, search_state}, Standing.StandsAhead};
 
 use crate::groups::seated_groups;
 use crate::seats::seats_for;
 use crate::sets::finished_sets;
-use certificate_data::Round;
-use connected_sets::CountyGraph;
 use county_codes::Grouping;
 use place_sets::CountySet;
+use search_groups::SearchInput;
 use state_groups::State;
 use std::alloc::AllocError;
 
@@ -31,30 +25,29 @@ use std::alloc::AllocError;
 /// the state where nothing is closed.
 ///
 /// The groups are ordered by size, in counties, and then by the places of their counties. A group names its counties in
-/// the order of their places. All numbers are in the ranges of a certificate's target. `_round` is the round of the
-/// search, and nothing of it is read. Returns an error if memory was refused.
+/// the order of their places. All numbers are in the ranges of a certificate's target. Of the `input` the round isn't
+/// read. Returns an error if memory was refused.
 pub fn finished_grouping<C: CountySet>(
-    graph: &CountyGraph<C>,
-    _round: &Round,
+    input: &SearchInput<C>,
     state: &State<C>,
 ) -> Result<Grouping, AllocError>
-    requires graph { IsGraph C.test C.PLACES graph.now }
-    requires placed { IsPlaced (graph_places graph.now) C.test state.now }
-    requires order { graph_order graph.now ≡ _round.now.order }
-    requires state { IsState (graph_problem graph.now) (round_of _round.now) (state_at (graph_order graph.now) C.test state.now) }
-    requires none { NoGroupFits (graph_problem graph.now) (round_of _round.now) (state_at (graph_order graph.now) C.test state.now) }
-    requires ahead { StandsAhead (round_of _round.now) (state_at (graph_order graph.now) C.test state.now) }
-    requires no_stuck { (c : ℕ)
-        → ¬ IsStuck (graph_problem graph.now) (state_at (graph_order graph.now) C.test state.now) c }
-    requires no_seats { ¬ IsOffSeats (graph_problem graph.now) (state_at (graph_order graph.now) C.test state.now) }
+    requires graph { IsGraph C.test C.PLACES input.now.graph.now }
+    requires placed { IsPlaced (graph_places input.now.graph.now) C.test state.now }
+    requires order { graph_order input.now.graph.now ≡ input.now.round.now.order }
+    requires state { IsState (search_problem input.now) (search_round input.now) (search_state input.now C.test state.now) }
+    requires none { NoGroupFits (search_problem input.now) (search_round input.now) (search_state input.now C.test state.now) }
+    requires ahead { StandsAhead (search_round input.now) (search_state input.now C.test state.now) }
+    requires no_stuck { (c : ℕ) → ¬ IsStuck (search_problem input.now) (search_state input.now C.test state.now) c }
+    requires no_seats { ¬ IsOffSeats (search_problem input.now) (search_state input.now C.test state.now) }
     ensures found { IfOk
         result
-        (λ g. IsFound (graph_problem graph.now) (round_of _round.now) (state_at (graph_order graph.now) C.test state.now) g.groups.items) }
-    ensures in_turn { IfOk result (λ g. AllPairs (IsBefore (graph_order graph.now)) (sets_of g.groups.items)) }
-    ensures in_order { IfOk result (λ g. All (λ m. filter (contains m.codes) (graph_order graph.now)
+        (λ g. IsFound (search_problem input.now) (search_round input.now) (search_state input.now C.test state.now) g.groups.items) }
+    ensures in_turn { IfOk result (λ g. AllPairs (IsBefore (graph_order input.now.graph.now)) (sets_of g.groups.items)) }
+    ensures in_order { IfOk result (λ g. All (λ m. filter (contains m.codes) (graph_order input.now.graph.now)
         ≡ m.codes) g.groups.items) }
     ensures lines { IfOk result (λ g. HasTargetLines g.groups.items) }
 {
+    let graph = input.graph;
     let _problem = graph.ordered.problem();
     let sets = finished_sets(graph, state)?;
     let seats = seats_for(graph.alloc, graph.ordered, &sets)?;

@@ -1,9 +1,7 @@
 //! Seats for sets that have each county once.
 
 ghost use Rattle.std.specs.Prelude.{◌≡◌, ℕ, length, map, IfOk};
-ghost use Rattle.grouping_laws.specs.Sets.{sum_by};
-ghost use Rattle.grouping_laws.specs.Problem.{people_of};
-ghost use Rattle.grouping_laws.specs.Ranges.{SuitAll};
+ghost use Rattle.grouping_laws.specs.{Sets.sum_by, Problem.people_of, Ranges.SuitAll};
 ghost use Rattle.county_problem.specs.ProblemValue.{problem_of};
 ghost use Rattle.connected_laws.specs.Listing.{AreBelow};
 ghost use Rattle.state_groups.specs.PlacedValues.{codes_of_set, codes_of_sets};

@@ -12,24 +12,6 @@ use place_sets::{CountySet, copy_sets, sorted};
 use state_groups::State;
 use std::alloc::AllocError;
 
-/// Returns the closed groups of a state, followed by the connected parts of its rest.
-fn closed_and_parts<C: CountySet>(
-    graph: &CountyGraph<C>,
-    state: &State<C>,
-) -> Result<Vec<C>, AllocError>
-    requires graph { IsGraph C.test C.PLACES graph.now }
-    requires placed { IsPlaced (graph_places graph.now) C.test state.now }
-    ensures finished { IfOk
-        result
-        (λ v. AreFinished (graph_problem graph.now) (state_at (graph_order graph.now) C.test state.now) (codes_of_sets (graph_order graph.now) C.test v.items)) }
-    ensures below { IfOk result (λ v. AreBelow (graph_places graph.now) C.test v.items) }
-{
-    let mut parts = parts_of(graph, &state.rest)?;
-    let mut sets = copy_sets(graph.alloc, &state.closed)?;
-    sets.append(&mut parts)?;
-    Ok(sets)
-}
-
 /// Returns the closed groups of a state and the connected parts of its rest, ordered by size and then by places. Sets
 /// that differ stand in that order.
 pub(crate) fn finished_sets<C: CountySet>(
@@ -47,6 +29,8 @@ pub(crate) fn finished_sets<C: CountySet>(
         → AllPairs (IsBefore (graph_order graph.now)) (codes_of_sets (graph_order graph.now) C.test v.items)) }
     ensures below { IfOk result (λ v. AreBelow (graph_places graph.now) C.test v.items) }
 {
-    let sets = closed_and_parts(graph, state)?;
+    let mut parts = parts_of(graph, &state.rest)?;
+    let mut sets = copy_sets(graph.alloc, &state.closed)?;
+    sets.append(&mut parts)?;
     Ok(sorted(sets)?)
 }

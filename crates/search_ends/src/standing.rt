@@ -1,17 +1,13 @@
 //! How the closed groups of a state compare with the target, size by size.
 
-ghost use Rattle.std.specs.Prelude.{◌≡◌, ◌≤◌, ⊤, length, MatchOption};
-ghost use Rattle.county_codes.specs.Limits.{most_counties};
+ghost use Rattle.std.specs.Prelude.{◌≡◌, ⊤, MatchOption};
 ghost use Rattle.grouping_laws.specs.Grouping.{counts, sets_of};
-ghost use Rattle.certificate_data.specs.RoundValue.{round_of};
-ghost use Rattle.state_groups.specs.PlacedValues.{state_at, IsPlaced};
-ghost use Rattle.search_groups.specs.Standing.{IsLevel};
-ghost use Rattle.search_ends.specs.MissingGroups.{DiffersAt, IsMissing};
+ghost use Rattle.search_groups.specs.{Positions.{search_round, search_state}, Standing.IsLevel};
+ghost use Rattle.search_ends.specs.{GivenLeaf.IsStateIn, MissingGroups.{DiffersAt, IsMissing}};
 
-use certificate_data::Round;
 use county_codes::Grouping;
-use county_problem::Ordered;
 use place_sets::CountySet;
+use search_groups::SearchInput;
 use state_groups::State;
 use state_judge::closed_of_size;
 
@@ -31,20 +27,20 @@ pub fn groups_of_size(grouping: &Grouping, size: u16) -> usize
 /// Returns the first size from 1 through `last`, in counties, at which the number of closed groups isn't the target's.
 /// Returns `None` if there are as many of each size.
 pub(crate) fn first_difference<C: CountySet>(
-    ordered: &Ordered,
+    input: &SearchInput<C>,
     target: &Grouping,
     state: &State<C>,
     last: u16,
 ) -> Option<u16>
-    requires placed { IsPlaced (length ordered.now.order) C.test state.now }
+    requires at { IsStateIn C.PLACES C.test input.now state.now }
     ensures { MatchOption
         result
-        (IsLevel (counts (sets_of target.now.groups.items)) (state_at ordered.now.order C.test state.now) last)
-        (λ size. DiffersAt (counts (sets_of target.now.groups.items)) (state_at ordered.now.order C.test state.now) last size) }
+        (IsLevel (counts (sets_of target.now.groups.items)) (search_state input.now C.test state.now) last)
+        (DiffersAt (counts (sets_of target.now.groups.items)) (search_state input.now C.test state.now) last) }
 {
     for below in 0..last {
         let size = below + 1;
-        let closed = closed_of_size(ordered, state, size) as usize;
+        let closed = closed_of_size(input.graph.ordered, state, size) as usize;
         if closed != groups_of_size(target, size) {
             return Some(size);
         }
@@ -55,25 +51,17 @@ pub(crate) fn first_difference<C: CountySet>(
 /// Returns how many more groups of a `size`, in counties, the target has than are closed, provided that there are as
 /// many of each smaller size. Returns `None` if no group is missing, if a smaller size differs, or if there is no
 /// target.
-pub fn wanted_more<C: CountySet>(
-    ordered: &Ordered,
-    round: &Round,
-    state: &State<C>,
-    size: u16,
-) -> Option<u32>
-    requires fits { length ordered.now.order ≤ C.PLACES }
-    requires placed { IsPlaced (length ordered.now.order) C.test state.now }
-    requires order { ordered.now.order ≡ round.now.order }
-    requires limit { round.now.limit ≤ most_counties }
-    ensures { MatchOption result ⊤ (λ k. IsMissing (round_of round.now) (state_at ordered.now.order C.test state.now) size k) }
+pub fn wanted_more<C: CountySet>(input: &SearchInput<C>, state: &State<C>, size: u16) -> Option<u32>
+    requires at { IsStateIn C.PLACES C.test input.now state.now }
+    ensures { MatchOption result ⊤ (IsMissing (search_round input.now) (search_state input.now C.test state.now) size) }
 {
-    let Some(target) = &round.target else {
+    let Some(target) = &input.round.target else {
         return None;
     };
-    if first_difference(ordered, target, state, size.saturating_sub(1)).is_some() {
+    if first_difference(input, target, state, size.saturating_sub(1)).is_some() {
         return None;
     }
-    let closed = closed_of_size(ordered, state, size) as usize;
+    let closed = closed_of_size(input.graph.ordered, state, size) as usize;
     let wanted = groups_of_size(target, size);
     if wanted <= closed {
         return None;

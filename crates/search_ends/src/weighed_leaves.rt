@@ -6,21 +6,19 @@ ghost use Rattle.grouping_laws.specs.Sets.{sum_by};
 ghost use Rattle.place_sets.specs.PlaceSets.{places_of};
 ghost use Rattle.county_problem.specs.ProblemValue.{problem_of};
 ghost use Rattle.connected_laws.specs.Listing.{AreBelow};
-ghost use Rattle.certificate_data.specs.RoundValue.{round_of};
-ghost use Rattle.certificate_data.specs.TreeValue.{leaf_of};
-ghost use Rattle.state_groups.specs.PlacedValues.{state_at, codes_of_sets, IsPlaced};
-ghost use Rattle.search_groups.specs.KnownGroups.{IsKnown};
-ghost use Rattle.list_laws.specs.Completeness.{IsCompleteLeaf};
-ghost use Rattle.search_ends.specs.GivenLeaf.{IsGivenLeaf};
-ghost use Rattle.search_ends.specs.MissingGroups.{AllowsFewer};
+ghost use Rattle.connected_sets.specs.Graphs.{graph_order, graph_places};
+ghost use Rattle.state_groups.specs.PlacedValues.{codes_of_sets};
+ghost use Rattle.search_groups.specs.{KnownGroups.IsKnown, Positions.{search_problem, search_round, search_state}};
+ghost use Rattle.search_ends.specs.GivenLeaf.{IsStateIn, IsGivenAt, IsCompleteAt};
 ghost use Rattle.search_ends.specs.PlacedWeights.{placed_weight, AreTableWeights};
 
 use crate::empty_leaves::ending_leaf;
 use crate::standing::wanted_more;
-use certificate_data::{Allowance, Leaf, Round, Weight, Weights};
+use certificate_data::{Allowance, Leaf, Weight, Weights};
 use county_codes::CountyCode;
 use county_problem::Ordered;
 use place_sets::CountySet;
+use search_groups::SearchInput;
 use state_groups::{State, open_places, weight_in};
 use std::alloc::{AllocError, Global};
 
@@ -110,53 +108,6 @@ fn listed_weights(alloc: Global, ordered: &Ordered, table: &[u32]) -> Result<Wei
     Ok(Weights::new(weights))
 }
 
-/// Returns a line for a `size`, in counties, with the weights of the counties that are open to it. The quota is what
-/// the lightest of the `groups` weighs. Returns `None` if the quota is 0, or if the line allows as many groups as are
-/// `wanted`.
-fn weighed_line<C: CountySet>(
-    alloc: Global,
-    ordered: &Ordered,
-    round: &Round,
-    state: &State<C>,
-    size: u16,
-    wanted: u32,
-    groups: &[C],
-    weights: &[u32],
-) -> Result<Option<Allowance>, AllocError>
-    requires fits { length ordered.now.order ≤ C.PLACES }
-    requires placed { IsPlaced (length ordered.now.order) C.test state.now }
-    requires order { ordered.now.order ≡ round.now.order }
-    requires known { IsKnown
-        (problem_of ordered.now.problem)
-        (round_of round.now)
-        (state_at ordered.now.order C.test state.now)
-        size
-        (codes_of_sets ordered.now.order C.test groups.now) }
-    requires below { AreBelow (length ordered.now.order) C.test groups.now }
-    requires count { length weights.now ≡ length ordered.now.order }
-    requires range { All (λ w. w ≤ 1000000) weights.now }
-    ensures { IfOk
-        result
-        (λ found. MatchOption
-        found
-        ⊤
-        (λ line. AllowsFewer round.now.format (problem_of ordered.now.problem) (state_at ordered.now.order C.test state.now) size wanted line)) }
-{
-    let _places = ordered.places();
-    let _problem = ordered.problem();
-    let region = open_places(alloc, state, size)?;
-    let table = weights_within(alloc, &region, weights)?;
-    let quota = least_weight(groups, &table);
-    if quota == 0 {
-        return Ok(None);
-    }
-    if weight_in(&table, &region) / u64::from(quota) >= u64::from(wanted) {
-        return Ok(None);
-    }
-    let weights = listed_weights(alloc, ordered, &table)?;
-    Ok(Some(Allowance::Weigh { quota, weights }))
-}
-
 /// Returns a bound leaf that ends with `weigh` at a `size`, in counties, below which no group fits. Its last line has
 /// the weights of the counties that are open to the size, and its quota is what the lightest of the `groups` weighs. By
 /// that line, fewer groups share the weights than are wanted. Returns `None` if as many may share them, if a group
@@ -165,47 +116,43 @@ fn weighed_line<C: CountySet>(
 /// The `groups` are candidates of the size, among them all that fit. There is a weight for each place of the order, at
 /// most 1,000,000. Returns an error if memory was refused.
 pub fn weighed_leaf<C: CountySet>(
-    alloc: Global,
-    ordered: &Ordered,
-    round: &Round,
+    input: &SearchInput<C>,
     state: &State<C>,
     size: u16,
     groups: &[C],
     weights: &[u32],
 ) -> Result<Option<Leaf>, AllocError>
-    requires fits { length ordered.now.order ≤ C.PLACES }
-    requires placed { IsPlaced (length ordered.now.order) C.test state.now }
-    requires order { ordered.now.order ≡ round.now.order }
-    requires limit { round.now.limit ≤ most_counties }
+    requires at { IsStateIn C.PLACES C.test input.now state.now }
     requires size { 1 ≤ size }
-    requires small { size ≤ round.now.limit }
+    requires small { size ≤ input.now.round.now.limit }
     requires known { IsKnown
-        (problem_of ordered.now.problem)
-        (round_of round.now)
-        (state_at ordered.now.order C.test state.now)
+        (search_problem input.now)
+        (search_round input.now)
+        (search_state input.now C.test state.now)
         size
-        (codes_of_sets ordered.now.order C.test groups.now) }
-    requires below { AreBelow (length ordered.now.order) C.test groups.now }
-    requires count { length weights.now ≡ length ordered.now.order }
+        (codes_of_sets (graph_order input.now.graph.now) C.test groups.now) }
+    requires below { AreBelow (graph_places input.now.graph.now) C.test groups.now }
+    requires count { length weights.now ≡ graph_places input.now.graph.now }
     requires range { All (λ w. w ≤ 1000000) weights.now }
-    ensures leaf { IfOk
-        result
-        (λ found. MatchOption
-        found
-        ⊤
-        (λ leaf. IsGivenLeaf (problem_of ordered.now.problem) (round_of round.now) (state_at ordered.now.order C.test state.now) leaf)) }
-    ensures complete { IfOk
-        result
-        (λ found. MatchOption
-        found
-        ⊤
-        (λ leaf. IsCompleteLeaf (leaf_of leaf) (problem_of ordered.now.problem) (round_of round.now) (state_at ordered.now.order C.test state.now))) }
+    ensures leaf { IfOk result (λ found. MatchOption found ⊤ (IsGivenAt C.test input.now state.now)) }
+    ensures complete { IfOk result (λ found. MatchOption found ⊤ (IsCompleteAt C.test input.now state.now)) }
 {
-    let Some(wanted) = wanted_more(ordered, round, state, size) else {
+    let graph = input.graph;
+    let Some(wanted) = wanted_more(input, state, size) else {
         return Ok(None);
     };
-    match weighed_line(alloc, ordered, round, state, size, wanted, groups, weights)? {
-        Some(line) => Ok(Some(ending_leaf(alloc, ordered, state, size, line)?)),
-        None => Ok(None),
+    let _places = graph.ordered.places();
+    let _problem = graph.ordered.problem();
+    let region = open_places(graph.alloc, state, size)?;
+    let table = weights_within(graph.alloc, &region, weights)?;
+    let quota = least_weight(groups, &table);
+    if quota == 0 {
+        return Ok(None);
     }
+    if weight_in(&table, &region) / u64::from(quota) >= u64::from(wanted) {
+        return Ok(None);
+    }
+    let weights = listed_weights(graph.alloc, graph.ordered, &table)?;
+    let line = Allowance::Weigh { quota, weights };
+    Ok(Some(ending_leaf(input, state, size, line)?))
 }

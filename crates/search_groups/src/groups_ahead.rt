@@ -1,15 +1,12 @@
 //! The groups of one county more than those that are known.
 
 ghost use Rattle.std.specs.Prelude.{◌≡◌, ℕ, ◌+◌, ◌≤◌, [], IfOk, IsErrOf};
-ghost use Rattle.connected_sets.specs.Graphs.{graph_order, graph_places, place_problem};
+ghost use Rattle.connected_sets.specs.{Graphs.{graph_order, graph_places, place_problem}, declared.stop.Stop.Stop};
 ghost use Rattle.connected_laws.specs.Listing.{AreBelow};
-ghost use Rattle.certificate_laws.specs.Groups.{AreGroupsOf};
-ghost use Rattle.certificate_laws.specs.Leaves.{IsStuck};
+ghost use Rattle.certificate_laws.specs.{Groups.AreGroupsOf, Leaves.IsStuck};
 ghost use Rattle.state_groups.specs.PlacedValues.{codes_of_sets};
 ghost use Rattle.search_groups.specs.PartLists.{AreListsOf};
-ghost use Rattle.connected_sets.specs.declared.stop.Stop.{Stop};
-ghost use Rattle.search_groups.specs.Positions.{search_problem, search_round, search_state};
-ghost use Rattle.search_groups.specs.Positions.{IsSearchInput, IsLargerAt, IsPositionAt};
+ghost use Rattle.search_groups.specs.Positions.{search_problem, search_round, search_state, IsSearchInput, IsLargerAt, IsPositionAt};
 
 use crate::input::SearchInput;
 use crate::kept_groups::live_groups;

@@ -5,9 +5,9 @@ ghost use Rattle.std.specs.Fn.{FnReturnsAt};
 ghost use Rattle.place_sets.specs.PlaceSets.{Meets};
 ghost use Rattle.county_problem.specs.OrderedValue.{code_at};
 ghost use Rattle.connected_sets.specs.Graphs.{graph_problem, graph_order, graph_places, IsGraph};
+ghost use Rattle.connected_sets.specs.declared.stop.Stop.{Stop};
 ghost use Rattle.connected_laws.specs.Listing.{AreBelow};
 ghost use Rattle.certificate_laws.specs.Fitting.{IsLive};
-ghost use Rattle.connected_sets.specs.declared.stop.Stop.{Stop};
 ghost use Rattle.state_groups.specs.PlacedValues.{state_at, codes_of_set, codes_of_sets, IsPlaced};
 ghost use Rattle.search_groups.specs.KnownGroups.{AreThose, IsApart, Lacks, Has, Tells};
 

@@ -1,7 +1,6 @@
 //! Laws of a search. The functions do nothing, and their contracts are the laws.
 
-ghost use Rattle.search_groups.specs.PartGroups.{PartsServe};
-ghost use Rattle.search_groups.specs.KnownGroups.{KnownServes};
+ghost use Rattle.search_groups.specs.{PartGroups.PartsServe, KnownGroups.KnownServes};
 
 /// States that what a search knows of the groups of one size goes with it from size to size and from state to state.
 /// This knowledge also gives the takes of a branch.

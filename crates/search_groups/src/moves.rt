@@ -2,15 +2,12 @@
 
 ghost use Rattle.std.specs.Prelude.{◌≡◌, ℕ, ◌≤◌, ◌<◌, true, IfOk, IsErrOf, MatchOption, ⊤};
 ghost use Rattle.county_problem.specs.OrderedValue.{code_at};
-ghost use Rattle.connected_sets.specs.Graphs.{graph_order, graph_places};
+ghost use Rattle.connected_sets.specs.{Graphs.{graph_order, graph_places}, declared.stop.Stop.Stop};
 ghost use Rattle.connected_laws.specs.Listing.{AreBelow};
-ghost use Rattle.certificate_laws.specs.State.{empty_state, close, raise, IsState};
-ghost use Rattle.certificate_laws.specs.Groups.{IsGroupAt, AreGroupsAt};
+ghost use Rattle.certificate_laws.specs.{State.{empty_state, close, raise, IsState}, Groups.{IsGroupAt, AreGroupsAt}};
 ghost use Rattle.certificate_laws.specs.Proving.{CanBranch};
-ghost use Rattle.connected_sets.specs.declared.stop.Stop.{Stop};
 ghost use Rattle.state_groups.specs.PlacedValues.{codes_of_set, codes_of_sets, IsPlaced};
-ghost use Rattle.search_groups.specs.Positions.{search_problem, search_round, search_state};
-ghost use Rattle.search_groups.specs.Positions.{IsSearchInput, IsLargerAt, IsPositionAt};
+ghost use Rattle.search_groups.specs.Positions.{search_problem, search_round, search_state, IsSearchInput, IsLargerAt, IsPositionAt};
 
 use crate::input::SearchInput;
 use crate::kept_groups::{groups_apart, groups_having, groups_lacking, live_groups};

@@ -1,14 +1,11 @@
 //! The lists of groups that are kept by part of the rest and by size, so that none is made twice.
 
-ghost use Rattle.std.specs.Prelude.{◌≡◌, ℕ, ◌+◌, ◌≤◌, ◌<◌, ◌++◌, true, cond, get_or, length, All, IfOk, OnOk, IfSome};
-ghost use Rattle.std.specs.Prelude.{IsErrOf, IsTrue};
+ghost use Rattle.std.specs.Prelude.{◌≡◌, ℕ, ◌+◌, ◌≤◌, ◌<◌, ◌++◌, true, cond, get_or, length, All, IfOk, OnOk, IfSome, IsErrOf, IsTrue};
 ghost use Rattle.grouping_laws.specs.Problem.{Problem};
-ghost use Rattle.connected_sets.specs.Graphs.{graph_places, place_problem, IsGraph};
+ghost use Rattle.connected_sets.specs.{Graphs.{graph_places, place_problem, IsGraph}, declared.stop.Stop.Stop};
 ghost use Rattle.connected_laws.specs.Listing.{AreBelow, lists_of};
 ghost use Rattle.state_groups.specs.StateValue.{state_of};
-ghost use Rattle.connected_sets.specs.declared.stop.Stop.{Stop};
-ghost use Rattle.search_groups.specs.PartGroups.{alone};
-ghost use Rattle.search_groups.specs.PartLists.{IsPartList, IsListFor, ArePut, AreListsOf};
+ghost use Rattle.search_groups.specs.{PartGroups.alone, PartLists.{IsPartList, IsListFor, ArePut, AreListsOf}};
 
 use certificate_data::Format;
 use connected_sets::{CountyGraph, Stop};

@@ -1,7 +1,6 @@
 //! The places that groups cover, and the lightest group.
 
-ghost use Rattle.std.specs.Prelude.{◌≡◌, ℕ, ◌<◌, ◌≤◌, length, IfOk};
-ghost use Rattle.std.specs.List.{list_any};
+ghost use Rattle.std.specs.{Prelude.{◌≡◌, ℕ, ◌<◌, ◌≤◌, length, IfOk}, List.list_any};
 ghost use Rattle.county_codes.specs.Limits.{most_counties};
 ghost use Rattle.connected_laws.specs.Listing.{AreBelow};
 

@@ -3,16 +3,11 @@
 ghost use Rattle.std.specs.Prelude.{◌≡◌, ℕ, ◌*◌, ◌≤◌, ◌<◌, true, List, length, IfOk, IsErrOf, IsTrue, ◌⊎◌, ◌↔◌};
 ghost use Rattle.grouping_laws.specs.Sets.{count_in};
 ghost use Rattle.connected_sets.specs.Graphs.{graph_problem, graph_order, graph_places, place_problem, IsGraph};
-ghost use Rattle.connected_laws.specs.Listing.{AreBelow, lists_of};
-ghost use Rattle.certificate_data.specs.declared.format.Format.TheVariants.{Wide};
-ghost use Rattle.certificate_data.specs.RoundValue.{round_of};
-ghost use Rattle.certificate_laws.specs.State.{IsState};
-ghost use Rattle.state_groups.specs.StateValue.{state_of};
-ghost use Rattle.certificate_laws.specs.Fitting.{Fits};
-ghost use Rattle.certificate_laws.specs.Leaves.{IsStuck};
-ghost use Rattle.certificate_laws.specs.Groups.{AreGroupsOf};
 ghost use Rattle.connected_sets.specs.declared.stop.Stop.{Stop};
-ghost use Rattle.state_groups.specs.PlacedValues.{state_at, codes_of_sets, IsPlaced};
+ghost use Rattle.connected_laws.specs.Listing.{AreBelow, lists_of};
+ghost use Rattle.certificate_data.specs.{declared.format.Format.TheVariants.Wide, RoundValue.round_of};
+ghost use Rattle.certificate_laws.specs.{State.IsState, Fitting.Fits, Leaves.IsStuck, Groups.AreGroupsOf};
+ghost use Rattle.state_groups.specs.{StateValue.state_of, PlacedValues.{state_at, codes_of_sets, IsPlaced}};
 ghost use Rattle.search_groups.specs.PartLists.{ArePartGroups, AreNextGroups, AreListsOf};
 
 use crate::part_lists::PartLists;

@@ -2,9 +2,8 @@
 
 ghost use Rattle.std.specs.Prelude.{◌≡◌, ℕ, true, IfOk, MatchOption};
 ghost use Rattle.connected_sets.specs.Graphs.{graph_problem, graph_order, graph_places, place_problem, IsGraph};
-ghost use Rattle.state_groups.specs.StateValue.{state_of};
+ghost use Rattle.state_groups.specs.{StateValue.state_of, PlacedValues.{state_at, IsPlaced}};
 ghost use Rattle.certificate_laws.specs.Leaves.{IsStuck};
-ghost use Rattle.state_groups.specs.PlacedValues.{state_at, IsPlaced};
 
 use connected_sets::CountyGraph;
 use county_codes::CountyCode;

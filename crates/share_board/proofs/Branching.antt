@@ -56,18 +56,17 @@ module _ (p : Problem) (round : Round) (plain : round.format ≡ Plain) (share d
   take_halted g rest groups first here stop.Budget h more = h.1
   take_halted g rest groups first here stop.Memory h more = tt
 
-  module _ (county : ℕ) (groups : List (List ℕ)) (first : ℕ) (some : 1 ≤ depth) (can : CanBranch round s county round.limit) (are : AreGroupsAt p round s county round.limit groups) where
-    pub takes_halted : (at : OpeningStop) → AreHalted p round share (depth - 1) s groups first at → IsHalted p round share depth s first at
-    takes_halted stop.TooManyPieces h = takes_have_more p round plain depth s county groups first some (plain_names round.format plain) can are h
-    takes_halted stop.Budget h = (some, h)
-    takes_halted stop.Memory h = tt
+module _ {p : Problem} {round : Round} {s : State} {county : ℕ} {groups : List (List ℕ)} (plain : round.format ≡ Plain) (share depth first : ℕ) (some : 1 ≤ depth) (can : CanBranch round s county round.limit) (are : AreGroupsAt p round s county round.limit groups) where
+  pub takes_halted : (at : OpeningStop) → AreHalted p round share (depth - 1) s groups first at → IsHalted p round share depth s first at
+  takes_halted stop.TooManyPieces h = takes_have_more p round plain depth s county groups first some (plain_names round.format plain) can are h
+  takes_halted stop.Budget h = (some, h)
+  takes_halted stop.Memory h = tt
 
-    pub raised_halted : {C : Type 0} (test : C → ℕ → Bool) (takes : PartialTakes) (between : ℕ) (states : List (StateHeld C)) (at : OpeningStop) → AreOpened test p round (depth - 1) s groups takes first between states
-        → IsHalted p round share (depth - 1) (raise county round.limit s) between at → IsHalted p round share depth s first at
-    raised_halted test takes between states stop.TooManyPieces a h =
-        raised_more p round plain depth s county groups first between a.parts some (plain_names round.format plain) can are a.groups_are a.opens h
-    raised_halted test takes between states stop.Budget a h = (some, h.1)
-    raised_halted test takes between states stop.Memory a h = tt
+  pub raised_halted : {C : Type 0} {test : C → ℕ → Bool} {takes : PartialTakes} {between : ℕ} {states : List (StateHeld C)} (at : OpeningStop) → AreOpened test p round (depth - 1) s groups takes first between states
+      → IsHalted p round share (depth - 1) (raise county round.limit s) between at → IsHalted p round share depth s first at
+  raised_halted {between = between} stop.TooManyPieces a h = raised_more p round plain depth s county groups first between a.parts some (plain_names round.format plain) can are a.groups_are a.opens h
+  raised_halted stop.Budget a h = (some, h.1)
+  raised_halted stop.Memory a h = tt
 
 -- why the whole didn't open
 pub opening_halted : (p : Problem) (round : Round) (budget share depth : ℕ) (at : OpeningStop) → ((k : ℕ) → 1 ≤ depth → share < k → budget < k * (depth * (most_opening + 1))) → IsHalted p round share depth (empty_state p) 0 at → IsOpeningStop p depth budget round at
@@ -89,7 +88,7 @@ module _ {C : Type 0} (test : C → ℕ → Bool) (p : Problem) (round : Round) 
   pub open_more : (g : List ℕ) (rest : List (List ℕ)) (takes news : List PartialTake) (t : PartialTake) (tree : PartialTree) (states later : List (StateHeld C)) → ((others : PartialTakes) → take_onto t others ≡ take_begun g tree others) → news ≡ takes ++ t ∷ []
       → IsOpened test p round depth (close g s) tree (length states) (length later) later → StatesAreKept round.order test states later → OpenOn (g ∷ rest) takes states → OpenOn rest news later
   open_more g rest takes news t tree states later made pushed o kept on others next last still a =
-      let whole = on (take_begun g tree others) next last (λ k u h. still k u (kept k u h)) (more_opened test p round depth s g rest tree others (length states) (length later) next last (opened_kept test p round depth (close g s) tree (length states) (length later) later last o still) a) in
+      let whole = on (take_begun g tree others) next last (λ k u h. still k u (kept k u h)) (more_opened test p round depth s g rest tree others (length states) (length later) next last (opened_kept test p round last o still) a) in
       subst (λ z. AreOpened test p round depth s all z first next last) (ap (begun_onto_all takes) (sym (made others)) ∙ sym (begun_more takes t others) ∙ ap (λ (l : List PartialTake). begun_onto_all l others) (sym pushed)) whole
 
   pub more_more : (plain : round.format ≡ Plain) (g : List ℕ) (rest : List (List ℕ)) (tree : PartialTree) (states later : List (StateHeld C)) → IsOpened test p round depth (close g s) tree (length states) (length later) later

@@ -12,14 +12,14 @@ lists_kept test before later lists keeps are =
     subst (λ (v : ProblemHeld). AreListsOf test (problem_at (record { problem = v; order = later.round.order })) (length later.round.order) lists) (sym keeps.problem)
     (subst (λ z. AreListsOf test (problem_at (record { problem = before.problem; order = z })) (length z) lists) (sym keeps.order) are)
 
--- They are those of the order that was built of the problem and the codes of the round.
-module _ {C : Type 0} (test : C → ℕ → Bool) (board : Board C) (o : OrderedValue) (codes : List ℕ) (built : o ≡ record { problem = board.problem; order = codes }) (same : codes ≡ board.round.order) (lists : PartLists C) where
+-- an order that was built of the problem and the codes of the round is the board's
+pub board_order : {C : Type 0} (board : Board C) (o : OrderedValue) (codes : List ℕ) → o ≡ record { problem = board.problem; order = codes } → codes ≡ board.round.order → o ≡ record { problem = board.problem; order = board.round.order }
+board_order board o codes built same = subst (λ z. o ≡ record { problem = board.problem; order = z }) same built
+
+-- They are those of the board's order.
+module _ {C : Type 0} (test : C → ℕ → Bool) (board : Board C) (o : OrderedValue) (same : o ≡ record { problem = board.problem; order = board.round.order }) (lists : PartLists C) where
   pub lists_of_order : AreBoardLists test board lists → AreListsOf test (problem_at o) (length o.order) lists
-  lists_of_order are =
-      subst (λ (z : OrderedValue). AreListsOf test (problem_at z) (length z.order) lists) (sym built)
-      (subst (λ z. AreListsOf test (problem_at (record { problem = board.problem; order = z })) (length z) lists) (sym same) are)
+  lists_of_order are = subst (λ (z : OrderedValue). AreListsOf test (problem_at z) (length z.order) lists) (sym same) are
 
   pub lists_of_board : AreListsOf test (problem_at o) (length o.order) lists → AreBoardLists test board lists
-  lists_of_board are =
-      subst (λ z. AreListsOf test (problem_at (record { problem = board.problem; order = z })) (length z) lists) same
-      (subst (λ (z : OrderedValue). AreListsOf test (problem_at z) (length z.order) lists) built are)
+  lists_of_board are = subst (λ (z : OrderedValue). AreListsOf test (problem_at z) (length z.order) lists) same are

@@ -20,14 +20,13 @@ use Rattle.share_board.proofs.OneOpening.{opens_up, opens_up_in, opens_one, open
 
 module _ {C : Type 0} (test : C → ℕ → Bool) (p : Problem) (round : Round) where
   -- what was opened stays so where states are kept
-  pub opened_kept : (depth : ℕ) (s : State) (tree : PartialTree) (first next : ℕ) (states news : List (StateHeld C)) → IsOpened test p round depth s tree first next states
+  pub opened_kept : {depth : ℕ} {s : State} {tree : PartialTree} {first next : ℕ} {states : List (StateHeld C)} (news : List (StateHeld C)) → IsOpened test p round depth s tree first next states
       → ((k : ℕ) (t : State) → IsPieceState round.order test states k t → IsPieceState round.order test news k t) → IsOpened test p round depth s tree first next news
-  opened_kept depth s tree first next states news o kept = record { skeleton = o.skeleton; opens = o.opens; places = o.places; shows = o.shows; stand = λ k t h. kept k t (o.stand k t h) }
+  opened_kept news o kept = record { skeleton = o.skeleton; opens = o.opens; places = o.places; shows = o.shows; stand = λ k t h. kept k t (o.stand k t h) }
 
-  pub are_opened_kept : (depth : ℕ) (s : State) (groups : List (List ℕ)) (takes : PartialTakes) (first next : ℕ) (states news : List (StateHeld C)) → AreOpened test p round depth s groups takes first next states
+  pub are_opened_kept : {depth : ℕ} {s : State} {groups : List (List ℕ)} {takes : PartialTakes} {first next : ℕ} {states : List (StateHeld C)} (news : List (StateHeld C)) → AreOpened test p round depth s groups takes first next states
       → ((k : ℕ) (t : State) → IsPieceState round.order test states k t → IsPieceState round.order test news k t) → AreOpened test p round depth s groups takes first next news
-  are_opened_kept depth s groups takes first next states news o kept =
-      record { parts = o.parts; groups_are = o.groups_are; opens = o.opens; places = o.places; shows = o.shows; stand = λ k t h. kept k t (o.stand k t h) }
+  are_opened_kept news o kept = record { parts = o.parts; groups_are = o.groups_are; opens = o.opens; places = o.places; shows = o.shows; stand = λ k t h. kept k t (o.stand k t h) }
 
   -- one piece
   pub piece_opened : (depth : ℕ) (s : State) (first : ℕ) (states : List (StateHeld C)) → (depth ≡ 0) ⊎ ((c : ℕ) → open_to s round.limit c ≢ true) → IsPieceState round.order test states first s
@@ -66,10 +65,10 @@ module _ {C : Type 0} (test : C → ℕ → Bool) (p : Problem) (round : Round) 
       stand k t (inr h) = a.stand k t h
 
   -- a branch
-  pub branch_opened : (depth : ℕ) (s : State) (county : ℕ) (groups : List (List ℕ)) (takes : PartialTakes) (raised : PartialTree) (first between next : ℕ) (states : List (StateHeld C)) → 1 ≤ depth → NamesLimit round.format None
+  pub branch_opened : {depth : ℕ} {s : State} {county : ℕ} {groups : List (List ℕ)} {takes : PartialTakes} {raised : PartialTree} {first between next : ℕ} {states : List (StateHeld C)} → 1 ≤ depth → NamesLimit round.format None
       → CanBranch round s county round.limit → AreGroupsAt p round s county round.limit groups → AreOpened test p round (depth - 1) s groups takes first between states
       → IsOpened test p round (depth - 1) (raise county round.limit s) raised between next states → IsOpened test p round depth s (begun county None takes raised) first next states
-  branch_opened depth s county groups takes raised first between next states some names can are a o =
+  branch_opened {depth = depth} {s = s} {county = county} {groups = groups} {takes = takes} {raised = raised} {first = first} {between = between} {next = next} {states = states} some names can are a o =
       let low = opens_up_in (depth - 1) a.parts p round s (first + 1) (between + 1) a.opens in
       let high = opens_up (depth - 1) o.skeleton p round (raise county round.limit s) (between + 1) (next + 1) o.opens in
       record {

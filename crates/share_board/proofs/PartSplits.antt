@@ -1,9 +1,10 @@
 -- A split at a county is the part of one branch, and why a part isn't taken.
 use Rattle.std.proofs.Common.{◌≡◌, ℕ, zero, suc, ◌+◌, ◌<◌, ◌≤◌, Bool, List, [], ◌∷◌, ◌++◌, length, get_or, map, All, refl, sym, ap, ◌∙◌, subst, arith, ◌⊎◌, inl, inr, Some}
 use Rattle.std.proofs.lemmas.Bool.{cases_lt}
-use Rattle.std.proofs.lemmas.List.{length-append, get_or_append_left, get_or_push}
+use Rattle.std.proofs.lemmas.List.{length-append, length-map, get_or_append_left, get_or_push}
 use Rattle.grouping_laws.specs.Problem.{Problem}
 use Rattle.county_problem.specs.ProblemValue.{problem_of}
+use Rattle.county_problem.specs.OrderedValue.{OrderedValue}
 use Rattle.certificate_data.specs.declared.format.Format.TheVariants.{Wide}
 use Rattle.certificate_data.specs.Round.{Round}
 use Rattle.certificate_laws.specs.State.{State, empty_state, close, raise}
@@ -26,7 +27,10 @@ use Rattle.share_board.specs.declared.board.Board.{Board}
 use Rattle.share_board.specs.declared.splitting.Pieces.{Pieces}
 use Rattle.share_board.specs.BoardValue.{IsOf, IsPieceState, reply_of}
 use Rattle.share_board.specs.Dividing.{MaySplit, MayPart, IsRefusedPart, part_refusal_of}
+use Rattle.share_board.specs.declared.piece.Fate.TheVariants.{Waits}
+use Rattle.share_board.specs.HeldSkeleton.{IsFateAt}
 use Rattle.share_board.proofs.Spelling.{split_spelled, county_there}
+use Rattle.share_board.proofs.Telling.{state_there, judged_there}
 
 -- the states at the open leaves of one branch: where each group is closed, and where the county is raised
 states_long : (groups : List (List ℕ)) (round : Round) (s : State) → length (states_in (open_takes groups) round s) ≡ length groups
@@ -103,35 +107,29 @@ state_at_leaf order test states opens all e k t low there = (
     mapped (x ∷ xs) zero other lt = refl
     mapped (x ∷ xs) (suc k) other lt = mapped xs k other (omega (arith, lt))
 
-mapped_long : {A B : Type 0} (f : A → B) (xs : List A) → length (map f xs) ≡ length xs
-mapped_long f [] = refl
-mapped_long f (x ∷ xs) = omega (arith, mapped_long f xs)
-
 pub leaves_long : {C : Type 0} (order : List ℕ) (test : C → ℕ → Bool) (states : List (StateHeld C)) (tree : PartialTree) (round : Round) (s : State) → map (state_at order test) states ≡ open_states tree round s → length states ≡ open_leaves tree
-leaves_long order test states tree round s e = omega (arith, mapped_long (state_at order test) states, ap length e, (parts_stand).number tree round s)
+leaves_long order test states tree round s e = omega (arith, length-map states (state_at order test), ap length e, (parts_stand).number tree round s)
 
-module _ {C : Type 0} (test : C → ℕ → Bool) (board : Board C) (b : Content) (is : IsOf test board b) (tree : PartialTree) (held : StateHeld C) (s : State) (order : List ℕ) (p : Problem) (e : order ≡ board.round.order) (q : p ≡ problem_of board.problem) (there : state_at board.round.order test held ≡ s) where
-  state : state_at order test held ≡ s
-  state = ap (λ z. state_at z test held) e ∙ there
+module _ {C : Type 0} (test : C → ℕ → Bool) (board : Board C) (b : Content) (is : IsOf test board b) (tree : PartialTree) (at : ℕ) (held : StateHeld C) (s : State) (o : OrderedValue) (same : o ≡ record { problem = board.problem; order = board.round.order })
+    (there : IsFateAt board.fates.items at Waits) (read : held ≡ get_or board.states.items at held) (stand : StandsAt b.skeleton b.round (empty_state (problem_of board.problem)) (at + 1) s) where
+  judged : (P : Problem → Round → State → Type 0) → P (problem_of o.problem) (round_of board.round) (state_at o.order test held) → P (problem_of board.problem) b.round s
+  judged P = judged_there test board b is P o (state_at o.order test held) s same (state_there test board b is o at held s same there read stand)
 
   -- what is judged in the order of a graph is so of the board's content
-  pub part_may : (at : ℕ) (states : List (StateHeld C)) → StandsAt b.skeleton b.round (empty_state (problem_of board.problem)) (at + 1) s → IsPart tree → IsPartProof p (round_of board.round) (state_at order test held) tree
-      → map (state_at order test) states ≡ open_states tree (round_of board.round) (state_at order test held) → All (IsPlaced (length order) test) states → MayPart test board b at tree states s
-  part_may at states stands is_part proof opens placed = record {
-    stands = stands;
+  pub part_may : (states : List (StateHeld C)) → IsPart tree → IsPartProof (problem_of o.problem) (round_of board.round) (state_at o.order test held) tree
+      → map (state_at o.order test) states ≡ open_states tree (round_of board.round) (state_at o.order test held) → All (IsPlaced (length o.order) test) states → MayPart test board b at tree states s
+  part_may states is_part proof opens placed = record {
+    stands = stand;
     is_part = is_part;
-    proves = subst (λ z. IsPartProof z b.round s tree) q (subst (λ z. IsPartProof p z s tree) is.round (subst (λ z. IsPartProof p (round_of board.round) z tree) state proof));
-    states_are = λ k t low at_leaf. state_at_leaf board.round.order test states (open_states tree b.round s) (subst (λ z. All (IsPlaced (length z) test) states) e placed) here k t (omega (arith, low, leaves_long board.round.order test states tree b.round s here)) at_leaf;
+    proves = judged (λ z round t. IsPartProof z round t tree) proof;
+    states_are = λ k t low at_leaf. state_at_leaf board.round.order test states (open_states tree b.round s) (subst (λ (z : OrderedValue). All (IsPlaced (length z.order) test) states) same placed) here k t (omega (arith, low, leaves_long board.round.order test states tree b.round s here)) at_leaf;
   }
     where
       here : map (state_at board.round.order test) states ≡ open_states tree b.round s
-      here =
-          subst (λ z. map (state_at z test) states ≡ open_states tree (round_of board.round) (state_at z test held)) e opens
-          ∙ ap (open_states tree (round_of board.round)) there
-          ∙ ap (λ z. open_states tree z s) is.round
+      here = judged (λ z round t. map (state_at board.round.order test) states ≡ open_states tree round t) (subst (λ (z : OrderedValue). map (state_at z.order test) states ≡ open_states tree (round_of board.round) (state_at o.order test held)) same opens)
 
-  pub part_may_not : (budget : ℕ) (why : PartStop) → IsPartRefusal p budget (round_of board.round) (state_at order test held) tree why → IsPartRefusal (problem_of board.problem) budget b.round s tree why
-  part_may_not budget why h = subst (λ z. IsPartRefusal z budget b.round s tree why) q (subst (λ z. IsPartRefusal p budget z s tree why) is.round (subst (λ z. IsPartRefusal p budget (round_of board.round) z tree why) state h))
+  pub part_may_not : (budget : ℕ) (why : PartStop) → IsPartRefusal (problem_of o.problem) budget (round_of board.round) (state_at o.order test held) tree why → IsPartRefusal (problem_of board.problem) budget b.round s tree why
+  part_may_not budget why h = judged (λ z round t. IsPartRefusal z budget round t tree why) h
 
 -- why a part isn't taken, as a reply
 pub refused_part : {C : Type 0} (order : List ℕ) (test : C → ℕ → Bool) (p : Problem) (budget : ℕ) (round : Round) (s : State) (tree : PartialTree) (why : PartStop) → IsPartRefusal p budget round s tree why

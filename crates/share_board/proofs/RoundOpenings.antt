@@ -27,29 +27,21 @@ some_opening p round depth s first is order (inl plain) known =
 some_opening p round depth s first is order (inr zero) known = record { skeleton = waits first; next = first + 1; opens = (refl, refl, inl zero) }
 
 -- where no branch is, one piece waits
-one_piece : (p : Problem) (round : Round) (depth : ℕ) (skeleton : Skeleton) (s : State) (first next : ℕ) → depth ≡ 0
-    → Opens depth skeleton p round s first next → next ≡ first + 1
-one_piece p round depth (waits piece) s first next zero o = o.1
-one_piece p round depth (proved piece tree) s first next zero o = absurd o
-one_piece p round depth (split piece county limit parts raised) s first next zero o = absurd (omega (arith, zero, o.1))
-
-one_number : (p : Problem) (round : Round) (depth : ℕ) (s : State) (first : ℕ) → GoesTo round depth → (a b : Skeleton) (n m : ℕ)
-    → Opens depth a p round s first n → Opens depth b p round s first m → n ≡ m
-one_number p round depth s first (inl plain) a b n m o q = opens_one p round plain depth a b s first n m o q
-one_number p round depth s first (inr zero) a b n m o q =
-    one_piece p round depth a s first n zero o ∙ sym (one_piece p round depth b s first m zero q)
-
 alone : (p : Problem) (round : Round) (depth : ℕ) (skeleton : Skeleton) (s : State) (first next : ℕ) → depth ≡ 0
-    → Opens depth skeleton p round s first next → skeleton ≡ waits first
-alone p round depth (waits piece) s first next zero o = ap waits o.0
+    → Opens depth skeleton p round s first next → (skeleton ≡ waits first) × (next ≡ first + 1)
+alone p round depth (waits piece) s first next zero o = (ap waits o.0, o.1)
 alone p round depth (proved piece tree) s first next zero o = absurd o
 alone p round depth (split piece county limit parts raised) s first next zero o = absurd (omega (arith, zero, o.1))
 
-one_skeleton : (p : Problem) (round : Round) (depth : ℕ) (s : State) (first : ℕ) → GoesTo round depth → (a b : Skeleton) (n m : ℕ)
-    → Opens depth a p round s first n → Opens depth b p round s first m → a ≡ b
-one_skeleton p round depth s first (inl plain) a b n m o q = same_skeleton p round plain depth a b s first n m o q
-one_skeleton p round depth s first (inr zero) a b n m o q =
-    alone p round depth a s first n zero o ∙ sym (alone p round depth b s first m zero q)
+-- all openings are one
+one_opening : (p : Problem) (round : Round) (depth : ℕ) (s : State) (first : ℕ) → GoesTo round depth → (a b : Skeleton) (n m : ℕ)
+    → Opens depth a p round s first n → Opens depth b p round s first m → (a ≡ b) × (n ≡ m)
+one_opening p round depth s first (inl plain) a b n m o q =
+    (same_skeleton p round plain depth a b s first n m o q, opens_one p round plain depth a b s first n m o q)
+one_opening p round depth s first (inr zero) a b n m o q =
+    let one = alone p round depth a s first n zero o in
+    let other = alone p round depth b s first m zero q in
+    (one.0 ∙ sym other.0, one.1 ∙ sym other.1)
 
 module _ (p : Problem) (round : Round) (depth : ℕ) (s : State) (first : ℕ) (is : IsProblem p) (order : IsOrder p round.order)
     (goes : GoesTo round depth) (state : IsState p round s) where
@@ -61,7 +53,7 @@ module _ (p : Problem) (round : Round) (depth : ℕ) (s : State) (first : ℕ) (
     where
       each_more : most_opening + 1 < at_state.next → OpensWithMore p round depth s first
       each_more many skeleton next o =
-          omega (arith, many, one_number p round depth s (first + 1) goes skeleton at_state.skeleton next at_state.next o at_state.opens)
+          omega (arith, many, (one_opening p round depth s (first + 1) goes skeleton at_state.skeleton next at_state.next o at_state.opens).1)
 
   with_more : OpensWithMore p round depth s first → (a : AnOpening p round depth s (first + 1)) × (most_opening + 1 < a.next)
   with_more more = (at_state, more at_state.skeleton at_state.next at_state.opens)
@@ -83,10 +75,7 @@ some_content p depth target round is may =
 pub rounds_open : RoundsOpen
 rounds_open = record {
   some = λ p round depth s first is order goes state. some_opening p round depth s first is order goes (rest_listed p s state.once);
-  one = λ p round depth s first goes a b. (
-    one_skeleton p round depth s first goes a.skeleton b.skeleton a.next b.next a.opens b.opens,
-    one_number p round depth s first goes a.skeleton b.skeleton a.next b.next a.opens b.opens,
-  );
+  one = λ p round depth s first goes a b. one_opening p round depth s first goes a.skeleton b.skeleton a.next b.next a.opens b.opens;
   either = either;
   more = with_more;
   begins = some_content;

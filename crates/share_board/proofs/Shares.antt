@@ -1,6 +1,8 @@
 -- What the branches of an opening cost: each has its share, and its sets are among the connected ones within the limit.
-use Rattle.std.proofs.Common.{◌≡◌, ℕ, ◌+◌, ◌*◌, ◌≤◌, ◌<◌, Bool, true, false, ◌&&◌, List, [], ◌∷◌, length, filter, cond, refl, sym, ap, ◌∙◌, arith, inl, inr, Contains}
+use Rattle.std.proofs.Common.{◌≡◌, ℕ, ◌+◌, ◌*◌, ◌≤◌, ◌<◌, Bool, true, false, ◌&&◌, List, [], ◌∷◌, length, filter, refl, sym, ap, ◌∙◌, arith, inl, inr, Contains}
 use Rattle.std.proofs.lemmas.Bool.{and_parts}
+use Rattle.std.proofs.lemmas.List.Filters.{length-filter_both}
+use mathlib.Core.Bool.{not}
 use Rattle.grouping_laws.specs.Sets.{contains}
 use Rattle.grouping_laws.specs.Problem.{Problem}
 use Rattle.grouping_laws.specs.GroupsFrom.{IsBefore}
@@ -35,12 +37,7 @@ all_pass_so f [] h = refl
 all_pass_so f (d ∷ codes) h = and_true (f d) (all_pass f codes) (h d (inl refl)) (all_pass_so f codes (λ c i. h c (inr i)))
 
 filtered_few : (q : List ℕ → Bool) (xs : List (List ℕ)) → length (filter q xs) ≤ length xs
-filtered_few q [] = omega arith
-filtered_few q (x ∷ xs) = go (q x) (filtered_few q xs)
-  where
-    go : (b : Bool) → length (filter q xs) ≤ length xs → length (cond b (x ∷ filter q xs) (filter q xs)) ≤ length (x ∷ xs)
-    go true few = omega (arith, few)
-    go false few = omega (arith, few)
+filtered_few q xs = omega (arith, length-filter_both q (λ x. not (q x)) (λ x. refl) xs)
 
 -- the sets of a branch, by a test
 abbrev of_branch : State → ℕ → ℕ → List ℕ → Bool

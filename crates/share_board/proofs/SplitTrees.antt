@@ -7,7 +7,7 @@ use Rattle.partial_trees.specs.declared.tree.PartialTree.{PartialTree as PartHel
 use Rattle.partial_trees.specs.declared.tree.PartialBranch.{PartialBranch}
 use Rattle.partial_trees.specs.declared.tree.PartialTake.{PartialTake}
 use Rattle.partial_trees.proofs.PartialLists.{made_tree}
-use Rattle.share_board.proofs.Onto.{begun_onto_all, begun_more}
+use Rattle.share_board.proofs.Onto.{begun_onto_all, begun_more, front_append, front_more, front_all}
 
 -- takes of these groups, each with an open leaf, in front of others
 abbrev pub open_onto : List (List ℕ) → PartialTakes → PartialTakes
@@ -15,12 +15,10 @@ open_onto [] others = others
 open_onto (g ∷ groups) others = take_begun g open_leaf (open_onto groups others)
 
 pub open_all : (groups : List (List ℕ)) → open_onto groups no_begun ≡ open_takes groups
-open_all [] = refl
-open_all (g ∷ groups) = ap (take_begun g open_leaf) (open_all groups)
+open_all = front_all (λ g others. take_begun g open_leaf others) open_onto (λ b. refl) (λ a rest b. refl) open_takes no_begun refl (λ a rest. refl)
 
 open_more : (groups : List (List ℕ)) (g : List ℕ) (others : PartialTakes) → open_onto (groups ++ g ∷ []) others ≡ open_onto groups (take_begun g open_leaf others)
-open_more [] g others = refl
-open_more (a ∷ groups) g others = ap (take_begun a open_leaf) (open_more groups g others)
+open_more = front_more (λ g others. take_begun g open_leaf others) open_onto (λ b. refl) (λ a rest b. refl)
 
 pub taken_more : (takes news : List PartialTake) (t : PartialTake) (groups : List (List ℕ)) (g : List ℕ) → news ≡ takes ++ t ∷ [] → ((others : PartialTakes) → take_onto t others ≡ take_begun g open_leaf others)
     → ((others : PartialTakes) → begun_onto_all takes others ≡ open_onto groups others) → (others : PartialTakes) → begun_onto_all news others ≡ open_onto (groups ++ g ∷ []) others
@@ -32,14 +30,10 @@ taken_more takes news t groups g pushed made so others =
     ∙ sym (open_more groups g others)
 
 -- a partial tree with branches in front
-onto_append : (xs ys : List PartialBranch) (tree : PartialTree) → list_onto (xs ++ ys) tree ≡ list_onto xs (list_onto ys tree)
-onto_append [] ys tree = refl
-onto_append (x ∷ xs) ys tree = ap (begun_onto x) (onto_append xs ys tree)
-
 pub part_behind : (t : PartHeld) (branches : Vec PartialBranch Global) (bs : List PartialBranch) → branches.items ≡ bs ++ (out-PartialTree t).branches.items
     → partial_of (roll-PartialTree (record { branches = branches; rest = (out-PartialTree t).rest })) ≡ list_onto bs (partial_of t)
 part_behind t branches bs e =
     made_tree branches (out-PartialTree t).rest
     ∙ ap (λ (l : List PartialBranch). list_onto l (rest_of (out-PartialTree t).rest)) e
-    ∙ onto_append bs (out-PartialTree t).branches.items (rest_of (out-PartialTree t).rest)
+    ∙ front_append begun_onto list_onto (λ b. refl) (λ a rest b. refl) bs (out-PartialTree t).branches.items (rest_of (out-PartialTree t).rest)
     ∙ ap (list_onto bs) (sym (made_tree (out-PartialTree t).branches (out-PartialTree t).rest) ∙ ap partial_of (roll-out-PartialTree t))

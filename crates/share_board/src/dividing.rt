@@ -2,17 +2,14 @@
 
 ghost use Rattle.std.specs.Prelude.{◌≡◌, ℕ, ◌+◌, ◌≤◌, length, IfOk, IfErr, OnOk, OnErr};
 ghost use Rattle.board_laws.specs.Content.{Content, split_piece as split_of, part_piece as part_of};
-ghost use Rattle.board_laws.specs.PartialTrees.{IsPart, open_leaves};
-ghost use Rattle.board_laws.specs.Standing.{StandsAt};
+ghost use Rattle.board_laws.specs.{PartialTrees.{IsPart, open_leaves}, Standing.StandsAt};
 ghost use Rattle.certificate_laws.specs.State.{State as StateValue, empty_state};
 ghost use Rattle.county_problem.specs.ProblemValue.{problem_of};
 ghost use Rattle.partial_trees.specs.PartialValue.{partial_of};
-ghost use Rattle.share_board.specs.declared.piece.Fate.TheVariants.{Waits};
-ghost use Rattle.share_board.specs.HeldSkeleton.{IsFateAt};
+ghost use Rattle.share_board.specs.{declared.piece.Fate.TheVariants.Waits, HeldSkeleton.IsFateAt};
 ghost use Rattle.share_board.specs.Replies.{IsReply, most_pieces};
 ghost use Rattle.share_board.specs.BoardValue.{IsOf, Follows, Keeps, reply_of, AreBoardLists};
-ghost use Rattle.share_board.specs.Dividing.{refusal_of, part_refusal_of, IsSplitRefusal, IsRefusedPart};
-ghost use Rattle.share_board.specs.Dividing.{MaySplit, HasSplit, MayPart, HasParted};
+ghost use Rattle.share_board.specs.Dividing.{refusal_of, part_refusal_of, IsSplitRefusal, IsRefusedPart, MaySplit, HasSplit, MayPart, HasParted};
 
 use crate::board::Board;
 use crate::changing::divide;

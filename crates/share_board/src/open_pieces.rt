@@ -6,8 +6,7 @@ ghost use Rattle.grouping_laws.specs.GroupsFrom.{IsOrder};
 ghost use Rattle.county_problem.specs.ProblemValue.{problem_of};
 ghost use Rattle.certificate_data.specs.RoundValue.{round_of};
 ghost use Rattle.certificate_laws.specs.State.{State as StateValue, IsState, empty_state};
-ghost use Rattle.board_laws.specs.Content.{Content};
-ghost use Rattle.board_laws.specs.Standing.{StandsAt};
+ghost use Rattle.board_laws.specs.{Content.Content, Standing.StandsAt};
 ghost use Rattle.share_board.specs.BoardValue.{IsOf};
 ghost use Rattle.share_board.specs.OpenPieces.{AreOpen, numbers as numbers_of};
 

@@ -6,13 +6,10 @@ ghost use Rattle.connected_sets.specs.Graphs.{graph_order, graph_places};
 ghost use Rattle.partial_trees.specs.PartialValue.{partial_of, list_of_begun};
 ghost use Rattle.county_problem.specs.ProblemValue.{problem_of};
 ghost use Rattle.state_groups.specs.PlacedValues.{codes_of_sets, IsPlaced, IsClosable};
-ghost use Rattle.certificate_data.specs.declared.format.Format.TheVariants.{Plain};
-ghost use Rattle.certificate_data.specs.RoundValue.{round_of};
+ghost use Rattle.certificate_data.specs.{declared.format.Format.TheVariants.Plain, RoundValue.round_of};
 ghost use Rattle.certificate_laws.specs.State.{empty_state};
 ghost use Rattle.share_board.specs.Replies.{most_opening};
-ghost use Rattle.share_board.specs.Openings.{AllWait, IsOpened, AreOpened, StatesAreKept, board_problem, board_round};
-ghost use Rattle.share_board.specs.Openings.{board_state, IsOpeningInput, IsBranching, IsHalted, AreHalted};
-ghost use Rattle.share_board.specs.Openings.{IsOpeningStop};
+ghost use Rattle.share_board.specs.Openings.{AllWait, IsOpened, AreOpened, StatesAreKept, board_problem, board_round, board_state, IsOpeningInput, IsBranching, IsHalted, AreHalted, IsOpeningStop};
 
 use crate::changing::waiting;
 use crate::input::OpeningInput;

@@ -1,18 +1,15 @@
 //! The parts of an opening: the share of the budget, a piece, the branch at a state, and the tree built from them.
 
-ghost use Rattle.std.specs.Prelude.{◌≡◌, ℕ, ◌*◌, ◌+◌, ◌++◌, ◌∷◌, [], ◌<◌, ◌≤◌, ◌⊎◌, None, length, IfOk, IfErr, OnOk};
-ghost use Rattle.std.specs.Prelude.{IsErrOf, MatchOption};
-ghost use Rattle.connected_sets.specs.Graphs.{graph_order, graph_places};
+ghost use Rattle.std.specs.Prelude.{◌≡◌, ℕ, ◌*◌, ◌+◌, ◌++◌, ◌∷◌, [], ◌<◌, ◌≤◌, ◌⊎◌, None, length, IfOk, IfErr, OnOk, IsErrOf, MatchOption};
+ghost use Rattle.connected_sets.specs.{Graphs.{graph_order, graph_places}, declared.stop.Stop.Stop};
 ghost use Rattle.partial_trees.specs.PartialValue.{partial_of, list_of_begun};
 ghost use Rattle.partial_trees.specs.declared.tree.PartialTake.{roll-PartialTake};
-ghost use Rattle.connected_sets.specs.declared.stop.Stop.{Stop};
 ghost use Rattle.state_groups.specs.PlacedValues.{codes_of_set, IsPlaced};
 ghost use Rattle.county_problem.specs.OrderedValue.{code_at};
 ghost use Rattle.certificate_data.specs.declared.format.Format.TheVariants.{Plain};
 ghost use Rattle.board_laws.specs.PartialTrees.{begun};
 ghost use Rattle.share_board.specs.Replies.{most_opening};
-ghost use Rattle.share_board.specs.Openings.{IsOpened, StatesAreKept, board_problem, board_round, board_state};
-ghost use Rattle.share_board.specs.Openings.{IsOpeningInput, NoneIsOpen, IsBranching, IsBelowLine, IsHalted};
+ghost use Rattle.share_board.specs.Openings.{IsOpened, StatesAreKept, board_problem, board_round, board_state, IsOpeningInput, NoneIsOpen, IsBranching, IsBelowLine, IsHalted};
 
 use crate::input::OpeningInput;
 use crate::parts::open_place;

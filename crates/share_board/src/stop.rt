@@ -1,8 +1,7 @@
 //! Why a round isn't opened.
 
 ghost use Rattle.std.specs.Prelude.{◌≡◌};
-ghost use Rattle.share_board.specs.OpeningStops.{opening_stop};
-ghost use Rattle.share_board.specs.declared.stop.OpeningStop.TheVariants.{Memory};
+ghost use Rattle.share_board.specs.{OpeningStops.opening_stop, declared.stop.OpeningStop.TheVariants.Memory};
 
 use connected_sets::Stop;
 use std::alloc::AllocError;

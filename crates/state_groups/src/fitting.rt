@@ -1,13 +1,11 @@
 //! The groups that fit a state: their people suit some number of seats, and their counties are open to their size.
 
 ghost use Rattle.std.specs.Prelude.{◌≡◌, ℕ, true, ◌<◌, ◌≤◌, length, get_or, IfOk, IsTrue, ◌↔◌};
-ghost use Rattle.grouping_laws.specs.Sets.{Inside};
-ghost use Rattle.grouping_laws.specs.Problem.{Connected, people_of};
+ghost use Rattle.grouping_laws.specs.{Sets.Inside, Problem.{Connected, people_of}};
 ghost use Rattle.place_sets.specs.PlaceSets.{places_of};
 ghost use Rattle.connected_sets.specs.Graphs.{graph_places, place_problem, IsGraph};
-ghost use Rattle.certificate_laws.specs.State.{open_to};
+ghost use Rattle.certificate_laws.specs.{State.open_to, Fitting.Fits};
 ghost use Rattle.state_groups.specs.StateValue.{state_of};
-ghost use Rattle.certificate_laws.specs.Fitting.{Fits};
 
 use crate::state::State;
 use crate::stuck_parts::{asks_more, is_live};

@@ -3,11 +3,9 @@
 ghost use Rattle.std.specs.Prelude.{◌≡◌, ℕ, true, false, ◌<◌, ◌≤◌, MatchOption, IfOk, IsTrue, ◌↔◌, length};
 ghost use Rattle.grouping_laws.specs.Problem.{Connected, people_of};
 ghost use Rattle.place_sets.specs.PlaceSets.{places_of};
-ghost use Rattle.connected_sets.specs.Growths.{problem_in, places_in};
-ghost use Rattle.connected_sets.specs.Graphs.{IsGraph};
-ghost use Rattle.state_groups.specs.StateValue.{state_of};
+ghost use Rattle.connected_sets.specs.{Growths.{problem_in, places_in}, Graphs.IsGraph};
+ghost use Rattle.state_groups.specs.{StateValue.state_of, Keeping.IsAsked};
 ghost use Rattle.certificate_laws.specs.Fitting.{Fits};
-ghost use Rattle.state_groups.specs.Keeping.{IsAsked};
 
 use crate::fitting::fits;
 use crate::passing::is_passed_over;
@@ -78,9 +76,7 @@ fn fits_and_is_asked<C: CountySet>(
 
 impl<C: CountySet> GrowthTest<C> for StateTest<'_, C> {
     ghost use Rattle.std.specs.Prelude.{◌≡◌, ◌<◌, ℕ, true, length};
-    ghost use Rattle.state_groups.specs.StateValue.{state_of};
-    ghost use Rattle.state_groups.specs.Keeping.{Decides};
-    ghost use Rattle.state_groups.specs.People.{AreTables, fewer_tables};
+    ghost use Rattle.state_groups.specs.{StateValue.state_of, Keeping.Decides, People.{AreTables, fewer_tables}};
 
     const COUNTS_PASSED: bool = true;
 

@@ -2,16 +2,11 @@
 
 ghost use Rattle.std.specs.Prelude.{◌≡◌, ℕ, ◌+◌, true, false, ◌<◌, ◌≤◌, Bool, List, OnOk, IfOk, IsErrOf, length};
 ghost use Rattle.grouping_laws.specs.Places.{places_below};
-ghost use Rattle.connected_sets.specs.Graphs.{graph_places, place_problem, IsGraph};
-ghost use Rattle.connected_laws.specs.Growing.{only};
-ghost use Rattle.connected_laws.specs.Listing.{lists_of, AreBelow, IsListed, HasStepped, OneStepEach};
+ghost use Rattle.connected_sets.specs.{Graphs.{graph_places, place_problem, IsGraph}, declared.stop.Stop.Stop};
+ghost use Rattle.connected_laws.specs.{Growing.only, Listing.{lists_of, AreBelow, IsListed, HasStepped, OneStepEach}};
 ghost use Rattle.certificate_data.specs.Round.{Round};
-ghost use Rattle.certificate_laws.specs.State.{open_to};
-ghost use Rattle.state_groups.specs.StateValue.{state_of};
-ghost use Rattle.certificate_laws.specs.Groups.{IsSetAt, AreGroupsAt, IsSetWithin, AreGroupsOf};
-ghost use Rattle.state_groups.specs.Keeping.{Decides, others};
-ghost use Rattle.state_groups.specs.People.{AreTables};
-ghost use Rattle.connected_sets.specs.declared.stop.Stop.{Stop};
+ghost use Rattle.certificate_laws.specs.{State.open_to, Groups.{IsSetAt, AreGroupsAt, IsSetWithin, AreGroupsOf}};
+ghost use Rattle.state_groups.specs.{StateValue.state_of, Keeping.{Decides, others}, People.AreTables};
 
 use crate::fitting::open_places;
 use crate::kept_sets::most_populous;

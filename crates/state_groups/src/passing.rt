@@ -1,18 +1,13 @@
 //! Which sets a growth passes over, because no group that fits can come of them.
 
-ghost use Rattle.std.specs.Prelude.{◌≡◌, ℕ, ◌+◌, ◌^◌, Bool, List, [], true, filter, ◌<◌, ◌≤◌, MatchOption, IfOk};
-ghost use Rattle.std.specs.Prelude.{IsTrue, length};
-ghost use Rattle.grouping_laws.specs.Sets.{contains};
-ghost use Rattle.grouping_laws.specs.Problem.{people_of};
+ghost use Rattle.std.specs.Prelude.{◌≡◌, ℕ, ◌+◌, ◌^◌, Bool, List, [], true, filter, ◌<◌, ◌≤◌, MatchOption, IfOk, IsTrue, length};
+ghost use Rattle.grouping_laws.specs.{Sets.contains, Problem.people_of, Places.places_below};
 ghost use Rattle.place_sets.specs.PlaceSets.{places_of};
-ghost use Rattle.grouping_laws.specs.Places.{places_below};
-ghost use Rattle.connected_sets.specs.Growths.{problem_in, places_in};
-ghost use Rattle.connected_sets.specs.Graphs.{IsGraph};
+ghost use Rattle.connected_sets.specs.{Growths.{problem_in, places_in}, Graphs.IsGraph};
 ghost use Rattle.connected_laws.specs.Growing.{IsGrowth, IsFront, IsExtension, AreKept};
-ghost use Rattle.state_groups.specs.StateValue.{state_of};
-ghost use Rattle.certificate_laws.specs.Fitting.{Fits};
-ghost use Rattle.state_groups.specs.Keeping.{Decides, IsAsked};
+ghost use Rattle.state_groups.specs.{StateValue.state_of, Keeping.{Decides, IsAsked}};
 ghost use Rattle.state_groups.specs.People.{AreByPeople, AreWindows, IsDivided, AreTables};
+ghost use Rattle.certificate_laws.specs.Fitting.{Fits};
 
 use crate::people::first_people;
 use crate::reach::reached;

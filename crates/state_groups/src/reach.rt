@@ -2,8 +2,7 @@
 
 ghost use Rattle.std.specs.Prelude.{◌≡◌, ℕ, ◌+◌, ◌||◌, true, List, ◌<◌, ◌≤◌, IfOk, length};
 ghost use Rattle.place_sets.specs.PlaceSets.{places_of};
-ghost use Rattle.connected_sets.specs.Growths.{problem_in, places_in};
-ghost use Rattle.connected_sets.specs.Graphs.{graph_places, place_problem, IsGraph};
+ghost use Rattle.connected_sets.specs.{Growths.{problem_in, places_in}, Graphs.{graph_places, place_problem, IsGraph}};
 ghost use Rattle.connected_laws.specs.Growing.{IsGrowth, IsFront, IsExtension};
 
 use connected_sets::{CountyGraph, Growth, GrowthInput};

@@ -3,12 +3,11 @@
 ghost use Rattle.std.specs.Prelude.{◌≡◌, ◌≤◌, IfOk, IsErrOf};
 ghost use Rattle.grouping_laws.specs.Places.{places_below};
 ghost use Rattle.connected_sets.specs.Graphs.{graph_problem, graph_order, graph_places, place_problem, IsGraph};
-ghost use Rattle.connected_laws.specs.Listing.{AreBelow, OneStepEach};
 ghost use Rattle.connected_sets.specs.declared.stop.Stop.{Stop};
+ghost use Rattle.connected_laws.specs.Listing.{AreBelow, OneStepEach};
 ghost use Rattle.certificate_data.specs.RoundValue.{round_of};
 ghost use Rattle.certificate_laws.specs.Groups.{AreGroupsOf, IsSetWithin};
-ghost use Rattle.state_groups.specs.StateValue.{state_of};
-ghost use Rattle.state_groups.specs.PlacedValues.{state_at, codes_of_sets, IsPlaced};
+ghost use Rattle.state_groups.specs.{StateValue.state_of, PlacedValues.{state_at, codes_of_sets, IsPlaced}};
 
 use crate::lists::groups_of;
 use crate::state::State;

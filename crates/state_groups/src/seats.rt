@@ -1,14 +1,12 @@
 //! The numbers of seats that the people of sets suit, and whether the seats left lie outside of their range.
 
 ghost use Rattle.std.specs.Prelude.{◌≡◌, ℕ, true, ◌<◌, ◌≤◌, ◌||◌, nat_lt, length, map, All, IfOk, IfSome, IsTrue, ◌↔◌};
-ghost use Rattle.grouping_laws.specs.Problem.{Suits, people_of};
-ghost use Rattle.grouping_laws.specs.SeatWindow.{IsRun};
+ghost use Rattle.grouping_laws.specs.{Problem.{Suits, people_of}, SeatWindow.IsRun};
 ghost use Rattle.place_sets.specs.PlaceSets.{places_of};
 ghost use Rattle.county_problem.specs.OrderedValue.{problem_at};
 ghost use Rattle.connected_sets.specs.Graphs.{graph_places, place_problem, IsGraph};
-ghost use Rattle.state_groups.specs.StateValue.{state_of};
+ghost use Rattle.state_groups.specs.{StateValue.state_of, Sums.IsSums};
 ghost use Rattle.certificate_laws.specs.Leaves.{IsOffSeats};
-ghost use Rattle.state_groups.specs.Sums.{IsSums};
 
 use crate::state::State;
 use crate::sums::people_in;

@@ -1,11 +1,9 @@
 //! States by the places of an order: the first one, and those after a group is closed or a county is raised.
 
 ghost use Rattle.std.specs.Prelude.{◌≡◌, ℕ, ◌<◌, ◌≤◌, cond, nat_lt, length, get_or, IfOk};
-ghost use Rattle.county_problem.specs.ProblemValue.{problem_of};
-ghost use Rattle.county_problem.specs.OrderedValue.{at_places, code_at};
+ghost use Rattle.county_problem.specs.{ProblemValue.problem_of, OrderedValue.{at_places, code_at}};
 ghost use Rattle.certificate_laws.specs.State.{empty_state, close, raise};
-ghost use Rattle.state_groups.specs.StateValue.{state_of};
-ghost use Rattle.state_groups.specs.PlacedValues.{state_at, codes_of_set, IsPlaced, IsClosable};
+ghost use Rattle.state_groups.specs.{StateValue.state_of, PlacedValues.{state_at, codes_of_set, IsPlaced, IsClosable}};
 
 use county_problem::Ordered;
 use place_sets::{CountySet, copy_sets};

@@ -1,17 +1,13 @@
 //! The parts of the rest that no groups can fill, and the sets that leave such a part behind.
 
 ghost use Rattle.std.specs.Prelude.{◌≡◌, ℕ, true, false, ◌<◌, List, length, get_or, IfOk, IsTrue, ◌↔◌};
-ghost use Rattle.grouping_laws.specs.Sets.{contains};
-ghost use Rattle.grouping_laws.specs.Parts.{IsPart};
+ghost use Rattle.grouping_laws.specs.{Sets.contains, Parts.IsPart};
 ghost use Rattle.place_sets.specs.PlaceSets.{places_of};
 ghost use Rattle.county_problem.specs.OrderedValue.{problem_at};
 ghost use Rattle.connected_sets.specs.Graphs.{graph_places, place_problem, IsGraph};
-ghost use Rattle.state_groups.specs.StateValue.{state_of};
-ghost use Rattle.certificate_laws.specs.StuckParts.{CannotFill};
-ghost use Rattle.certificate_laws.specs.Fitting.{IsLive};
-ghost use Rattle.certificate_laws.specs.Leaves.{IsStuck};
-ghost use Rattle.state_groups.specs.Cut.{CutOff};
+ghost use Rattle.state_groups.specs.{StateValue.state_of, Cut.CutOff};
 ghost use Rattle.state_groups.specs.Stranding.{NoneFits, IsTooSmall, IsStranded, StrandedPart};
+ghost use Rattle.certificate_laws.specs.{StuckParts.CannotFill, Fitting.IsLive, Leaves.IsStuck};
 
 use crate::state::State;
 use crate::sums::people_in;

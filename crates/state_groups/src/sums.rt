@@ -1,8 +1,7 @@
 //! The people of a set, and its weight.
 
 ghost use Rattle.std.specs.Prelude.{◌≡◌, ℕ, true, ◌<◌, ◌≤◌, length, get_or};
-ghost use Rattle.grouping_laws.specs.Sets.{sum_by};
-ghost use Rattle.grouping_laws.specs.Problem.{people_of};
+ghost use Rattle.grouping_laws.specs.{Sets.sum_by, Problem.people_of};
 ghost use Rattle.place_sets.specs.PlaceSets.{places_of};
 ghost use Rattle.county_problem.specs.OrderedValue.{problem_at};
 

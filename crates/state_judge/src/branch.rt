@@ -1,20 +1,14 @@
 //! The verdict on the line of a branch, with the groups that it must take, and on the line of a take.
 
-ghost use Rattle.std.specs.Prelude.{◌≡◌, ℕ, ◌+◌, ◌*◌, ◌<◌, ◌≤◌, true, length, All, Contains, IfOk, IsErrOf, IsTrue};
-ghost use Rattle.std.specs.Prelude.{MatchOption, MatchResult, ◌↔◌};
+ghost use Rattle.std.specs.Prelude.{◌≡◌, ℕ, ◌+◌, ◌*◌, ◌<◌, ◌≤◌, true, length, All, Contains, IfOk, IsErrOf, IsTrue, MatchOption, MatchResult, ◌↔◌};
 ghost use Rattle.county_problem.specs.OrderedValue.{code_at};
 ghost use Rattle.connected_sets.specs.Graphs.{graph_problem, graph_order, graph_places, IsGraph};
 ghost use Rattle.connected_laws.specs.Listing.{AreBelow};
-ghost use Rattle.certificate_data.specs.declared.format.Format.TheVariants.{Plain};
-ghost use Rattle.certificate_data.specs.RoundValue.{round_of};
-ghost use Rattle.certificate_laws.specs.Groups.{AreGroupsAt, IsSetAt};
-ghost use Rattle.certificate_laws.specs.Proving.{limit_of, NamesLimit, CanBranch};
-ghost use Rattle.checker_laws.specs.Branches.{IsBranchFault, IsNextTake, IsTakeFault};
-ghost use Rattle.checker_laws.specs.Cost.{AreSoMany};
+ghost use Rattle.certificate_data.specs.{declared.format.Format.TheVariants.Plain, RoundValue.round_of};
+ghost use Rattle.certificate_laws.specs.{Groups.{AreGroupsAt, IsSetAt}, Proving.{limit_of, NamesLimit, CanBranch}};
+ghost use Rattle.checker_laws.specs.{Branches.{IsBranchFault, IsNextTake, IsTakeFault}, Cost.AreSoMany};
 ghost use Rattle.state_groups.specs.PlacedValues.{state_at, codes_of_set, codes_of_sets, IsPlaced, IsClosable};
-ghost use Rattle.state_judge.specs.CheckFaults.{NamesFault};
-ghost use Rattle.state_judge.specs.LineStops.{StopsAt};
-ghost use Rattle.state_judge.specs.declared.fault.LineStop.{LineStop};
+ghost use Rattle.state_judge.specs.{CheckFaults.NamesFault, LineStops.StopsAt, declared.fault.LineStop.LineStop};
 
 use crate::fault::{CheckFault, LineStop};
 use certificate_data::{Format, Round};

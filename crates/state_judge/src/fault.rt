@@ -1,8 +1,7 @@
 //! What may be wrong with a certificate, and why a line of a tree wasn't accepted.
 
 ghost use Rattle.std.specs.Prelude.{◌≡◌};
-ghost use Rattle.state_judge.specs.LineStops.{line_stop};
-ghost use Rattle.state_judge.specs.declared.fault.LineStop.TheVariants.{Memory};
+ghost use Rattle.state_judge.specs.{LineStops.line_stop, declared.fault.LineStop.TheVariants.Memory};
 
 use certificate_lines::TextFault;
 use connected_sets::Stop;

@@ -1,27 +1,19 @@
 //! The verdict on the weights of a line: each group of the size that fits must weigh the quota.
 
-ghost use Rattle.std.specs.Prelude.{◌≡◌, ℕ, ◌+◌, ◌<◌, ◌≤◌, true, false, map, length, get_or, All, Contains};
-ghost use Rattle.std.specs.Prelude.{IfOk, IsErrOf, IsTrue, MatchResult, ◌↔◌};
+ghost use Rattle.std.specs.Prelude.{◌≡◌, ℕ, ◌+◌, ◌<◌, ◌≤◌, true, false, map, length, get_or, All, Contains, IfOk, IsErrOf, IsTrue, MatchResult, ◌↔◌};
 ghost use Rattle.std.specs.List.{list_all};
 ghost use Rattle.grouping_laws.specs.Sets.{sum_by, contains};
 ghost use Rattle.place_sets.specs.PlaceSets.{places_of};
 ghost use Rattle.county_problem.specs.ProblemValue.{problem_of};
 ghost use Rattle.connected_sets.specs.Graphs.{graph_problem, graph_order, graph_places, place_problem, IsGraph};
-ghost use Rattle.certificate_laws.specs.Regions.{listed};
-ghost use Rattle.certificate_data.specs.RoundValue.{round_of};
-ghost use Rattle.certificate_laws.specs.State.{open_to};
-ghost use Rattle.certificate_laws.specs.Fitting.{IsKept};
-ghost use Rattle.certificate_laws.specs.Groups.{IsSetWithin};
-ghost use Rattle.certificate_data.specs.Tree.{weigh};
+ghost use Rattle.certificate_laws.specs.{Regions.listed, State.open_to, Fitting.IsKept, Groups.IsSetWithin};
 ghost use Rattle.certificate_laws.specs.BoundLines.{IsFair};
+ghost use Rattle.certificate_data.specs.{RoundValue.round_of, Tree.weigh};
 ghost use Rattle.certificate_lines.specs.Lines.{ascend};
 ghost use Rattle.checker_laws.specs.Cost.{AreSoMany};
-ghost use Rattle.state_groups.specs.PlacedValues.{state_at, IsPlaced};
-ghost use Rattle.state_groups.specs.StateValue.{state_of};
-ghost use Rattle.state_judge.specs.Candidates.{AreListed, AreCandidateSets};
-ghost use Rattle.state_judge.specs.LineStops.{StopsAt};
-ghost use Rattle.state_judge.specs.declared.fault.LineStop.{LineStop};
-ghost use Rattle.state_judge.specs.Weights.{weights_of, county_weight, IsUnfair};
+ghost use Rattle.state_groups.specs.{PlacedValues.{state_at, IsPlaced}, StateValue.state_of};
+ghost use Rattle.state_judge.specs.{Candidates.{AreListed, AreCandidateSets}, LineStops.StopsAt};
+ghost use Rattle.state_judge.specs.{declared.fault.LineStop.LineStop, Weights.{weights_of, county_weight, IsUnfair}};
 
 use crate::fault::{CheckFault, LineStop};
 use crate::weights::{are_known, is_spelled, weights_at};

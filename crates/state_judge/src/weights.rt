@@ -1,7 +1,6 @@
 //! The weights of a line, by county: whether a text may spell them, and what each county weighs.
 
-ghost use Rattle.std.specs.Prelude.{◌≡◌, ◌≤◌, true, map, IfOk, IsTrue, ◌↔◌};
-ghost use Rattle.std.specs.List.{list_all};
+ghost use Rattle.std.specs.{Prelude.{◌≡◌, ◌≤◌, true, map, IfOk, IsTrue, ◌↔◌}, List.list_all};
 ghost use Rattle.grouping_laws.specs.Sets.{contains};
 ghost use Rattle.certificate_lines.specs.Lines.{ascend};
 ghost use Rattle.state_judge.specs.Weights.{county_weight};

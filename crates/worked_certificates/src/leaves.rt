@@ -1,7 +1,6 @@
 //! The leaf that is found at a state where nothing is closed, and what the checker says of this leaf as a tree.
 
-ghost use Rattle.std.specs.Prelude.{◌≡◌, ◌≤◌, map, length, IfOk};
-ghost use Rattle.std.specs.Vec.{vec_items};
+ghost use Rattle.std.specs.{Prelude.{◌≡◌, ◌≤◌, map, length, IfOk}, Vec.vec_items};
 ghost use Rattle.county_codes.specs.Limits.{most_counties};
 ghost use Rattle.county_problem.specs.ProblemValue.{problem_of};
 ghost use Rattle.connected_sets.specs.Graphs.{graph_problem, graph_order, graph_places, IsGraph};
@@ -93,14 +92,14 @@ fn first_word(lines: &[u8]) -> Result<&str> {
     Ok(text.split_whitespace().next().unwrap_or(""))
 }
 
-/// Returns in words what kind of leaf this is, and what the checker says of it as a tree at the `state`. The kind is
-/// the first word of its lines.
+/// Returns in words what kind of leaf the `tree` is, and what the checker says of it at the `state`. The kind is the
+/// first word of its lines.
 fn checked<C: CountySet>(
     alloc: Global,
     problem: &Problem,
     round: &Round,
     state: &State<C>,
-    leaf: Leaf,
+    tree: &Tree,
 ) -> Result<String>
     requires fits { length round.now.order ≤ C.PLACES }
     requires order { IsOrder (problem_of problem.now) round.now.order }
@@ -108,13 +107,11 @@ fn checked<C: CountySet>(
     requires target { IsLawfulTarget (problem_of problem.now) (target_of round.now.target) }
     requires placed { IsPlaced (length round.now.order) C.test state.now }
 {
-    let branches = Vec::new(alloc);
-    let tree = Tree { branches, leaf };
-    let lines = tree_lines(alloc, &tree)?;
+    let lines = tree_lines(alloc, tree)?;
     let kind = first_word(&lines)?;
     let mut lists = PartLists::new(alloc);
     let said = match check_tree(
-        alloc, problem, round, state, false, &mut lists, &tree, ENOUGH,
+        alloc, problem, round, state, false, &mut lists, tree, ENOUGH,
     )? {
         TreeVerdict::Proof => "a proof",
         TreeVerdict::Fault(_) => "NO PROOF",
@@ -133,7 +130,10 @@ fn first_leaf(alloc: Global, problem: &Problem, ordered: &Ordered, round: &Round
 {
     let state: State<MaskSet> = first_state(alloc, ordered)?;
     match leaf_at(alloc, ordered, round, &state)? {
-        Some(leaf) => checked(alloc, problem, round, &state, leaf),
+        Some(leaf) => {
+            let branches = Vec::new(alloc);
+            checked(alloc, problem, round, &state, &Tree { branches, leaf })
+        }
         None => Ok(String::from_str(alloc, "no leaf")?),
     }
 }
@@ -154,7 +154,7 @@ pub(crate) fn leaf_said(
     let target = target_in(alloc, problem, text)?;
     let ordered = Ordered::build(alloc, problem, &order)?;
     if !fits_mask(usize::from(ordered.places())) {
-        return Err(Error::msg("a mask has no room for so many counties"));
+        return Err(Error::msg("a mask has no room for this number of counties"));
     }
     let round = Round {
         order: Codes::new(order),

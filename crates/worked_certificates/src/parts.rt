@@ -110,7 +110,7 @@ pub(crate) fn part_said(
     let order = listed_codes(alloc, problem.counties())?;
     let ordered = Ordered::build(alloc, problem, &order)?;
     if !fits_mask(usize::from(ordered.places())) {
-        return Err(Error::msg("a mask has no room for so many counties"));
+        return Err(Error::msg("a mask has no room for this number of counties"));
     }
     let round = Round {
         order: Codes::new(order),

@@ -1,9 +1,8 @@
 //! Records of runs, sums in pieces, and the answers that texts give.
 
 use anyhow::Result;
-use cli_record_text::{
-    FileRead, FileStored, ReadFile, Run, RunningSum, StoreOption, answer_of, record_text, sum_of,
-};
+use cli_file_stores::{RunningSum, sum_of};
+use cli_record::{FileRead, FileStored, ReadFile, Run, StoreOption, answer_of, record_text};
 
 /// Returns the text of `from` as a `String`.
 fn text(rt: &HostRuntime, from: &str) -> Result<String> {

@@ -1,7 +1,6 @@
 //! Texts that are written one after the other.
 
-ghost use Rattle.std.specs.Prelude.{◌≡◌, ◌++◌, ℕ, List, [], Some, false, OnOk, OnErr};
-ghost use Rattle.std.specs.Option.{option_map};
+ghost use Rattle.std.specs.{Prelude.{◌≡◌, ◌++◌, ℕ, List, [], Some, false, OnOk, OnErr}, Option.option_map};
 ghost use Rattle.written_output.specs.Writing.{HasWritten, IsFresh, kept_of};
 
 use cli_file_stores::Sink;

@@ -2,12 +2,10 @@
 from __future__ import annotations
 
 import json
-import shutil
 import subprocess
 import sys
 import tempfile
 import time
-import unittest
 from dataclasses import dataclass
 from pathlib import Path
 from typing import Any
@@ -22,7 +20,8 @@ SECONDS = 60.0
 
 sys.path.insert(0, str(TOP / "tools"))
 
-from browser import Browser  # noqa: E402
+from browser_trial import InBrowser  # noqa: E402
+from installed import NotThere, program_there  # noqa: E402
 
 
 SIDEWAYS = "document.documentElement.scrollWidth - document.documentElement.clientWidth"
@@ -108,10 +107,6 @@ SETTING = Setting()
 ROOM = tempfile.TemporaryDirectory()
 
 
-class NotThere(unittest.SkipTest):
-    """Says what is missing, so that a test can't be run."""
-
-
 def native() -> str:
     """Returns the program of this machine."""
     if SETTING.program is None:
@@ -125,8 +120,7 @@ def page() -> Path:
         return SETTING.page
     if SETTING.program is None or not SETTING.wasm.is_file():
         raise NotThere(f"{SETTING.page.name} isn't there; --program and --wasm make one")
-    if shutil.which("node") is None:
-        raise NotThere("no Node is installed, which makes the page: Debian has it as nodejs")
+    program_there("node")
     made = Path(ROOM.name) / "desk.html"
     words = [sys.executable, str(TOP / "tools" / "make_desk.py"), "--program", native()]
     subprocess.run([*words, "--wasm", str(SETTING.wasm), "--out", str(made)], check=True)
@@ -140,22 +134,13 @@ def run(*words: str) -> str:
     return done.stdout.decode()
 
 
-class InDesk(unittest.TestCase):
+class InDesk(InBrowser):
     """Tests in one browser, each with the page opened anew."""
-
-    browser: Browser
-    room: Path
 
     @classmethod
     def setUpClass(cls) -> None:
-        if Browser.found() is None:
-            raise NotThere("no Chromium is installed: Debian has it as the package chromium")
         page()
-        room = tempfile.TemporaryDirectory()
-        cls.addClassCleanup(room.cleanup)
-        cls.room = Path(room.name)
-        cls.browser = Browser()
-        cls.addClassCleanup(cls.browser.close)
+        super().setUpClass()
 
     def setUp(self) -> None:
         self.browser.faults = []
@@ -237,7 +222,7 @@ class InDesk(unittest.TestCase):
             return Path(self.browser.download(script, folder)).read_bytes()
 
     def check_quiet(self) -> None:
-        """Nothing stands on the console, and the page asked for nothing but itself."""
+        """Wants nothing on the console, and that the page asked for nothing but itself."""
         self.value("new Promise((done) => setTimeout(done, 50))")
         self.assertEqual(self.browser.faults, [])
         own = ("file:", "blob:", "data:")

@@ -12,6 +12,8 @@ import time
 from pathlib import Path
 from typing import Any
 
+from installed import program_there
+
 SECONDS = 120.0
 KEYS = {"Tab": "\ue004", "Enter": "\ue007", "ArrowRight": "\ue014", "Escape": "\ue00c"}
 # Firefox stores what it downloads in one folder, and asks nobody.
@@ -34,16 +36,9 @@ def free_port() -> int:
 class Firefox:
     """One page in a headless Firefox."""
 
-    @staticmethod
-    def found() -> str | None:
-        """Returns the path of a Firefox, or None."""
-        names = ("firefox-esr", "firefox")
-        return next((path for name in names if (path := shutil.which(name))), None)
-
     def __init__(self) -> None:
-        program = self.found()
-        if program is None:
-            raise RuntimeError("no Firefox is installed")
+        """Starts Firefox. Raises `NotThere` if none is installed."""
+        program = program_there("firefox-esr", "firefox")
         self.room = tempfile.mkdtemp(prefix="firefox-")
         port = free_port()
         self.downloads = Path(self.room) / "downloads"

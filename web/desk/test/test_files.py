@@ -195,6 +195,7 @@ class Grouping(Files):
         return self.text("#judge-result")
 
     def enacted(self, key: str) -> str:
+        """Returns the grouping that was enacted for the chamber `key` in 2023."""
         return (DATA / f"{key}2023.grouping").read_text(encoding="ascii")
 
     def test_the_enacted_groupings(self) -> None:

@@ -6,7 +6,7 @@ import unittest
 from pathlib import Path
 from typing import Any
 
-from desk_setting import CONTRAST, SIDEWAYS, TINTED, NotThere, page
+from desk_setting import CONTRAST, SIDEWAYS, TINTED, page
 from firefox import Firefox
 from printed_page import LEAST_LINES, lines_drawn
 from native_texts import COUNTS, GROUP_OF, OPTIONS, option_texts, pairs_of_one_tint
@@ -28,8 +28,6 @@ class InFirefox(unittest.TestCase):
 
     @classmethod
     def setUpClass(cls) -> None:
-        if Firefox.found() is None:
-            raise NotThere("no Firefox is installed: Debian has it as the package firefox-esr")
         page()
         cls.firefox = Firefox()
         cls.addClassCleanup(cls.firefox.close)

@@ -193,6 +193,7 @@ class Proof(InDesk):
 
     def test_a_changed_map(self) -> None:
         def without_a_group(data: Any) -> None:
+            """Takes a shared group out of the list."""
             chamber = data["chambers"][0]
             lines = chamber["list"].split("\n")
             kept = [it for it in lines if not it.startswith("group seats 1 people 215999")]
@@ -203,6 +204,7 @@ class Proof(InDesk):
 
     def test_a_changed_name(self) -> None:
         def renamed(data: Any) -> None:
+            """Gives a county another name."""
             chamber = data["chambers"][0]
             chamber["table"] = chamber["table"].replace("Wake County", "Wade County")
 
@@ -210,6 +212,7 @@ class Proof(InDesk):
 
     def test_a_changed_border(self) -> None:
         def without_a_border(data: Any) -> None:
+            """Takes a pair of counties out of the borders."""
             data["borders"] = data["borders"].replace("37023 37109\n", "")
 
         self.assertIn("The page shows other borders", self.shown_otherwise(without_a_border))

@@ -3,9 +3,12 @@ from pathlib import Path
 from unittest import mock
 
 import page as county_page
-from desk_setting import SETTING, STATES, InDesk, NotThere, native, run
-from page_samples import GROUPS, PEOPLE, SIX, SIX_WITHDRAWN, WITHDRAWN, PageRoom
+from desk_setting import SETTING, STATES, InDesk, native, run
+from page_samples import GROUPS, PEOPLE, SIX_WITHDRAWN, TWO, TWO_LISTED, WITHDRAWN, PageRoom
 from page_samples import record_of, small_table, squares, written
+
+from installed import NotThere
+from sample_listings import SIX
 
 
 class Small(InDesk, PageRoom):
@@ -104,14 +107,7 @@ class Small(InDesk, PageRoom):
         self.check_quiet()
 
     def test_several_numbers_of_seats(self) -> None:
-        rows = [["37001", "", 300, 1, 20, 300], ["37003", "", 300, 2, 19, 300]]
-        listed = (
-            "people 600\nchamber 39\nseats left 39\ncounties 2\nanswer all\ncounts 2\n"
-            "best groupings 1\nshared groups 2\n"
-            "group seats 19 to 20 people 300 counties 37001\n"
-            "group seats 19 to 20 people 300 counties 37003\nevery choice\n"
-        )
-        self.show(written(rows), listed, record_of(39))
+        self.show(written(TWO), TWO_LISTED, record_of(39))
         self.assertEqual(self.stored("grouping"), b"20|37001\n19|37003\n")
 
     def test_all_counties_are_withdrawn(self) -> None:

@@ -28,7 +28,7 @@ class WhatIf(InDesk):
 
     def test_burke_and_lincoln_cut(self) -> None:
         # Before the pair was in the list of borders, the Senate had 8 best groupings, and 20 of
-        # their groups were shared; with it they are the 16 that were published for 2020.
+        # their groups were shared. With it they are the 16 that were published for 2020.
         told = self.solved("#whatif/senate/cut=37023-37109")
         self.assertIn("Eight of the 16 best groupings are left.", told)
         self.assertIn("20 groups are in all of them", told)

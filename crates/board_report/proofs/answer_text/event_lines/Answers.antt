@@ -1,5 +1,5 @@
 use Rattle.std.proofs.Common.{append-nil, ◌∙◌}
-use Rattle.board_events.specs.Spelling.{text_of_event}
+use Rattle.board_report.specs.EventSpelling.{text_of_event}
 use Rattle.share_board.specs.Events.{event_of}
 use Rattle.board_report.proofs.answer_text.event_lines.Goals as goal
 

@@ -6,7 +6,6 @@ use Rattle.certificate_data.specs.RoundValue.{round_of}
 use Rattle.certificate_laws.specs.State.{IsState, empty_state}
 use Rattle.state_groups.specs.PlacedValues.{state_at, IsPlaced}
 use Rattle.board_laws.specs.Standing.{StandsAt}
-use Rattle.share_board.specs.Spelling.{HasFiveDigits}
 use Rattle.branch_bound.specs.Pieces.{IsPiece}
 use Rattle.board_report.specs.PieceAnswers.{IsStateHeld}
 use Rattle.board_report.specs.PieceText.{HasText}
@@ -70,8 +69,7 @@ returns-clause-text g c =
     let held = subst (IsStateHeld test board b c.args.number) c.in-Some.is (c.in_ok-state.ensures b is) in
     let stands = subst (λ z. StandsAt b.skeleton b.round (empty_state (problem_of board.problem)) c.args.number (state_at z test c.in-Some.state)) (sym c.proof_round.ensures.same_order) held.2 in
     let order = subst (λ z. IsOrder (problem_of z) round.order) c.requires.problem (c.proof_round.ensures.order b is) in
-    let five = subst (λ z. HasFiveDigits (problem_of z)) c.requires.problem is.spelled.codes in
     let state = subst (λ z. IsState (problem_of z) (round_of round) s) c.requires.problem (c.proof_round.ensures.states b c.args.number s is stands) in
-    let text = has_text p (round_of round) s c.args.number c.in_ok-piece.piece order five state (c.proof_round.ensures.small b is) (omega (arith, c.ranges.number)) c.in_ok-piece.ensures.piece in
+    let text = has_text p (round_of round) s c.args.number c.in_ok-piece.piece order state (c.proof_round.ensures.small b is) (omega (arith, c.ranges.number)) c.in_ok-piece.ensures.piece in
     subst (λ z. HasText z (length board.round.order) c.args.number c.in_ok-piece.piece) (ap (λ (z : Round). z.format) (c.proof_round.ensures.round b is ∙ sym is.round))
     (subst (λ z. HasText (round_of round).format (length z) c.args.number c.in_ok-piece.piece) c.proof_round.ensures.same_order text)

@@ -1,11 +1,18 @@
-use Rattle.std.proofs.Common.{◌+◌, subst, refl, ◌∙◌, arith}
+use Rattle.std.proofs.Common.{ℕ, ◌+◌, Bool, subst, refl, ◌∙◌, arith}
 use Rattle.certificate_laws.specs.Leaves.{IsStuck}
 use Rattle.certificate_laws.specs.Groups.{AreGroupsOf}
 use Rattle.state_groups.specs.PlacedValues.{codes_of_sets}
+use Rattle.search_groups.specs.declared.input.SearchInput.{SearchInput}
+use Rattle.search_groups.specs.declared.position.Position.{Position}
+use Rattle.branch_bound.specs.declared.outcome.Next.{Next}
 use Rattle.branch_bound.specs.Searching.{search_problem, search_round, search_state, IsEnd, IsBetter, IsNextSize, IsNextMove}
 use Rattle.branch_bound.proofs.Searches.{own}
 use Rattle.search_groups.proofs.NextMoves.{sized_at}
 use Rattle.branch_bound.proofs.judging.move_at_sizes.Goals as goal
+
+-- what follows where no group of at most the size of the position fits
+abbrev NextHere : {C : Type 0} → (C → ℕ → Bool) → SearchInput C → Position C → Next C → Type 0
+NextHere test g at next = IsNextSize test g (search_state g test at.state) at.size next
 
 pub next_size-requires-clause-no_stuck : goal.next_size-requires-clause-no_stuck
 next_size-requires-clause-no_stuck g c = λ x stuck. c.requires.no_stuck x (subst (λ z. IsStuck (search_problem c.args.input.now) (search_state c.args.input.now g.C.CountySet.test z) x) c.loop-position.invariant.state stuck)
@@ -15,10 +22,10 @@ loop-position-preserved g c =
     let test = g.C.CountySet.test in
     let input = c.args.input.now in
     let inv = c.loop-position.invariant in
-    let size = c.loop-position.position.size in
-    let found = subst (λ z. IsNextSize test input (search_state input test c.loop-position.position.state) size z) c.in-Ok-Groups.field-0-is c.in-Ok-Groups.ensures.next in
+    let at = c.loop-position.position in
+    let found = subst (NextHere test input at) c.in-Ok-Groups.field-0-is c.in-Ok-Groups.ensures.next in
     record {
-      at = sized_at g.row.C.Denot test g.C.CountySet.PLACES input c.requires.input c.requires.input.graph.order (search_state input test c.args.position.state) c.loop-position.position inv.at _ c.in-Ok-Groups.ensures.none refl refl found.0 found.1 (subst (λ z. AreGroupsOf (search_problem input) (search_round input) (search_state input test z) (size + 1) (codes_of_sets input.graph.now.ordered.now.order test c.in-Ok-Groups.groups.items)) inv.state found.2) refl;
+      at = sized_at g.row.C.Denot test g.C.CountySet.PLACES input c.requires.input c.requires.input.graph.order (search_state input test c.args.position.state) at inv.at _ c.in-Ok-Groups.ensures.none refl refl found.0 found.1 (subst (λ z. AreGroupsOf (search_problem input) (search_round input) (search_state input test z) (at.size + 1) (codes_of_sets input.graph.now.ordered.now.order test c.in-Ok-Groups.groups.items)) inv.state found.2) refl;
       state = inv.state;
       lists = c.next_size.ensures.lists;
       more = omega (arith, inv.more, c.next_size.ensures.more);
@@ -27,19 +34,13 @@ loop-position-preserved g c =
 
 pub returns-in-Ok-Leaf-clause-next_move : goal.returns-in-Ok-Leaf-clause-next_move
 returns-in-Ok-Leaf-clause-next_move g c =
-    let test = g.C.CountySet.test in
-    let input = c.args.input.now in
-    let at = c.loop-position.position in
-    subst (λ z. IsEnd (search_problem input) (search_round input) (search_state input test z) c.in-Ok-Leaf.leaf) c.loop-position.invariant.state
-    (subst (λ z. IsNextSize test input (search_state input test at.state) at.size z) c.in-Ok-Leaf.field-0-is c.in-Ok-Leaf.ensures.next)
+    subst (λ z. IsEnd (search_problem c.args.input.now) (search_round c.args.input.now) (search_state c.args.input.now g.C.CountySet.test z) c.in-Ok-Leaf.leaf) c.loop-position.invariant.state
+    (subst (NextHere g.C.CountySet.test c.args.input.now c.loop-position.position) c.in-Ok-Leaf.field-0-is c.in-Ok-Leaf.ensures.next)
 
 pub returns-in-Ok-Better-clause-next_move : goal.returns-in-Ok-Better-clause-next_move
 returns-in-Ok-Better-clause-next_move g c =
-    let test = g.C.CountySet.test in
-    let input = c.args.input.now in
-    let at = c.loop-position.position in
-    subst (λ z. IsBetter (search_problem input) (search_round input) (search_state input test z) c.in-Ok-Better.found) c.loop-position.invariant.state
-    (subst (λ z. IsNextSize test input (search_state input test at.state) at.size z) c.in-Ok-Better.field-0-is c.in-Ok-Better.ensures.next)
+    subst (λ z. IsBetter (search_problem c.args.input.now) (search_round c.args.input.now) (search_state c.args.input.now g.C.CountySet.test z) c.in-Ok-Better.found) c.loop-position.invariant.state
+    (subst (NextHere g.C.CountySet.test c.args.input.now c.loop-position.position) c.in-Ok-Better.field-0-is c.in-Ok-Better.ensures.next)
 
 pub move_at_groups-requires-clause-at : goal.move_at_groups-requires-clause-at
 move_at_groups-requires-clause-at g c =

@@ -1,10 +1,7 @@
-use Rattle.std.proofs.Common.{sym, ap, ◌∙◌, arith}
-use Rattle.std.proofs.lemmas.Iterator.Adapters.{YieldsList-from_vec}
-use Rattle.std.proofs.lemmas.Iterator.Consumers.{YieldsList-end}
-use Rattle.std.proofs.lemmas.List.{map-id}
+use Rattle.std.proofs.Common.{ap, ◌∙◌, arith}
 use Rattle.partial_trees.specs.PartialValue.{list_onto}
 use Rattle.branch_bound.specs.Parts.{whole_branches}
-use Rattle.branch_bound.proofs.OpenParts.{line_more}
+use Rattle.branch_bound.proofs.OpenParts.{line_more, all_yielded}
 use Rattle.branch_bound.proofs.parts.whole_lines.Goals as goal
 
 pub loop-branch-init : goal.loop-branch-init
@@ -20,5 +17,4 @@ loop-branch-preserved c = record {
 pub returns : goal.returns
 returns c = λ part.
     let gives = c.into_iter-branch-iterator.ensures.into_iter_gives in
-    let ended = YieldsList-end (YieldsList-from_vec {s = c.into_iter-branch-iterator.result} c.args.branches.items gives.0 (omega (arith, gives.1))) c.loop-branch.yielded c.loop-branch.branch-iterator c.loop-branch.yielded_by c.next.result c.next.new.self c.in-None.is c.next.ensures.steps in
-    c.loop-branch.invariant.lines part ∙ ap (λ z. whole_branches z part) (sym (map-id c.loop-branch.yielded) ∙ ended.0)
+    c.loop-branch.invariant.lines part ∙ ap (λ z. whole_branches z part) (all_yielded c.into_iter-branch-iterator.result c.args.branches.items c.loop-branch.yielded c.loop-branch.branch-iterator c.next.new.self c.next.result gives.0 (omega (arith, gives.1)) c.loop-branch.yielded_by c.in-None.is c.next.ensures.steps)

@@ -1,19 +1,8 @@
 use Rattle.std.proofs.Common.{◌≡◌, ◌≤◌, ◌+◌, ◌*◌, ◌-◌, take}
-use Rattle.std.specs.List.{AllByRecursion}
-use Rattle.grouping_laws.specs.Grouping.{Grouping}
 use Rattle.state_groups.specs.PlacedValues.{codes_of_sets}
-use Rattle.certificate_laws.specs.Agreement.{Agrees}
-use Rattle.certificate_data.specs.Tree.{Tree}
-use Rattle.certificate_laws.specs.Proving.{Proves}
-use Rattle.certificate_laws.specs.Certificate.{TargetFits}
-use Rattle.list_laws.specs.Completeness.{IsComplete}
-use Rattle.certificate_data.proofs.TreeLists.{list_onto}
-use Rattle.certificate_text.proofs.TreeViews.{items_of_branches}
-use Rattle.certificate_text.specs.TreeItems.{FitsInTree}
-use Rattle.board_laws.specs.PartialTrees.{PartialTree}
-use Rattle.branch_bound.specs.Parts.{whole_branches, IsOpenPart}
 use Rattle.branch_bound.specs.Searching.{search_problem, search_round, search_state, AreTakesOf}
 use Rattle.branch_bound.specs.PlainRounds.{IsStateOf}
+use Rattle.branch_bound.proofs.Searches.{IsBehind}
 use Rattle.branch_bound.proofs.plain_search.+proving_plain.Given as goal
 
 abbrev pub decreases-prove_plain : goal.decreases-prove_plain
@@ -38,17 +27,7 @@ decreases-prove_plain-branching g l = l.steps.limit - l.steps.used
 abbrev pub invariant-prove_plain-branching : goal.invariant-prove_plain-branching
 invariant-prove_plain-branching g l = record {
   at : IsStateOf g.C.CountySet.test l.input l.state;
-  whole : (tree : Tree) → Proves tree (search_problem l.input) (search_round l.input) (search_state l.input g.C.CountySet.test l.state)
-      → Proves (list_onto l.branches.items tree) (search_problem l.input) (search_round l.input) (search_state l.input g.C.CountySet.test l.fn.state);
-  parts : (part : PartialTree)
-      → IsOpenPart (search_problem l.input) (search_round l.input) (search_state l.input g.C.CountySet.test l.state) part
-      → IsOpenPart (search_problem l.input) (search_round l.input) (search_state l.input g.C.CountySet.test l.fn.state) (whole_branches l.branches.items part);
-  complete : TargetFits (search_problem l.input) l.input.round.now.limit (search_round l.input).target
-      → (tree : Tree)
-      → IsComplete tree (search_problem l.input) (search_round l.input) (search_state l.input g.C.CountySet.test l.state)
-      → IsComplete (list_onto l.branches.items tree) (search_problem l.input) (search_round l.input) (search_state l.input g.C.CountySet.test l.fn.state);
-  agrees : (grouping : Grouping) → Agrees (search_state l.input g.C.CountySet.test l.state) grouping → Agrees (search_state l.input g.C.CountySet.test l.fn.state) grouping;
-  lines : AllByRecursion (FitsInTree l.input.round.now.format) (items_of_branches l.branches.items);
+  behind : IsBehind (search_problem l.input) (search_round l.input) (search_state l.input g.C.CountySet.test l.fn.state) (search_state l.input g.C.CountySet.test l.state) l.branches.items;
   more : l.fn.steps.used ≤ l.steps.used;
   limit : l.steps.limit ≡ l.fn.steps.limit;
 }

@@ -3,7 +3,7 @@ use Rattle.county_codes.specs.declared.group.Group.{Group}
 use Rattle.county_problem.specs.ProblemValue.{problem_of}
 use Rattle.certificate_data.specs.declared.format.Format.TheVariants.{Wide}
 use Rattle.certificate_data.specs.RoundValue.{round_of}
-use Rattle.branch_bound.specs.Solving.{round_over}
+use Rattle.branch_bound.specs.Resuming.{round_over}
 use Rattle.branch_bound.proofs.Rounds.{best_answer, best_complete}
 use Rattle.branch_bound.proofs.solving.best.Goals as goal
 

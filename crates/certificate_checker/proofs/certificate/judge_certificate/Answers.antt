@@ -1,13 +1,10 @@
-use Rattle.std.proofs.Common.{◌≡◌, ◌∷◌, ◌++◌, [], Option, refl, sym, ap, subst, arith}
+use Rattle.std.proofs.Common.{◌≡◌, ◌∷◌, ◌++◌, [], Option, refl}
 use Rattle.county_problem.specs.ProblemValue.{problem_of}
 use Rattle.certificate_data.specs.RoundValue.{round_of}
 use Rattle.certificate_lines.specs.declared.item.Item.TheVariants as item
 use Rattle.certificate_text.specs.Trees.{items_of_tree}
-use Rattle.checker_laws.specs.Lines.{window_line, target_lines}
-use Rattle.certificate_checker.specs.ReadableTrees.{IsReadable}
 use Rattle.certificate_checker.specs.Feeding.{stream_of, fed_by}
-use Rattle.certificate_checker.proofs.ReadableTexts.{readable_of_fits}
-use Rattle.certificate_checker.proofs.Judged.{round_lines, unread, round_off, end_off, certificate_done}
+use Rattle.certificate_checker.proofs.Judged.{unread, round_off, end_off, certificate_done}
 use Rattle.county_codes.specs.declared.group.Grouping.{Grouping}
 use Rattle.certificate_data.specs.declared.round.Round.{Round}
 use Rattle.certificate_checker.proofs.Reaching.{fed_here, fed_twice, fed_off}
@@ -17,35 +14,21 @@ pub returns-in-Err-judge_round-clause-judged : goal.returns-in-Err-judge_round-c
 returns-in-Err-judge_round-clause-judged g c all sees cert fits items =
     let j = c.in-Err-judge_round.ensures.fed all sees in
     let r = c.in-Ok.ensures.fed all j.0 in
-    let taken = c.in-Ok.ensures.taken all j.0 cert items in
-    let judged =
-    c.in-Err-judge_round.ensures.judged all sees cert.tree (item.End ∷ []) (omega (arith, taken.2, c.requires.start.0, round_lines cert, ap (λ r. window_line r.window) taken.0, ap (λ r. target_lines r.target) taken.0))
-    (subst (λ r. IsReadable r.format cert.tree) (sym taken.0) (readable_of_fits cert fits)) taken.1 in
-    round_off (problem_of c.args.problem.now) cert (fed_by (stream_of g.S.ItemSource.left g.S.ItemSource.given c.args.feed.now c.args.from.now) all) c.requires.start.1 (λ r. round_of r ≡ cert.round) (fed_by (stream_of g.S.ItemSource.left g.S.ItemSource.given c.read_round.new.feed c.read_round.new.from) all) c.in-Ok.round taken r.1 (round_of c.in-Ok.round) taken.0 (fed_by (stream_of g.S.ItemSource.left g.S.ItemSource.given c.judge_round.new.feed c.judge_round.new.from) all) c.in-Err-judge_round.stop judged
+    round_off (problem_of c.args.problem.now) cert (fed_by (stream_of g.S.ItemSource.left g.S.ItemSource.given c.args.feed.now c.args.from.now) all) c.requires.start.1 (fed_by (stream_of g.S.ItemSource.left g.S.ItemSource.given c.read_round.new.feed c.read_round.new.from) all) c.in-Ok.round (c.in-Ok.ensures.taken all j.0 cert items) r.1 c.requires.start.0 fits (fed_by (stream_of g.S.ItemSource.left g.S.ItemSource.given c.judge_round.new.feed c.judge_round.new.from) all) c.in-Err-judge_round.stop (c.in-Err-judge_round.ensures.judged all sees)
 
 pub returns-in-Err-next_end-clause-judged : goal.returns-in-Err-next_end-clause-judged
 returns-in-Err-next_end-clause-judged g c all sees cert fits items =
     let e = c.in-Err-next_end.ensures.fed all sees in
     let j = c.in-Ok-judge_round.ensures.fed all e.0 in
     let r = c.in-Ok.ensures.fed all j.0 in
-    let taken = c.in-Ok.ensures.taken all j.0 cert items in
-    let judged =
-    c.in-Ok-judge_round.ensures.judged all e.0 cert.tree (item.End ∷ []) (omega (arith, taken.2, c.requires.start.0, round_lines cert, ap (λ r. window_line r.window) taken.0, ap (λ r. target_lines r.target) taken.0))
-    (subst (λ r. IsReadable r.format cert.tree) (sym taken.0) (readable_of_fits cert fits)) taken.1 in
-    end_off (problem_of c.args.problem.now) cert (fed_by (stream_of g.S.ItemSource.left g.S.ItemSource.given c.args.feed.now c.args.from.now) all) c.requires.start.1 (λ r. round_of r ≡ cert.round) (fed_by (stream_of g.S.ItemSource.left g.S.ItemSource.given c.read_round.new.feed c.read_round.new.from) all) c.in-Ok.round taken r.1 (round_of c.in-Ok.round) taken.0 (fed_by (stream_of g.S.ItemSource.left g.S.ItemSource.given c.judge_round.new.feed c.judge_round.new.from) all) judged j.1
-    (fed_by (stream_of g.S.ItemSource.left g.S.ItemSource.given c.next_end.new.feed c.next_end.new.from) all) c.in-Err-next_end.stop (c.in-Err-next_end.ensures.took all sees)
+    end_off (problem_of c.args.problem.now) cert (fed_by (stream_of g.S.ItemSource.left g.S.ItemSource.given c.args.feed.now c.args.from.now) all) c.requires.start.1 (fed_by (stream_of g.S.ItemSource.left g.S.ItemSource.given c.read_round.new.feed c.read_round.new.from) all) c.in-Ok.round (c.in-Ok.ensures.taken all j.0 cert items) r.1 c.requires.start.0 fits (fed_by (stream_of g.S.ItemSource.left g.S.ItemSource.given c.judge_round.new.feed c.judge_round.new.from) all) (c.in-Ok-judge_round.ensures.judged all e.0) j.1 (fed_by (stream_of g.S.ItemSource.left g.S.ItemSource.given c.next_end.new.feed c.next_end.new.from) all) c.in-Err-next_end.stop (c.in-Err-next_end.ensures.took all sees)
 
 pub returns-in-Ok-next_end-clause-judged : goal.returns-in-Ok-next_end-clause-judged
 returns-in-Ok-next_end-clause-judged g c all sees cert fits items =
     let e = c.in-Ok-next_end.ensures.fed all sees in
     let j = c.in-Ok-judge_round.ensures.fed all e.0 in
     let r = c.in-Ok.ensures.fed all j.0 in
-    let taken = c.in-Ok.ensures.taken all j.0 cert items in
-    let judged =
-    c.in-Ok-judge_round.ensures.judged all e.0 cert.tree (item.End ∷ []) (omega (arith, taken.2, c.requires.start.0, round_lines cert, ap (λ r. window_line r.window) taken.0, ap (λ r. target_lines r.target) taken.0))
-    (subst (λ r. IsReadable r.format cert.tree) (sym taken.0) (readable_of_fits cert fits)) taken.1 in
-    certificate_done (problem_of c.args.problem.now) cert (fed_by (stream_of g.S.ItemSource.left g.S.ItemSource.given c.args.feed.now c.args.from.now) all) c.requires.start.1 (λ r. round_of r ≡ cert.round) (fed_by (stream_of g.S.ItemSource.left g.S.ItemSource.given c.read_round.new.feed c.read_round.new.from) all) c.in-Ok.round taken r.1 (round_of c.in-Ok.round) taken.0 (fed_by (stream_of g.S.ItemSource.left g.S.ItemSource.given c.judge_round.new.feed c.judge_round.new.from) all) judged j.1
-    c.in-Ok.round.target refl
+    certificate_done (problem_of c.args.problem.now) cert (fed_by (stream_of g.S.ItemSource.left g.S.ItemSource.given c.args.feed.now c.args.from.now) all) c.requires.start.1 (fed_by (stream_of g.S.ItemSource.left g.S.ItemSource.given c.read_round.new.feed c.read_round.new.from) all) c.in-Ok.round (c.in-Ok.ensures.taken all j.0 cert items) r.1 c.requires.start.0 fits (fed_by (stream_of g.S.ItemSource.left g.S.ItemSource.given c.judge_round.new.feed c.judge_round.new.from) all) (c.in-Ok-judge_round.ensures.judged all e.0) j.1 c.in-Ok.round.target refl
 
 pub returns-in-Err-clause-fed : goal.returns-in-Err-clause-fed
 returns-in-Err-clause-fed g c all sees =

@@ -1,4 +1,4 @@
-use Rattle.std.proofs.Common.{ℕ, ◌≡◌, ◌-◌, ◌∷◌, ◌++◌, List, All, Some, length}
+use Rattle.std.proofs.Common.{◌≡◌, ◌-◌, ◌∷◌, ◌++◌, List, All, length}
 use Rattle.county_problem.specs.ProblemValue.{problem_of}
 use Rattle.certificate_data.specs.RoundValue.{round_of}
 use Rattle.certificate_data.specs.Tree.{Tree, Takes}
@@ -7,12 +7,12 @@ use Rattle.certificate_lines.specs.declared.item.Item.{Item as ItemValue}
 use Rattle.checker_laws.specs.Work.{Open, a_tree, some_takes}
 use Rattle.state_groups.specs.PlacedValues.{state_at, codes_of_sets, IsPlaced, IsClosable}
 use Rattle.county_problem.specs.OrderedValue.{problem_at}
-use Rattle.certificate_laws.specs.Groups.{IsGroupAt}
-use Rattle.search_groups.specs.declared.position.Position.{Position}
 use Rattle.search_groups.specs.PartLists.{AreListsOf}
-use Rattle.certificate_checker.specs.Knowing.{IsKnownAt}
+use Rattle.certificate_checker.specs.Knowing.{IsKnownAt, AreOfKnownSize}
 use Rattle.certificate_checker.specs.ReadableTrees.{IsReadable, AreReadable}
-use Rattle.certificate_checker.specs.Feeding.{stream_of, CountsSteps, FeedsThrough, ForEach, Fed, Reaches, items_to_mark}
+use Rattle.certificate_checker.specs.Feeding.{stream_of, CountsSteps, FeedsThrough, ForEach, Fed, items_to_mark}
+use Rattle.certificate_checker.proofs.Takes.{TakesLeft}
+use Rattle.certificate_checker.proofs.Trees.{TreeLeft}
 use Rattle.certificate_checker.proofs.tree.+tree_judging.Given as goal
 
 abbrev pub decreases-judge_takes : goal.decreases-judge_takes
@@ -26,23 +26,12 @@ invariant-judge_takes-taking g l = record {
   counts : CountsSteps l.fn.feed l.feed;
   fed : FeedsThrough (stream_of g.S.ItemSource.left g.S.ItemSource.given l.fn.feed l.fn.from) (stream_of g.S.ItemSource.left g.S.ItemSource.given l.feed l.from) Fed;
   groups : All (IsClosable g.C.CountySet.test l.state) l.left;
-  fits : (at : Position g.row.C.Denot)
-      → l.known ≡ Some at
-      → All (λ k. (c : ℕ) × IsGroupAt (problem_of l.input.graph.now.ordered.now.problem) (round_of l.input.round.now) (state_at l.input.graph.now.ordered.now.order g.C.CountySet.test l.state) c at.size k) (codes_of_sets l.input.graph.now.ordered.now.order g.C.CountySet.test l.left);
+  fits : AreOfKnownSize g.C.CountySet.test l.input (state_at l.input.graph.now.ordered.now.order g.C.CountySet.test l.state) l.known l.left;
   lists : AreListsOf g.C.CountySet.test (problem_at l.input.graph.now.ordered.now) (length l.input.graph.now.ordered.now.order) l.lists;
   left : ForEach (stream_of g.S.ItemSource.left g.S.ItemSource.given l.fn.feed l.fn.from) (stream_of g.S.ItemSource.left g.S.ItemSource.given l.feed l.from) (λ a b. (takes : Takes) (rest : List ItemValue) (more : List Open)
       → AreReadable l.input.round.now.format takes
       → a.course.items ≡ items_to_mark takes ++ rest
-      → (others : Takes)
-      × AreReadable l.input.round.now.format others
-      × (b.course.items ≡ items_to_mark others ++ rest)
-      × Reaches
-      (problem_of l.input.graph.now.ordered.now.problem)
-      (round_of l.input.round.now)
-      a
-      b
-      (some_takes takes (state_at l.input.graph.now.ordered.now.order g.C.CountySet.test l.state) (codes_of_sets l.input.graph.now.ordered.now.order g.C.CountySet.test l.fn.groups) ∷ more)
-      (some_takes others (state_at l.input.graph.now.ordered.now.order g.C.CountySet.test l.state) (codes_of_sets l.input.graph.now.ordered.now.order g.C.CountySet.test l.left) ∷ more));
+      → TakesLeft l.input.round.now.format (problem_of l.input.graph.now.ordered.now.problem) (round_of l.input.round.now) (state_at l.input.graph.now.ordered.now.order g.C.CountySet.test l.state) (codes_of_sets l.input.graph.now.ordered.now.order g.C.CountySet.test l.left) rest more a b (some_takes takes (state_at l.input.graph.now.ordered.now.order g.C.CountySet.test l.state) (codes_of_sets l.input.graph.now.ordered.now.order g.C.CountySet.test l.fn.groups) ∷ more));
 }
 
 abbrev pub decreases-judge_takes-taking : goal.decreases-judge_takes-taking
@@ -58,16 +47,7 @@ invariant-judge_tree-branching g l = record {
   left : ForEach (stream_of g.S.ItemSource.left g.S.ItemSource.given l.fn.feed l.fn.from) (stream_of g.S.ItemSource.left g.S.ItemSource.given l.feed l.from) (λ a b. (tree : Tree) (rest : List ItemValue) (more : List Open)
       → IsReadable l.input.round.now.format tree
       → a.course.items ≡ items_of_tree tree ++ rest
-      → (raised : Tree)
-      × IsReadable l.input.round.now.format raised
-      × (b.course.items ≡ items_of_tree raised ++ rest)
-      × Reaches
-      (problem_of l.input.graph.now.ordered.now.problem)
-      (round_of l.input.round.now)
-      a
-      b
-      (a_tree tree (state_at l.input.graph.now.ordered.now.order g.C.CountySet.test l.fn.state) ∷ more)
-      (a_tree raised (state_at l.input.graph.now.ordered.now.order g.C.CountySet.test l.state) ∷ more));
+      → TreeLeft l.input.round.now.format (problem_of l.input.graph.now.ordered.now.problem) (round_of l.input.round.now) (state_at l.input.graph.now.ordered.now.order g.C.CountySet.test l.state) rest more a b (a_tree tree (state_at l.input.graph.now.ordered.now.order g.C.CountySet.test l.fn.state) ∷ more));
 }
 
 abbrev pub decreases-judge_tree-branching : goal.decreases-judge_tree-branching

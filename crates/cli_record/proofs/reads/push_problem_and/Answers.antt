@@ -7,6 +7,5 @@ use Rattle.cli_record.proofs.reads.push_problem_and.Goals as goal
 
 pub returns : goal.returns
 returns c =
-    on_ok c.push_read.result
-    (read_on (map read_line_of c.args.reads.now.items) (map read_line_of c.push_problem.new.reads.items) (map read_line_of c.push_read.new.reads.items) (problem_files c.args.words.now) (file_named c.args.file c.args.name.now ∷ []) (map sum_value c.args.sums.now) c.in_ok-push_problem.ensures)
-    c.push_read.ensures
+    on_ok c.push_read.result c.push_read.ensures
+    (read_on (map read_line_of c.args.reads.now.items) (problem_files c.args.words.now) (file_named c.args.file c.args.name.now ∷ []) (map sum_value c.args.sums.now) c.in_ok-push_problem.ensures)

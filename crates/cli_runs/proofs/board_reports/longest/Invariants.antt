@@ -1,6 +1,6 @@
 use Rattle.std.proofs.Common.{◌≡◌, drop, length}
 use Rattle.std.specs.Prelude.{fold, max}
-use Rattle.cli_runs.specs.BoardCourse.{longest}
+use Rattle.branch_bound.specs.Resuming.{longest}
 use Rattle.cli_runs.proofs.board_reports.longest.Given as goal
 
 abbrev pub invariant-loop-group : goal.invariant-loop-group

@@ -1,43 +1,8 @@
-use Rattle.std.proofs.Common.{◌∷◌, ◌≡◌, ◌≤◌, ℕ, List, Option, Some, [], refl, codes, lit<}
-use Rattle.clap.specs.Words.{ReadsOne, found_of, new_rule, one_text, rows_of}
-use Rattle.clap.specs.Simple.{filled}
-use Rattle.clap.specs.declared.parser.matches.ArgMatches.{ArgMatches}
-use Rattle.cli_words.specs.Command.{certificate_options, of_steps, problem_options, required, text_option}
-use Rattle.cli_words.specs.Options.{HasValue, HasValues, Spells}
-use Rattle.cli_words.proofs.ReadLemmas.{Parses, default_spells, front_values, is_ten_million, number_given, number_is, surely, text_is, text_read, unsigned_read}
+use Rattle.std.proofs.Common.{drop}
+use Rattle.clap.specs.Words.{found_of, rows_of}
+use Rattle.cli_words.specs.Command.{certificate_options, problem_options}
+use Rattle.cli_words.proofs.ReadLemmas.{front_values}
 use Rattle.cli_words.proofs.words.certificate_words.Goals as goal
 
-module _ (m : ArgMatches) (has : HasValues certificate_options (rows_of (found_of m))) where
-  certificate : HasValue (rows_of (found_of m)) (filled (required (text_option (codes "certificate"))))
-  certificate = surely _ _ refl (has 10 (new_rule []) (lit< tt) refl)
-
-  budget : HasValue (rows_of (found_of m)) (filled (of_steps (text_option (codes "budget"))))
-  budget = surely _ _ refl (has 11 (new_rule []) (lit< tt) refl)
-
 pub problem_words-requires : goal.problem_words-requires
-problem_words-requires c = front_values problem_options (required (text_option (codes "certificate")) ∷ of_steps (text_option (codes "budget")) ∷ []) _ c.requires
-
-pub unwrap-requires : goal.unwrap-requires
-unwrap-requires c = text_read (found_of c.args.found.now) _ (certificate c.args.found.now c.requires) c.get_str.result c.get_str.ensures
-
-module _ (m : ArgMatches) (has : HasValues certificate_options (rows_of (found_of m))) where
-  budget_read : (r : Option ℕ) → ((t : List ℕ) → one_text (found_of m) (codes "budget") ≡ Some t → ReadsOne (Parses 64) t r)
-      → (n : ℕ) × (r ≡ Some n) × (0 ≤ n) × (n ≤ 18446744073709551615) × Spells (budget m has).text n
-  budget_read r reads = unsigned_read (found_of m) _ (budget m has) 64 0 18446744073709551615 r reads (lit< tt) refl
-
-pub unwrap-requires-2 : goal.unwrap-requires-2
-unwrap-requires-2 c =
-    let n = budget_read c.args.found.now c.requires c.get_one.result c.get_one.ensures.value in
-    rw n.1 refl
-
-pub returns : goal.returns
-returns c =
-    let f = found_of c.args.found.now in
-    let m = c.args.found.now in
-    let most = number_is f _ (budget m c.requires) 0 18446744073709551615 c.get_one.result c.unwrap-2.result (budget_read m c.requires c.get_one.result c.get_one.ensures.value) c.unwrap-2.ensures in
-    record {
-      problem = c.problem_words.ensures;
-      certificate = text_is f _ (certificate m c.requires) c.get_str.result c.unwrap.result c.get_str.ensures c.unwrap.ensures;
-      budget = number_given f _ (budget m c.requires) c.unwrap-2.result most.2;
-      default = λ none. is_ten_million c.unwrap-2.result (default_spells f _ (budget m c.requires) (codes "10000000") c.unwrap-2.result none refl most.2);
-    }
+problem_words-requires c = front_values problem_options (drop 10 certificate_options) (rows_of (found_of c.args.found.now)) c.requires

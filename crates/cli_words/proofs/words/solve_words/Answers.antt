@@ -1,50 +1,8 @@
-use Rattle.std.proofs.Common.{◌∷◌, ◌≡◌, ◌⊎◌, ◌≤◌, ℕ, List, Option, Some, [], refl, codes, lit<}
-use Rattle.clap.specs.Words.{ReadsOne, found_of, new_rule, one_text, rows_of}
-use Rattle.clap.specs.Simple.{filled}
-use Rattle.clap.specs.declared.parser.matches.ArgMatches.{ArgMatches}
-use Rattle.cli_words.specs.Command.{of_steps, problem_options, solve_options, text_option}
-use Rattle.cli_words.specs.Options.{HasNone, HasValue, HasValues, Spells}
-use Rattle.cli_words.proofs.ReadLemmas.{Parses, default_spells, front_values, is_ten_million, number_given, number_is, surely, text_given, unsigned_read}
+use Rattle.std.proofs.Common.{drop}
+use Rattle.clap.specs.Words.{found_of, rows_of}
+use Rattle.cli_words.specs.Command.{problem_options, solve_options}
+use Rattle.cli_words.proofs.ReadLemmas.{front_values}
 use Rattle.cli_words.proofs.words.solve_words.Goals as goal
 
-module _ (m : ArgMatches) (has : HasValues solve_options (rows_of (found_of m))) where
-  steps : HasValue (rows_of (found_of m)) (filled (of_steps (text_option (codes "steps"))))
-  steps = surely _ _ refl (has 10 (new_rule []) (lit< tt) refl)
-
-  certificate : HasValue (rows_of (found_of m)) (filled (text_option (codes "certificate"))) ⊎ HasNone (rows_of (found_of m)) (filled (text_option (codes "certificate")))
-  certificate = has 11 (new_rule []) (lit< tt) refl
-
-  out : HasValue (rows_of (found_of m)) (filled (text_option (codes "out"))) ⊎ HasNone (rows_of (found_of m)) (filled (text_option (codes "out")))
-  out = has 12 (new_rule []) (lit< tt) refl
-
-  table : HasValue (rows_of (found_of m)) (filled (text_option (codes "table"))) ⊎ HasNone (rows_of (found_of m)) (filled (text_option (codes "table")))
-  table = has 13 (new_rule []) (lit< tt) refl
-
 pub problem_words-requires : goal.problem_words-requires
-problem_words-requires c =
-    front_values problem_options (of_steps (text_option (codes "steps")) ∷ text_option (codes "certificate") ∷ text_option (codes "out")
-    ∷ text_option (codes "table") ∷ []) _ c.requires
-
-module _ (m : ArgMatches) (has : HasValues solve_options (rows_of (found_of m))) where
-  steps_read : (r : Option ℕ) → ((t : List ℕ) → one_text (found_of m) (codes "steps") ≡ Some t → ReadsOne (Parses 64) t r)
-      → (n : ℕ) × (r ≡ Some n) × (0 ≤ n) × (n ≤ 18446744073709551615) × Spells (steps m has).text n
-  steps_read r reads = unsigned_read (found_of m) _ (steps m has) 64 0 18446744073709551615 r reads (lit< tt) refl
-
-pub unwrap-requires : goal.unwrap-requires
-unwrap-requires c =
-    let n = steps_read c.args.found.now c.requires c.get_one.result c.get_one.ensures.value in
-    rw n.1 refl
-
-pub returns : goal.returns
-returns c =
-    let f = found_of c.args.found.now in
-    let m = c.args.found.now in
-    let most = number_is f _ (steps m c.requires) 0 18446744073709551615 c.get_one.result c.unwrap.result (steps_read m c.requires c.get_one.result c.get_one.ensures.value) c.unwrap.ensures in
-    record {
-      problem = c.problem_words.ensures;
-      steps = number_given f _ (steps m c.requires) c.unwrap.result most.2;
-      default = λ none. is_ten_million c.unwrap.result (default_spells f _ (steps m c.requires) (codes "10000000") c.unwrap.result none refl most.2);
-      certificate = text_given f _ refl (certificate m c.requires) c.get_str.result c.get_str.ensures;
-      out = text_given f _ refl (out m c.requires) c.get_str-2.result c.get_str-2.ensures;
-      table = text_given f _ refl (table m c.requires) c.get_str-3.result c.get_str-3.ensures;
-    }
+problem_words-requires c = front_values problem_options (drop 10 solve_options) (rows_of (found_of c.args.found.now)) c.requires

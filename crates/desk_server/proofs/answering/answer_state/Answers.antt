@@ -15,5 +15,5 @@ piece_text-requires-clause-spelled g c =
     let p = graph_problem graph in
     let s = state_at (graph_order graph) g.C.CountySet.test c.args.state.now in
     let order = subst (IsOrder p) c.requires.order c.requires.graph.order in
-    let text = has_text p (round_of round) s number c.in_ok-answer.answer order c.requires.codes c.requires.state c.requires.small (omega arith) c.in_ok-answer.ensures.piece in
+    let text = has_text p (round_of round) s number c.in_ok-answer.answer order c.requires.state c.requires.small (omega arith) c.in_ok-answer.ensures.piece in
     subst (λ (n : ℕ). HasText round.format n number c.in_ok-answer.answer) (ap length (sym c.requires.order) ∙ sym c.places-counties.ensures.value) text

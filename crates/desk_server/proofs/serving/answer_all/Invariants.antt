@@ -7,7 +7,7 @@ use Rattle.desk_server.specs.Taking.{moment}
 use Rattle.desk_server.proofs.Underway.{IsUnderway}
 use Rattle.desk_server.proofs.serving.answer_all.Given as goal
 
--- so many texts were answered, and no pull has failed
+-- a number of texts was answered, and no pull has failed
 abbrev pub invariant-loop : goal.invariant-loop
 invariant-loop g l = record {
   lists : AreListsOf g.C.CountySet.test (place_problem l.graph) (graph_places l.graph) l.desk.lists;

@@ -1,43 +1,35 @@
-use Rattle.std.proofs.Common.{Ok, Some, inl, inr, refl, sym, subst}
+use Rattle.std.proofs.Common.{◌≡◌, Ok, Some, inl, inr, refl, sym, subst}
 use Rattle.board_texts.specs.Coming.{Held, ReadsNext, IsPrompt}
+use Rattle.board_texts.specs.declared.board_text.BoardText.{BoardText}
 use Rattle.written_output.proofs.Texts.{written_none}
+use Rattle.desk_server.specs.Taking.{Moment, ReadsOne}
 use Rattle.desk_server.proofs.serving.answer_next.Goals as goal
 
+-- the text was read, and what was read of the source stays as it is
+text_read : {C : Type 0} (old new : Moment C) (text : BoardText) (reader : Held) → reader ≡ new.desk.reader → ReadsNext old.desk.reader old.given new.given (Ok (Some text)) reader
+    → IsPrompt 65536 old.given new.given (Ok (Some text)) reader → ReadsOne old new
+text_read old new text reader same reads prompt = record {
+  text = text;
+  reads = subst (λ (r : Held). ReadsNext old.desk.reader old.given new.given (Ok (Some text)) r) same reads;
+  prompt = subst (λ (r : Held). IsPrompt 65536 old.given new.given (Ok (Some text)) r) same prompt;
+}
+
 pub returns-in-Ok-clause-takes : goal.returns-in-Ok-clause-takes
+unfolding text_read
 returns-in-Ok-clause-takes g c = λ last holds.
-    let from = g.S.Source.given c.args.source.now in
-    let to = g.S.Source.given c.next_text.new.source in
-    let text = c.in-Ok-Some.text in
-    let reader = sym c.take_text.ensures.reader in
+    let tells = c.in-Ok.ensures.tells last holds (g.S.Source.given c.args.source.now) (g.S.Source.given c.next_text.new.source) in
     let reads = rw c.in-Ok-Some.field-0-is at c.in-Ok-Some.ensures.next in
-    let prompt = rw c.in-Ok-Some.field-0-is at c.in-Ok-Some.ensures.prompt in
-    let tells = c.in-Ok.ensures.tells last holds from to in (
-      record {
-        text = text;
-        reads = subst (λ (r : Held). ReadsNext c.args.desk.now.reader from to (Ok (Some text)) r) reader reads;
-        prompt = subst (λ (r : Held). IsPrompt 65536 from to (Ok (Some text)) r) reader prompt;
-      },
+    let prompt = rw c.in-Ok-Some.field-0-is at c.in-Ok-Some.ensures.prompt in (
+      text_read _ _ c.in-Ok-Some.text _ (sym c.take_text.ensures.reader) reads prompt,
       record { said = tells.said; end = tells.end; answers = tells.answers; holds = tells.holds; written = tells.written },
     )
 
 pub returns-in-Err-take_text-clause-takes : goal.returns-in-Err-take_text-clause-takes
 returns-in-Err-take_text-clause-takes g c = λ last holds.
-    let from = g.S.Source.given c.args.source.now in
-    let to = g.S.Source.given c.next_text.new.source in
-    let text = c.in-Ok-Some.text in
-    let reader = sym c.take_text.ensures.reader in
+    let quiet = c.in-Err-take_text.ensures.quiet (g.S.Source.given c.args.source.now) (g.S.Source.given c.next_text.new.source) in
     let reads = rw c.in-Ok-Some.field-0-is at c.in-Ok-Some.ensures.next in
     let prompt = rw c.in-Ok-Some.field-0-is at c.in-Ok-Some.ensures.prompt in
-    let quiet = c.in-Err-take_text.ensures.quiet from to in
-    inr (
-      c.memory_fault.ensures,
-      record {
-        text = text;
-        reads = subst (λ (r : Held). ReadsNext c.args.desk.now.reader from to (Ok (Some text)) r) reader reads;
-        prompt = subst (λ (r : Held). IsPrompt 65536 from to (Ok (Some text)) r) reader prompt;
-      },
-      record { last = quiet.last; none = quiet.none },
-    )
+    inr (c.memory_fault.ensures, text_read _ _ c.in-Ok-Some.text _ (sym c.take_text.ensures.reader) reads prompt, record { last = quiet.last; none = quiet.none })
 
 pub returns-in-Err-clause-takes : goal.returns-in-Err-clause-takes
 returns-in-Err-clause-takes g c = λ last holds. inl (c.in-Err.ensures.next, record { last = refl; none = written_none (g.W.Sink.contents c.args.out.now) (g.W.Sink.is_failed c.args.out.now) c.args.written.now })

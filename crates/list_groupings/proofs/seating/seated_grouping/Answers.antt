@@ -20,9 +20,8 @@ pub people_of_sets-requires : goal.people_of_sets-requires
 people_of_sets-requires c =
     let p = problem_of c.args.problem.now in
     let one = c.counties-counties.ensures.problem.once in
-    let sets = c.in_ok-sets.sets.items in
-    let moved : IsPermutation (map (ascending p one) c.args.closed.now) sets = subst (λ (z : List (List ℕ)). IsPermutation z sets) c.in_ok-ascending_sets.ensures c.in_ok-sets.ensures.same in
-    record { once = subst (λ (z : List (List ℕ)). All (λ g. (x : ℕ) → count x g ≤ 1) z) (sym c.deref.ensures.value) (sets_once p one c.args.closed.now sets c.requires.once c.requires.lawful moved) }
+    let moved : IsPermutation (map (ascending p one) c.args.closed.now) c.in_ok-sets.sets.items = subst (λ (z : List (List ℕ)). IsPermutation z c.in_ok-sets.sets.items) c.in_ok-ascending_sets.ensures c.in_ok-sets.ensures.same in
+    record { once = subst (λ (z : List (List ℕ)). All (λ g. (x : ℕ) → count x g ≤ 1) z) (sym c.deref.ensures.value) (sets_once p one c.args.closed.now c.in_ok-sets.sets.items c.requires.once c.requires.lawful moved) }
 
 pub allot-requires : goal.allot-requires
 allot-requires c =
@@ -44,56 +43,26 @@ seated_groups-requires c =
     let suit : SuitAll p sets seats = suit_sets p sets seats (subst (λ (z : List ℕ). SuitEach p z seats) (c.deref-2.ensures.value ∙ (c.in_ok-people.ensures ∙ ap (map (people_of p)) c.deref.ensures.value)) got.0) in
     record { each = ap (λ (z : List ℕ). length z) c.deref-in-Some-2.ensures.value ∙ (as_many p sets seats suit ∙ sym (ap (λ (z : List (List ℕ)). length z) c.deref-in-Some.ensures.value)) }
 
-pub returns-in-Some-clause-lawful : goal.returns-in-Some-clause-lawful
-returns-in-Some-clause-lawful c =
+pub returns-in-Some : goal.returns-in-Some
+returns-in-Some c =
     let p = problem_of c.args.problem.now in
     let one = c.counties-counties.ensures.problem.once in
     let sets = c.in_ok-sets.sets.items in
     let seats = c.in-Some.seats.items in
+    let groups = c.in_ok-seated_groups-in-Some.field-0.items in
     let moved : IsPermutation (map (ascending p one) c.args.closed.now) sets = subst (λ (z : List (List ℕ)). IsPermutation z sets) c.in_ok-ascending_sets.ensures c.in_ok-sets.ensures.same in
     let got : SuitEach p c.deref-2.result.now seats × (sum_by (λ k. k) seats ≡ p.seats_left) = rw c.in-Some.is at c.in_ok-seats.ensures in
     let suit : SuitAll p sets seats = suit_sets p sets seats (subst (λ (z : List ℕ). SuitEach p z seats) (c.deref-2.ensures.value ∙ (c.in_ok-people.ensures ∙ ap (map (people_of p)) c.deref.ensures.value)) got.0) in
-    let e : c.in_ok-seated_groups-in-Some.field-0.items ≡ seated sets seats =
+    let e : groups ≡ seated sets seats =
     c.in_ok-seated_groups-in-Some.ensures ∙ (ap (λ (z : List (List ℕ)). seated z c.deref-in-Some-2.result.now) c.deref-in-Some.ensures.value ∙ ap (seated sets) c.deref-in-Some-2.ensures.value) in
-    subst (Lawful p) (sym e) (seated_is_lawful p one c.args.closed.now sets c.requires.once c.requires.lawful moved seats suit got.1)
-
-pub returns-in-Some-clause-filled : goal.returns-in-Some-clause-filled
-returns-in-Some-clause-filled c =
-    let p = problem_of c.args.problem.now in
-    let one = c.counties-counties.ensures.problem.once in
-    let sets = c.in_ok-sets.sets.items in
-    let seats = c.in-Some.seats.items in
-    let moved : IsPermutation (map (ascending p one) c.args.closed.now) sets = subst (λ (z : List (List ℕ)). IsPermutation z sets) c.in_ok-ascending_sets.ensures c.in_ok-sets.ensures.same in
-    let got : SuitEach p c.deref-2.result.now seats × (sum_by (λ k. k) seats ≡ p.seats_left) = rw c.in-Some.is at c.in_ok-seats.ensures in
-    let suit : SuitAll p sets seats = suit_sets p sets seats (subst (λ (z : List ℕ). SuitEach p z seats) (c.deref-2.ensures.value ∙ (c.in_ok-people.ensures ∙ ap (map (people_of p)) c.deref.ensures.value)) got.0) in
-    can_seat p one c.args.closed.now sets c.requires.once c.requires.lawful moved seats suit got.1
-
-pub returns-in-Some-clause-sets : goal.returns-in-Some-clause-sets
-returns-in-Some-clause-sets c =
-    let p = problem_of c.args.problem.now in
-    let one = c.counties-counties.ensures.problem.once in
-    let sets = c.in_ok-sets.sets.items in
-    let seats = c.in-Some.seats.items in
-    let moved : IsPermutation (map (ascending p one) c.args.closed.now) sets = subst (λ (z : List (List ℕ)). IsPermutation z sets) c.in_ok-ascending_sets.ensures c.in_ok-sets.ensures.same in
-    let got : SuitEach p c.deref-2.result.now seats × (sum_by (λ k. k) seats ≡ p.seats_left) = rw c.in-Some.is at c.in_ok-seats.ensures in
-    let suit : SuitAll p sets seats = suit_sets p sets seats (subst (λ (z : List ℕ). SuitEach p z seats) (c.deref-2.ensures.value ∙ (c.in_ok-people.ensures ∙ ap (map (people_of p)) c.deref.ensures.value)) got.0) in
-    let e : sets_of c.in_ok-seated_groups-in-Some.field-0.items ≡ sets =
-    ap sets_of (c.in_ok-seated_groups-in-Some.ensures ∙ (ap (λ (z : List (List ℕ)). seated z c.deref-in-Some-2.result.now) c.deref-in-Some.ensures.value ∙ ap (seated sets) c.deref-in-Some-2.ensures.value)) ∙ seated_sets p sets seats suit in
-    subst (λ (z : List (List ℕ)). SameSets z c.args.closed.now) (sym e) (same_sets p one c.args.closed.now sets c.requires.once c.requires.lawful moved)
-
-pub returns-in-Some-clause-in_order : goal.returns-in-Some-clause-in_order
-returns-in-Some-clause-in_order c =
-    let p = problem_of c.args.problem.now in
-    let one = c.counties-counties.ensures.problem.once in
-    let sets = c.in_ok-sets.sets.items in
-    let seats = c.in-Some.seats.items in
-    let moved : IsPermutation (map (ascending p one) c.args.closed.now) sets = subst (λ (z : List (List ℕ)). IsPermutation z sets) c.in_ok-ascending_sets.ensures c.in_ok-sets.ensures.same in
-    let got : SuitEach p c.deref-2.result.now seats × (sum_by (λ k. k) seats ≡ p.seats_left) = rw c.in-Some.is at c.in_ok-seats.ensures in
-    let suit : SuitAll p sets seats = suit_sets p sets seats (subst (λ (z : List ℕ). SuitEach p z seats) (c.deref-2.ensures.value ∙ (c.in_ok-people.ensures ∙ ap (map (people_of p)) c.deref.ensures.value)) got.0) in
-    let e : sets_of c.in_ok-seated_groups-in-Some.field-0.items ≡ sets =
-    ap sets_of (c.in_ok-seated_groups-in-Some.ensures ∙ (ap (λ (z : List (List ℕ)). seated z c.deref-in-Some-2.result.now) c.deref-in-Some.ensures.value ∙ ap (seated sets) c.deref-in-Some-2.ensures.value)) ∙ seated_sets p sets seats suit in
+    let own : sets_of groups ≡ sets = ap sets_of e ∙ seated_sets p sets seats suit in
     let up : IsStrictlyIncreasing (codes_of c.args.problem.now.counties) = subst (λ (z : List County). IsStrictlyIncreasing (codes_of z)) c.counties-counties.ensures.value c.counties-counties.ensures.by_code in
-    are_in_order p one c.args.closed.now sets c.requires.once c.requires.lawful moved up c.in_ok-sets.ensures.sorted c.in_ok-seated_groups-in-Some.field-0.items e
+    record {
+      lawful = subst (Lawful p) (sym e) (seated_is_lawful p one c.args.closed.now sets c.requires.once c.requires.lawful moved seats suit got.1);
+      filled = can_seat p one c.args.closed.now sets c.requires.once c.requires.lawful moved seats suit got.1;
+      sets = subst (λ (z : List (List ℕ)). SameSets z c.args.closed.now) (sym own) (same_sets p one c.args.closed.now sets c.requires.once c.requires.lawful moved);
+      in_order = are_in_order p one c.args.closed.now sets c.requires.once c.requires.lawful moved up c.in_ok-sets.ensures.sorted groups own;
+    }
 
 pub returns-clause-lawful : goal.returns-clause-lawful
 returns-clause-lawful c =

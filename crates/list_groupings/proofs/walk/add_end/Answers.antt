@@ -1,4 +1,4 @@
-use Rattle.std.proofs.Common.{◌≡◌, ◌≤◌, ◌+◌, ℕ, List, map, length, true, false, refl, sym, ap, ◌∙◌, subst, arith}
+use Rattle.std.proofs.Common.{◌≡◌, ◌≤◌, ◌+◌, ℕ, List, map, length, true, false, refl, ap, ◌∙◌, subst, arith}
 use Rattle.std.proofs.lemmas.Bool.Decides.{nat_tests}
 use Rattle.std.proofs.lemmas.List.{length-map}
 use Rattle.county_codes.specs.Limits.{most_counties}
@@ -16,7 +16,7 @@ use Rattle.search_ends.specs.FinishedStates.{CanSeat}
 use Rattle.list_laws.specs.AllBest.{SameSets}
 use Rattle.list_laws.proofs.LeafEnds.{bound_end}
 use Rattle.list_groupings.specs.ListOrder.{IsInOrder}
-use Rattle.list_groupings.proofs.WalkLemmas.{none_given, few_waiting, none_left, some_left, covered, bounds_of, short_of, walked_short, walked_end}
+use Rattle.list_groupings.proofs.WalkLemmas.{none_given, few_waiting, none_left, some_left, covered, short_as, walked_short, walked_end}
 use Rattle.list_groupings.proofs.walk.add_end.Goals as goal
 
 pub falls_short-requires-clause-few : goal.falls_short-requires-clause-few
@@ -29,13 +29,7 @@ falls_short-requires-clause-few c =
 pub returns-then-falls_short : goal.returns-then-falls_short
 returns-then-falls_short c = record {
   walked = λ s h.
-      let p = problem_of c.args.input.now.problem.now in
-      let r = round_of c.args.input.now.round.now in
-      let f = count_at c.args.input.now.wanted.now in
-      let lines = map allowance_of c.args.lines.now in
-      let short : falls_short p s (wanted r.target) 1 0 lines ≡ true =
-      sym (short_of p r s f lines c.requires.input.wanted_is) ∙ (sym (c.falls_short.ensures.value r.format p s h.0 (bounds_of p r s f lines c.requires.input.wanted_is h.1.proves)) ∙ c.if-falls_short.true) in
-      walked_short p r s lines c.args.found.now (record { line = c.args.found.now.line + (1 + length c.args.lines.now); list = c.args.found.now.list }) (omega (arith, length-map c.args.lines.now allowance_of)) short refl;
+      walked_short (problem_of c.args.input.now.problem.now) (round_of c.args.input.now.round.now) s (count_at c.args.input.now.wanted.now) (map allowance_of c.args.lines.now) c.falls_short.result c.requires.input.wanted_is h.1.proves (c.falls_short.ensures.value (round_of c.args.input.now.round.now).format (problem_of c.args.input.now.problem.now) s h.0) c.args.found.now (record { line = c.args.found.now.line + (1 + length c.args.lines.now); list = c.args.found.now.list }) (omega (arith, length-map c.args.lines.now allowance_of)) c.if-falls_short.true refl;
 }
 
 pub returns-then-not-is_empty : goal.returns-then-not-is_empty
@@ -43,10 +37,8 @@ returns-then-not-is_empty c = record {
   walked = λ s h.
       let p = problem_of c.args.input.now.problem.now in
       let r = round_of c.args.input.now.round.now in
-      let f = count_at c.args.input.now.wanted.now in
       let lines = map allowance_of c.args.lines.now in
-      let short : falls_short p s (wanted r.target) 1 0 lines ≡ false =
-      sym (short_of p r s f lines c.requires.input.wanted_is) ∙ (sym (c.falls_short.ensures.value r.format p s h.0 (bounds_of p r s f lines c.requires.input.wanted_is h.1.proves)) ∙ c.if-falls_short.false) in
+      let short : falls_short p s (wanted r.target) 1 0 lines ≡ false = short_as p r s (count_at c.args.input.now.wanted.now) lines c.falls_short.result c.requires.input.wanted_is h.1.proves (c.falls_short.ensures.value r.format p s h.0) false c.if-falls_short.false in
       let some : 1 ≤ length c.args.position.now.rest.items = grind (arith, nat_tests) in
       ((bound_end p r s lines short, some_left p s c.args.position.now h.0 some), refl);
 }
@@ -64,10 +56,8 @@ returns-in_default-seated c = record {
   walked = λ s h.
       let p = problem_of c.args.input.now.problem.now in
       let r = round_of c.args.input.now.round.now in
-      let f = count_at c.args.input.now.wanted.now in
       let lines = map allowance_of c.args.lines.now in
-      let short : falls_short p s (wanted r.target) 1 0 lines ≡ false =
-      sym (short_of p r s f lines c.requires.input.wanted_is) ∙ (sym (c.falls_short.ensures.value r.format p s h.0 (bounds_of p r s f lines c.requires.input.wanted_is h.1.proves)) ∙ c.if-falls_short.false) in
+      let short : falls_short p s (wanted r.target) 1 0 lines ≡ false = short_as p r s (count_at c.args.input.now.wanted.now) lines c.falls_short.result c.requires.input.wanted_is h.1.proves (c.falls_short.ensures.value r.format p s h.0) false c.if-falls_short.false in
       let none : length c.args.position.now.rest.items ≡ 0 = grind (arith, nat_tests) in
       let off : (ks : List ℕ) → SuitAll p c.deref.result.now ks → sum_by (λ k. k) ks ≡ p.seats_left → ⊥ = none_given _ c.in-Ok.seated c.in_default-seated.not-Some c.in-Ok.ensures.lawful in
       ((bound_end p r s lines short, (none_left p r s c.args.position.now h.1.state h.0 none, subst (λ (z : List (List ℕ)). (ks : List ℕ) → SuitAll p z ks → sum_by (λ k. k) ks ≡ p.seats_left → ⊥) (c.deref.ensures.value ∙ h.0.closed) off)), refl);
@@ -77,12 +67,6 @@ pub returns : goal.returns
 returns c = record {
   walked = λ s h.
       let p = problem_of c.args.input.now.problem.now in
-      let r = round_of c.args.input.now.round.now in
-      let f = count_at c.args.input.now.wanted.now in
-      let lines = map allowance_of c.args.lines.now in
-      let short : falls_short p s (wanted r.target) 1 0 lines ≡ false =
-      sym (short_of p r s f lines c.requires.input.wanted_is) ∙ (sym (c.falls_short.ensures.value r.format p s h.0 (bounds_of p r s f lines c.requires.input.wanted_is h.1.proves)) ∙ c.if-falls_short.false) in
-      let none : length c.args.position.now.rest.items ≡ 0 = grind (arith, nat_tests) in
       let g = c.in-Some.grouping in
       let lawful : Lawful p g.groups.items = rw c.in-Some.is at c.in-Ok.ensures.lawful in
       let filled : CanSeat p c.deref.result.now = rw c.in-Some.is at c.in-Ok.ensures.filled in
@@ -90,6 +74,6 @@ returns c = record {
       let order : IsInOrder g.groups.items = rw c.in-Some.is at c.in-Ok.ensures.in_order in
       let own : c.deref.result.now ≡ s.closed = c.deref.ensures.value ∙ h.0.closed in
       let seats : CanSeat p s.closed = subst (CanSeat p) own filled in
-      walked_end p r s lines c.args.found.now (record { line = c.args.found.now.line + (1 + length c.args.lines.now); list = c.push.new.self }) (omega (arith, length-map c.args.lines.now allowance_of)) short
-      (record { none_left = none_left p r s c.args.position.now h.1.state h.0 none; seats_of_closed = seats.0; suit = seats.1; add_up = seats.2 }) g c.in-Ok-push.ensures.items lawful (subst (SameSets (sets_of g.groups.items)) own same) order;
+      walked_end p (round_of c.args.input.now.round.now) s (count_at c.args.input.now.wanted.now) (map allowance_of c.args.lines.now) c.falls_short.result c.requires.input.wanted_is h.1.proves (c.falls_short.ensures.value (round_of c.args.input.now.round.now).format p s h.0) c.args.found.now (record { line = c.args.found.now.line + (1 + length c.args.lines.now); list = c.push.new.self }) (omega (arith, length-map c.args.lines.now allowance_of)) c.if-falls_short.false
+      (record { none_left = none_left p (round_of c.args.input.now.round.now) s c.args.position.now h.1.state h.0 (grind (arith, nat_tests)); seats_of_closed = seats.0; suit = seats.1; add_up = seats.2 }) g c.in-Ok-push.ensures.items lawful (subst (SameSets (sets_of g.groups.items)) own same) order;
 }

@@ -8,4 +8,4 @@ returns c =
     let one = first_number c.args.out.now.items _ _ c.in_ok-push_words_number.ensures in
     let two = after_number _ _ one c.in_ok-push_words_number-2.ensures in
     let three = after_number _ _ two c.in_ok-push_words_number-3.ensures in
-    last c.extend_from_slice.result _ _ three (extended _ _ _ _ c.extend_from_slice.ensures.items)
+    rw (← c.as_slice-counties.ensures, ← c.as_slice-alternatives.ensures) (last c.extend_from_slice.result _ _ three (extended _ _ _ _ c.extend_from_slice.ensures.items))

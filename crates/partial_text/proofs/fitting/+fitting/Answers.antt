@@ -15,7 +15,7 @@ use Rattle.partial_trees.specs.declared.tree.PartialTake.{PartialTake, out-Parti
 use Rattle.partial_trees.specs.PartialValue.{rest_of, partial_of, list_of_begun}
 use Rattle.partial_text.specs.PartItems.{items_of_part, items_of_begun}
 use Rattle.partial_text.specs.Reading.{part_branch_items, part_take_items, tree_in, takes_in}
-use Rattle.partial_text.proofs.PartLists.{takes_items, part_items}
+use Rattle.partial_text.proofs.PartLists.{takes_items, part_listed}
 use Rattle.partial_text.proofs.PartFits.{take_fitting, take_unfit, take_refused, branch_fitting, branch_unfit, branch_refused}
 use Rattle.partial_text.proofs.fitting.+fitting.Goals as goal
 
@@ -57,33 +57,28 @@ takes_fit-returns t c =
 
 pub part_fits-returns-then-not-branch_fits : goal.part_fits-returns-then-not-branch_fits
 part_fits-returns-then-not-branch_fits t c =
-    let b = c.branch-item.result in
-    let w = want.Part c.args.format c.args.levels ∷ [] in
-    let v = want.Part c.args.format c.branching.levels ∷ [] in
+    let part = c.args.part.now in
     let list = c.deref-branch-items.result.now in
-    let rest = items_of_part (rest_of (out-PartialTree c.args.part.now).rest) in
-    let whole : flat_map part_branch_items list ++ rest ≡ items_of_part (partial_of c.args.part.now) =
-    ap (λ (l : List PartialBranch). flat_map part_branch_items l ++ rest) c.deref-branch-items.ensures.value ∙ sym (part_items c.args.part.now) in
-    refused_as w _ _ whole
-    (list_stops part_branch_items list w v v c.branching.branch-index b rest c.branch-item.is c.branching-test.true c.branching.invariant.fitting
-    (branch_unfit c.args.format c.branching.levels (out-PartialBranch b).county (out-PartialBranch b).limit (items_of_begun (takes_in b) ++ item.Mark ∷ [])
+    let b = out-PartialBranch c.branch-item.result in
+    let v = want.Part c.args.format c.branching.levels ∷ [] in
+    refused_as (want.Part c.args.format c.args.levels ∷ []) _ _ (part_listed part list c.deref-branch-items.ensures.value)
+    (list_stops part_branch_items list (want.Part c.args.format c.args.levels ∷ []) v v c.branching.branch-index c.branch-item.result (items_of_part (rest_of (out-PartialTree part).rest)) c.branch-item.is c.branching-test.true c.branching.invariant.fitting
+    (branch_unfit c.args.format c.branching.levels b.county b.limit (items_of_begun (takes_in c.branch-item.result) ++ item.Mark ∷ [])
     (λ s.
     let yes = c.branch_fits.ensures.1 s in
     cc (yes, c.if-not-branch_fits.true))))
 
 pub part_fits-returns-then-not-takes_fit : goal.part_fits-returns-then-not-takes_fit
 part_fits-returns-then-not-takes_fit t c =
-    let b = c.branch-item.result in
-    let w = want.Part c.args.format c.args.levels ∷ [] in
-    let v = want.Part c.args.format c.branching.levels ∷ [] in
+    let part = c.args.part.now in
     let list = c.deref-branch-items.result.now in
-    let rest = items_of_part (rest_of (out-PartialTree c.args.part.now).rest) in
-    let whole : flat_map part_branch_items list ++ rest ≡ items_of_part (partial_of c.args.part.now) =
-    ap (λ (l : List PartialBranch). flat_map part_branch_items l ++ rest) c.deref-branch-items.ensures.value ∙ sym (part_items c.args.part.now) in
-    refused_as w _ _ whole
-    (list_stops part_branch_items list w v v c.branching.branch-index b rest c.branch-item.is c.branching-test.true c.branching.invariant.fitting
-    (branch_refused c.args.format c.branching.levels (out-PartialBranch b).county (out-PartialBranch b).limit (items_of_begun (takes_in b) ++ item.Mark ∷ []) (c.branch_fits.ensures.0 c.if-not-branch_fits.false)
-    (subst (λ (ts : List PartialTake). DontFit (want.PartTakes c.args.format c.branching.levels ∷ []) (items_of_begun (list_of_begun ts) ++ item.Mark ∷ [])) c.deref.ensures.value (untested (want.PartTakes c.args.format c.branching.levels ∷ []) (want.Part c.args.format (after_raise c.args.format c.branching.levels) ∷ []) (items_of_begun (list_of_begun c.deref.result.now) ++ item.Mark ∷ []) c.takes_fit.result c.if-not-takes_fit.true c.takes_fit.ensures))))
+    let b = out-PartialBranch c.branch-item.result in
+    let v = want.Part c.args.format c.branching.levels ∷ [] in
+    let refused = untested (want.PartTakes c.args.format c.branching.levels ∷ []) (want.Part c.args.format (after_raise c.args.format c.branching.levels) ∷ []) (items_of_begun (list_of_begun c.deref.result.now) ++ item.Mark ∷ []) c.takes_fit.result c.if-not-takes_fit.true c.takes_fit.ensures in
+    refused_as (want.Part c.args.format c.args.levels ∷ []) _ _ (part_listed part list c.deref-branch-items.ensures.value)
+    (list_stops part_branch_items list (want.Part c.args.format c.args.levels ∷ []) v v c.branching.branch-index c.branch-item.result (items_of_part (rest_of (out-PartialTree part).rest)) c.branch-item.is c.branching-test.true c.branching.invariant.fitting
+    (branch_refused c.args.format c.branching.levels b.county b.limit (items_of_begun (takes_in c.branch-item.result) ++ item.Mark ∷ []) (c.branch_fits.ensures.0 c.if-not-branch_fits.false)
+    (subst (λ (ts : List PartialTake). DontFit (want.PartTakes c.args.format c.branching.levels ∷ []) (items_of_begun (list_of_begun ts) ++ item.Mark ∷ [])) c.deref.ensures.value refused)))
 
 pub part_fits-branching-preserved : goal.part_fits-branching-preserved
 part_fits-branching-preserved t c =
@@ -104,11 +99,9 @@ part_fits-branching-preserved t c =
 pub part_fits-returns : goal.part_fits-returns
 part_fits-returns t c =
     let w = want.Part c.args.format c.args.levels ∷ [] in
-    let v = want.Part c.args.format c.branching.levels ∷ [] in
-    let list = c.deref-branch-items.result.now in
-    let rest = items_of_part (rest_of (out-PartialTree c.args.part.now).rest) in
-    let all : take c.branching.branch-index list ≡ list = take_all c.branching.branch-index list (omega arith) in
-    let whole : flat_map part_branch_items (take c.branching.branch-index list) ++ rest ≡ items_of_part (partial_of c.args.part.now) =
-    ap (λ (l : List PartialBranch). flat_map part_branch_items l ++ rest) (all ∙ c.deref-branch-items.ensures.value) ∙ sym (part_items c.args.part.now) in
-    tests_as w [] (flat_map part_branch_items (take c.branching.branch-index list) ++ rest) (items_of_part (partial_of c.args.part.now)) c.rest_fits.result whole
-    (tests_after w v [] (flat_map part_branch_items (take c.branching.branch-index list)) rest c.rest_fits.result c.branching.invariant.fitting c.rest_fits.ensures)
+    let part = c.args.part.now in
+    let list = take c.branching.branch-index c.deref-branch-items.result.now in
+    let rest = items_of_part (rest_of (out-PartialTree part).rest) in
+    let whole = part_listed part list (take_all c.branching.branch-index c.deref-branch-items.result.now (omega arith) ∙ c.deref-branch-items.ensures.value) in
+    tests_as w [] (flat_map part_branch_items list ++ rest) (items_of_part (partial_of part)) c.rest_fits.result whole
+    (tests_after w (want.Part c.args.format c.branching.levels ∷ []) [] (flat_map part_branch_items list) rest c.rest_fits.result c.branching.invariant.fitting c.rest_fits.ensures)

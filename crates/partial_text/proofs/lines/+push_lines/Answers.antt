@@ -9,7 +9,7 @@ use Rattle.partial_trees.specs.declared.tree.PartialTake.{PartialTake}
 use Rattle.partial_trees.specs.PartialValue.{rest_of, partial_of}
 use Rattle.partial_text.specs.PartItems.{items_of_part}
 use Rattle.partial_text.specs.Reading.{part_branch_items, part_take_items}
-use Rattle.partial_text.proofs.PartLists.{takes_items, part_items}
+use Rattle.partial_text.proofs.PartLists.{branch_listed, part_listed}
 use Rattle.partial_text.proofs.AddsLaws.{adds_after, adds_as, adds_lines, list_adds}
 use Rattle.partial_text.proofs.lines.+push_lines.Goals as goal
 
@@ -20,15 +20,12 @@ push_branch-taking-preserved t c =
 
 pub push_branch-returns : goal.push_branch-returns
 push_branch-returns t c =
-    let b = out-PartialBranch c.args.branch.now in
-    let list = c.deref-take-items.result.now in
-    let first = item.Opens (opening.Branch b.county b.limit) in
-    let written = take c.taking.take-index list in
-    let all : written ≡ b.takes.items = take_all c.taking.take-index list (omega arith) ∙ c.deref-take-items.ensures.value in
-    let whole : (first ∷ flat_map part_take_items written) ++ item.Mark ∷ [] ≡ part_branch_items c.args.branch.now =
-    ap (λ (l : List Item). first ∷ (l ++ item.Mark ∷ [])) (ap (λ (l : List PartialTake). flat_map part_take_items l) all ∙ sym (takes_items b.takes.items)) in
-    adds_as ((first ∷ flat_map part_take_items written) ++ item.Mark ∷ []) (part_branch_items c.args.branch.now) c.args.out.now.items c.push_mark_line.new.out.items c.push_mark_line.result whole
-    (adds_after (first ∷ flat_map part_take_items written) (item.Mark ∷ []) c.args.out.now.items c.taking.out.items c.push_mark_line.new.out.items c.push_mark_line.result c.taking.invariant
+    let b = c.args.branch.now in
+    let written = take c.taking.take-index c.deref-take-items.result.now in
+    let items = item.Opens (opening.Branch (out-PartialBranch b).county (out-PartialBranch b).limit) ∷ flat_map part_take_items written in
+    let whole = branch_listed b written (take_all c.taking.take-index c.deref-take-items.result.now (omega arith) ∙ c.deref-take-items.ensures.value) in
+    adds_as (items ++ item.Mark ∷ []) (part_branch_items b) c.args.out.now.items c.push_mark_line.new.out.items c.push_mark_line.result whole
+    (adds_after items (item.Mark ∷ []) c.args.out.now.items c.taking.out.items c.push_mark_line.new.out.items c.push_mark_line.result c.taking.invariant
     (adds_lines (item.Mark ∷ []) c.taking.out.items c.push_mark_line.new.out.items c.push_mark_line.result c.push_mark_line.ensures))
 
 pub push_part-branching-preserved : goal.push_part-branching-preserved
@@ -38,11 +35,8 @@ push_part-branching-preserved t c =
 pub push_part-returns : goal.push_part-returns
 push_part-returns t c =
     let part = c.args.part.now in
-    let list = c.deref-branch-items.result.now in
+    let written = take c.branching.branch-index c.deref-branch-items.result.now in
     let rest = items_of_part (rest_of (out-PartialTree part).rest) in
-    let written = take c.branching.branch-index list in
-    let all : written ≡ (out-PartialTree part).branches.items = take_all c.branching.branch-index list (omega arith) ∙ c.deref-branch-items.ensures.value in
-    let whole : flat_map part_branch_items written ++ rest ≡ items_of_part (partial_of part) =
-    ap (λ (l : List PartialBranch). flat_map part_branch_items l ++ rest) all ∙ sym (part_items part) in
+    let whole = part_listed part written (take_all c.branching.branch-index c.deref-branch-items.result.now (omega arith) ∙ c.deref-branch-items.ensures.value) in
     adds_as (flat_map part_branch_items written ++ rest) (items_of_part (partial_of part)) c.args.out.now.items c.push_rest.new.out.items c.push_rest.result whole
     (adds_after (flat_map part_branch_items written) rest c.args.out.now.items c.branching.out.items c.push_rest.new.out.items c.push_rest.result c.branching.invariant c.push_rest.ensures)

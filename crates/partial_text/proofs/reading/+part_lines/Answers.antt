@@ -17,7 +17,7 @@ use Rattle.partial_trees.specs.OpenBranches.{BranchesAreOpen, BranchesOfTakesAre
 use Rattle.partial_text.specs.Reading.{part_branch_items}
 use Rattle.partial_text.proofs.PartLists.{begun_more}
 use Rattle.partial_text.specs.PartItems.{items_of_part, items_of_begun}
-use Rattle.partial_text.proofs.ReadSteps.{take_step, takes_end, branch_step, leaf_end, more_end, ended}
+use Rattle.partial_text.proofs.ReadSteps.{take_step, takes_end, branch_step, leaf_ended, more_end, ended}
 use Rattle.certificate_data.specs.TreeValue.{leaf_of}
 use Rattle.certificate_data.specs.declared.tree.Leaf.TheVariants.{Bound}
 use Rattle.certificate_text.specs.Trees.{leaf_items}
@@ -26,14 +26,9 @@ use Rattle.partial_text.proofs.reading.+part_lines.Goals as goal
 pub part_at-returns-in_default-clause-read : goal.part_at-returns-in_default-clause-read
 part_at-returns-in_default-clause-read t c =
     let none : c.in_ok-opening.field-0 ≡ None = search rules in
-    let k = c.branching.levels in
-    let old = c.branching.cursor in
-    let new = c.part_opening.new.self in
-    let xs = flat_map part_branch_items (c.branching.branches.items ++ c.branching.later.items) in
-    let line_taken = subst (λ (r : Option Opening). TakesTextLine (by_words (line.part_on c.args.format k)) r old new) none c.in_ok-opening.ensures.read in
-    let a = want.Part c.args.format c.args.levels ∷ [] in
-    ended a (λ p. items_of_part (partial_of p)) (xs ++ item.Open ∷ []) [] c.args.cursor.now new c.with_open_leaf.result c.with_open_leaf.ensures.items c.with_open_leaf.ensures.refused
-    (leaf_end c.args.format a c.args.cursor.now k xs None old new (xs ++ item.Open ∷ []) c.branching.invariant.read line_taken refl refl)
+    let line_taken = subst (λ (r : Option Opening). TakesTextLine (by_words (line.part_on c.args.format c.branching.levels)) r c.branching.cursor c.part_opening.new.self) none c.in_ok-opening.ensures.read in
+    leaf_ended c.args.format (want.Part c.args.format c.args.levels ∷ []) c.args.cursor.now c.branching.levels (flat_map part_branch_items (c.branching.branches.items ++ c.branching.later.items)) None c.branching.cursor c.part_opening.new.self
+    c.with_open_leaf.result c.branching.invariant.read line_taken refl c.with_open_leaf.ensures.items c.with_open_leaf.ensures.refused
 
 pub part_at-branching-preserved : goal.part_at-branching-preserved
 part_at-branching-preserved t c =
@@ -58,26 +53,15 @@ part_at-branching-preserved t c =
 
 pub part_at-returns-in-Stuck-clause-read : goal.part_at-returns-in-Stuck-clause-read
 part_at-returns-in-Stuck-clause-read t c =
-    let k = c.branching.levels in
-    let old = c.branching.cursor in
-    let new = c.part_opening.new.self in
-    let xs = flat_map part_branch_items (c.branching.branches.items ++ c.branching.later.items) in
-    let first = opening.Stuck c.in-Stuck.county in
-    let line_taken = subst (λ (r : Option Opening). TakesTextLine (by_words (line.part_on c.args.format k)) r old new) (c.in-Some.is ∙ ap (λ (o : Opening). Some o) c.in-Stuck.is) c.in_ok-opening.ensures.read in
-    let a = want.Part c.args.format c.args.levels ∷ [] in
-    ended a (λ p. items_of_part (partial_of p)) (xs ++ item.Opens first ∷ []) [] c.args.cursor.now new c.with_leaf.result c.with_leaf.ensures.items c.with_leaf.ensures.refused
-    (leaf_end c.args.format a c.args.cursor.now k xs (Some first) old new (xs ++ item.Opens first ∷ []) c.branching.invariant.read line_taken refl refl)
+    let line_taken = subst (λ (r : Option Opening). TakesTextLine (by_words (line.part_on c.args.format c.branching.levels)) r c.branching.cursor c.part_opening.new.self) (c.in-Some.is ∙ ap (λ (o : Opening). Some o) c.in-Stuck.is) c.in_ok-opening.ensures.read in
+    leaf_ended c.args.format (want.Part c.args.format c.args.levels ∷ []) c.args.cursor.now c.branching.levels (flat_map part_branch_items (c.branching.branches.items ++ c.branching.later.items)) (Some (opening.Stuck c.in-Stuck.county)) c.branching.cursor
+    c.part_opening.new.self c.with_leaf.result c.branching.invariant.read line_taken refl c.with_leaf.ensures.items c.with_leaf.ensures.refused
 
 pub part_at-returns-in-Seats-clause-read : goal.part_at-returns-in-Seats-clause-read
 part_at-returns-in-Seats-clause-read t c =
-    let k = c.branching.levels in
-    let old = c.branching.cursor in
-    let new = c.part_opening.new.self in
-    let xs = flat_map part_branch_items (c.branching.branches.items ++ c.branching.later.items) in
-    let line_taken = subst (λ (r : Option Opening). TakesTextLine (by_words (line.part_on c.args.format k)) r old new) (c.in-Some.is ∙ ap (λ (o : Opening). Some o) c.in-Seats.is) c.in_ok-opening.ensures.read in
-    let a = want.Part c.args.format c.args.levels ∷ [] in
-    ended a (λ p. items_of_part (partial_of p)) (xs ++ item.Opens opening.Seats ∷ []) [] c.args.cursor.now new c.with_leaf-in-Seats.result c.with_leaf-in-Seats.ensures.items c.with_leaf-in-Seats.ensures.refused
-    (leaf_end c.args.format a c.args.cursor.now k xs (Some opening.Seats) old new (xs ++ item.Opens opening.Seats ∷ []) c.branching.invariant.read line_taken refl refl)
+    let line_taken = subst (λ (r : Option Opening). TakesTextLine (by_words (line.part_on c.args.format c.branching.levels)) r c.branching.cursor c.part_opening.new.self) (c.in-Some.is ∙ ap (λ (o : Opening). Some o) c.in-Seats.is) c.in_ok-opening.ensures.read in
+    leaf_ended c.args.format (want.Part c.args.format c.args.levels ∷ []) c.args.cursor.now c.branching.levels (flat_map part_branch_items (c.branching.branches.items ++ c.branching.later.items)) (Some opening.Seats) c.branching.cursor c.part_opening.new.self
+    c.with_leaf-in-Seats.result c.branching.invariant.read line_taken refl c.with_leaf-in-Seats.ensures.items c.with_leaf-in-Seats.ensures.refused
 
 pub part_at-returns-in-Bound-clause-read : goal.part_at-returns-in-Bound-clause-read
 part_at-returns-in-Bound-clause-read t c =

@@ -25,29 +25,28 @@ front_spelled format counties t old new opened read = record {
   text_is = refl;
 }
 
--- the place of what is left
+-- the place of what is left, and what is in front of it
 place_is : (text front rest : List ℕ) → text ≡ front ++ rest → length text - length rest ≡ length front
 place_is text front rest whole = omega (arith, ap length whole, length-append front rest)
 
+front_taken : (text front rest : List ℕ) → text ≡ front ++ rest → take (length text - length rest) text ≡ front
+front_taken text front rest whole = ap (λ (n : ℕ). take n text) (place_is text front rest whole) ∙ ap (λ (l : List ℕ). take (length front) l) whole ∙ take-append_seam front rest
+
 pub returns-clause-found : goal.returns-clause-found
 returns-clause-found c =
-    let read = c.in_ok-part.ensures.read in
     let part = partial_of c.in_ok-part.part in
-    let front = text_of_items (items_of_part part) in
-    let whole : c.args.text.now ≡ front ++ c.rest.result.now =
-    ap (λ (r : Rest). r.text) (sym c.new-cursor.ensures) ∙ read.text ∙ ap (λ (l : List ℕ). front ++ l) (sym c.rest.ensures) in
-    let taken : take (length c.args.text.now - length c.rest.result.now) c.args.text.now ≡ front =
-    ap (λ (n : ℕ). take n c.args.text.now) (place_is c.args.text.now front c.rest.result.now whole) ∙ ap (λ (l : List ℕ). take (length front) l) whole ∙ take-append_seam front c.rest.result.now in
-    subst (λ (l : List ℕ). IsPartSpelling c.args.format c.args.counties l part) (sym taken) (front_spelled c.args.format c.args.counties part _ _ c.in_ok-part.ensures.opened read)
+    let whole : c.args.text.now ≡ text_of_items (items_of_part part) ++ c.rest.result.now =
+    ap (λ (r : Rest). r.text) (sym c.new-cursor.ensures) ∙ c.in_ok-part.ensures.read.text ∙ ap (λ (l : List ℕ). text_of_items (items_of_part part) ++ l) (sym c.rest.ensures) in
+    subst (λ (l : List ℕ). IsPartSpelling c.args.format c.args.counties l part) (sym (front_taken c.args.text.now (text_of_items (items_of_part part)) c.rest.result.now whole))
+    (front_spelled c.args.format c.args.counties part _ _ c.in_ok-part.ensures.opened c.in_ok-part.ensures.read)
 
 pub returns-clause-only : goal.returns-clause-only
 returns-clause-only c front rest t begins is =
-    let read = c.in_ok-part.ensures.read in
     let part = partial_of c.in_ok-part.part in
     let own = text_of_items (items_of_part part) in
     let whole : c.args.text.now ≡ own ++ c.rest.result.now =
-    ap (λ (r : Rest). r.text) (sym c.new-cursor.ensures) ∙ read.text ∙ ap (λ (l : List ℕ). own ++ l) (sym c.rest.ensures) in
-    let spelled = front_spelled c.args.format c.args.counties part _ _ c.in_ok-part.ensures.opened read in
+    ap (λ (r : Rest). r.text) (sym c.new-cursor.ensures) ∙ c.in_ok-part.ensures.read.text ∙ ap (λ (l : List ℕ). own ++ l) (sym c.rest.ensures) in
+    let spelled = front_spelled c.args.format c.args.counties part _ _ c.in_ok-part.ensures.opened c.in_ok-part.ensures.read in
     let same : own ≡ front = one_front c.args.format c.args.counties own c.rest.result.now front rest part t (sym whole ∙ begins) spelled is in
     let part_is : part ≡ t = one_part c.args.format c.args.counties front part t (subst (λ (l : List ℕ). IsPartSpelling c.args.format c.args.counties l part) same spelled) is in
     let place : length c.args.text.now - length c.rest.result.now ≡ length front = place_is c.args.text.now own c.rest.result.now whole ∙ ap length same in

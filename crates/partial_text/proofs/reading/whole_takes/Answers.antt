@@ -9,7 +9,7 @@ use Rattle.certificate_text.specs.Trees.{items_of_takes}
 use Rattle.certificate_text.proofs.TreeViews.{items_of_take, takes_more, made_take}
 use Rattle.partial_trees.specs.declared.tree.PartialTake.{PartialTake, out-PartialTake}
 use Rattle.partial_text.specs.Reading.{IsWholeTake, part_take_items}
-use Rattle.partial_text.proofs.PartLists.{all_at, whole_items, no_rest, takes_items, nothing_left}
+use Rattle.partial_text.proofs.PartLists.{all_at, read_on, all_read, whole_items, no_rest, takes_items}
 use Rattle.partial_text.proofs.reading.whole_takes.Goals as goal
 
 pub loop-take-preserved-in-Some-rest : goal.loop-take-preserved-in-Some-rest
@@ -17,8 +17,8 @@ loop-take-preserved-in-Some-rest c =
     let at = c.loop-take in
     let x = c.in-Some.take in
     let steps : into_iter_items at.take-iterator ≡ x ∷ into_iter_items c.next.new.self = c.in-Some.ensures.steps.0 in
-    let all : at.yielded ++ x ∷ into_iter_items c.next.new.self ≡ c.args.takes.items = ap (λ (l : List PartialTake). at.yielded ++ l) (sym steps) ∙ at.invariant.all in
-    let whole : IsWholeTake x = all_at IsWholeTake c.args.takes.items at.yielded x (into_iter_items c.next.new.self) all c.requires in
+    let all = read_on at.yielded (into_iter_items at.take-iterator) x (into_iter_items c.next.new.self) c.args.takes.items steps at.invariant.all in
+    let whole = all_at IsWholeTake c.args.takes.items at.yielded x (into_iter_items c.next.new.self) all c.requires in
     let tree = c.in-Some-rest.tree in
     let gone = c.in-Some.ensures.steps.1 in
     let last = roll-Take (record { codes = (out-PartialTake x).codes; tree = tree }) in
@@ -37,15 +37,12 @@ pub loop-take-preserved : goal.loop-take-preserved
 loop-take-preserved c =
     let at = c.loop-take in
     let x = c.in-Some.take in
-    let steps : into_iter_items at.take-iterator ≡ x ∷ into_iter_items c.next.new.self = c.in-Some.ensures.steps.0 in
-    let all : at.yielded ++ x ∷ into_iter_items c.next.new.self ≡ c.args.takes.items = ap (λ (l : List PartialTake). at.yielded ++ l) (sym steps) ∙ at.invariant.all in
-    let whole : IsWholeTake x = all_at IsWholeTake c.args.takes.items at.yielded x (into_iter_items c.next.new.self) all c.requires in
+    let all = read_on at.yielded (into_iter_items at.take-iterator) x (into_iter_items c.next.new.self) c.args.takes.items c.in-Some.ensures.steps.0 at.invariant.all in
+    let whole = all_at IsWholeTake c.args.takes.items at.yielded x (into_iter_items c.next.new.self) all c.requires in
     absurd (no_rest x whole c.in_default.is)
 
 pub returns-clause-items : goal.returns-clause-items
 returns-clause-items c =
     let at = c.loop-take in
-    let none = c.in-None.ensures.steps in
-    let empty : into_iter_items at.take-iterator ≡ [] = nothing_left _ (sym at.invariant.long ∙ none.0) in
-    let all : at.yielded ≡ c.args.takes.items = sym (append-nil at.yielded) ∙ ap (λ (l : List PartialTake). at.yielded ++ l) (sym empty) ∙ at.invariant.all in
+    let all = all_read at.yielded (into_iter_items at.take-iterator) c.args.takes.items (sym at.invariant.long ∙ c.in-None.ensures.steps.0) at.invariant.all in
     at.invariant.items ∙ ap (flat_map part_take_items) all ∙ sym (takes_items c.args.takes.items)

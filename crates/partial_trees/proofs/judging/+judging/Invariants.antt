@@ -24,7 +24,7 @@ invariant-judge_part-branching g l = record {
   placed : IsPlaced (graph_places l.input.check.graph.now) g.C.CountySet.test l.state;
   known : IsKnownAt g.C.CountySet.test l.input.check (state_at (graph_order l.input.check.graph.now) g.C.CountySet.test l.state) l.known;
   lists : AreListsOf g.C.CountySet.test (place_problem l.input.check.graph.now) (graph_places l.input.check.graph.now) l.lists;
-  left : PartLeft g.C.CountySet.test (graph_problem l.input.check.graph.now) (round_of l.input.check.round.now) (state_at (graph_order l.input.check.graph.now) g.C.CountySet.test l.fn.state) (list_onto l.branch-items (rest_of (out-PartialTree l.part).rest)) l.fn.states.items
+  left : PartLeft g.C.CountySet.test (graph_problem l.input.check.graph.now) (round_of l.input.check.round.now) (state_at (graph_order l.input.check.graph.now) g.C.CountySet.test l.fn.state) (partial_of l.part) l.fn.states.items
       (state_at (graph_order l.input.check.graph.now) g.C.CountySet.test l.state) (list_onto (drop l.branch-index l.branch-items) (rest_of (out-PartialTree l.part).rest)) l.states.items;
 }
 

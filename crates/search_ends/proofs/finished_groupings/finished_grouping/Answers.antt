@@ -14,9 +14,9 @@ use Rattle.search_ends.proofs.finished_groupings.finished_grouping.Goals as goal
 pub seats_for-requires : goal.seats_for-requires
 seats_for-requires g c =
     let test = g.C.CountySet.test in
-    let order = c.args.graph.now.ordered.now.order in
-    let p = problem_of c.args.graph.now.ordered.now.problem in
-    let r = round_of c.args._round.now in
+    let order = c.args.input.now.graph.now.ordered.now.order in
+    let p = problem_of c.args.input.now.graph.now.ordered.now.problem in
+    let r = round_of c.args.input.now.round.now in
     let s = state_at order test c.args.state.now in
     let codes = codes_of_sets order test c.in_ok-sets.sets.items in
     let held = sym c.deref.ensures.value in
@@ -30,16 +30,16 @@ seats_for-requires g c =
 pub seated_groups-requires-clause-each : goal.seated_groups-requires-clause-each
 seated_groups-requires-clause-each g c =
     let test = g.C.CountySet.test in
-    let order = c.args.graph.now.ordered.now.order in
-    let many = as_many (problem_of c.args.graph.now.ordered.now.problem) (codes_of_sets order test c.deref.result.now) c.in_ok-seats.seats.items c.in_ok-seats.ensures.suit in
+    let order = c.args.input.now.graph.now.ordered.now.order in
+    let many = as_many (problem_of c.args.input.now.graph.now.ordered.now.problem) (codes_of_sets order test c.deref.result.now) c.in_ok-seats.seats.items c.in_ok-seats.ensures.suit in
     ap length c.deref-3.ensures.value ∙ (many ∙ (length-map c.deref.result.now (codes_of_set order test) ∙ ap length (c.deref.ensures.value ∙ sym c.deref-2.ensures.value)))
 
 pub returns : goal.returns
 returns g c =
     let test = g.C.CountySet.test in
-    let order = c.args.graph.now.ordered.now.order in
-    let p = problem_of c.args.graph.now.ordered.now.problem in
-    let r = round_of c.args._round.now in
+    let order = c.args.input.now.graph.now.ordered.now.order in
+    let p = problem_of c.args.input.now.graph.now.ordered.now.problem in
+    let r = round_of c.args.input.now.round.now in
     let s = state_at order test c.args.state.now in
     let whole = c.requires.graph.order in
     let sets = c.in_ok-sets.sets.items in

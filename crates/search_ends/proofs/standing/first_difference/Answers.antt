@@ -1,7 +1,7 @@
 use Rattle.std.proofs.Common.{◌≡◌, ◌+◌, sym, ◌∙◌, subst, arith, ⊎_elim}
 use Rattle.std.proofs.lemmas.Bool.{cases_lt}
 use Rattle.grouping_laws.specs.Grouping.{counts, sets_of}
-use Rattle.state_groups.specs.PlacedValues.{state_at}
+use Rattle.search_groups.specs.Positions.{search_state}
 use Rattle.search_ends.proofs.standing.first_difference.Goals as goal
 
 pub returns-then-closed-groups_of_size : goal.returns-then-closed-groups_of_size
@@ -14,7 +14,7 @@ returns-then-closed-groups_of_size g c = record {
 
 pub loop-below-preserved : goal.loop-below-preserved
 loop-below-preserved g c i from to =
-    let s = state_at c.args.ordered.now.order g.C.CountySet.test c.args.state.now in
+    let s = search_state c.args.input.now g.C.CountySet.test c.args.state.now in
     let here = sym c.closed_of_size-closed.ensures.value ∙ c.if-closed-groups_of_size.false ∙ c.groups_of_size.ensures in
     ⊎_elim (λ l. c.loop-below.invariant i from (omega (arith, l)))
     (λ l.

@@ -11,59 +11,24 @@ use Rattle.share_board.proofs.opening.+opening.Goals as goal
 
 pub open_branch-returns-in-Err-clause-stopped : goal.open_branch-returns-in-Err-clause-stopped
 open_branch-returns-in-Err-clause-stopped g t c =
-    let test = g.C.CountySet.test in
-    let input = c.args.input.now in
-    let order = input.graph.now.ordered.now.order in
-    let p = board_problem input in
-    let round = board_round input in
-    let s = board_state input test c.args.state in
-    let first = length c.args.states.now.items in
-    let branching = c.args.branching.now in
     let is = c.requires.branching in
-    takes_halted p round c.requires.plain input.share c.args.depth s (code_at order branching.place) (codes_of_sets order test branching.groups.items) first c.requires.some is.can is.groups c.in-Err.stop
-    (subst (λ z. AreHalted p round input.share (c.args.depth - 1) s (codes_of_sets order test z) first c.in-Err.stop) c.deref.ensures.value c.in-Err.ensures.stopped)
+    takes_halted c.requires.plain c.args.input.now.share c.args.depth (length c.args.states.now.items) c.requires.some is.can is.groups c.in-Err.stop (rw c.deref.ensures.value at c.in-Err.ensures.stopped)
 
 pub open_branch-returns-in-Err-open_tree-clause-stopped : goal.open_branch-returns-in-Err-open_tree-clause-stopped
 open_branch-returns-in-Err-open_tree-clause-stopped g t c =
-    let test = g.C.CountySet.test in
-    let input = c.args.input.now in
-    let order = input.graph.now.ordered.now.order in
-    let p = board_problem input in
-    let round = board_round input in
-    let s = board_state input test c.args.state in
-    let first = length c.args.states.now.items in
-    let middle = c.open_takes.new.states.items in
-    let branching = c.args.branching.now in
     let is = c.requires.branching in
-    let stop = c.in-Err-open_tree.stop in
-    let takes = list_of_begun c.in-Ok.takes.items in
-    let opened = subst (λ z. AreOpened test p round (c.args.depth - 1) s (codes_of_sets order test z) takes first (length middle) middle) c.deref.ensures.value c.in-Ok.ensures.opened in
-    let halted = subst (λ z. IsHalted p round input.share (c.args.depth - 1) z (length middle) stop) c.raise_place.ensures.value c.in-Err-open_tree.ensures.stopped in
-    raised_halted p round c.requires.plain input.share c.args.depth s (code_at order branching.place) (codes_of_sets order test branching.groups.items) first c.requires.some is.can is.groups test takes (length middle) middle stop opened halted
+    raised_halted c.requires.plain c.args.input.now.share c.args.depth (length c.args.states.now.items) c.requires.some is.can is.groups c.in-Err-open_tree.stop (rw c.deref.ensures.value at c.in-Ok.ensures.opened)
+    (rw c.raise_place.ensures.value at c.in-Err-open_tree.ensures.stopped)
 
 pub open_branch-returns-clause-opened : goal.open_branch-returns-clause-opened
 open_branch-returns-clause-opened g t c =
     let test = g.C.CountySet.test in
-    let input = c.args.input.now in
-    let order = input.graph.now.ordered.now.order in
-    let p = board_problem input in
-    let round = board_round input in
-    let depth = c.args.depth in
-    let s = board_state input test c.args.state in
-    let first = length c.args.states.now.items in
-    let middle = c.open_takes.new.states.items in
-    let last = c.open_tree.new.states.items in
-    let branching = c.args.branching.now in
-    let county = code_at order branching.place in
-    let groups = codes_of_sets order test branching.groups.items in
+    let p = board_problem c.args.input.now in
+    let round = board_round c.args.input.now in
     let is = c.requires.branching in
-    let takes = list_of_begun c.in-Ok.takes.items in
-    let raised = partial_of c.in-Ok-open_tree.tree in
-    let opened = subst (λ z. AreOpened test p round (depth - 1) s (codes_of_sets order test z) takes first (length middle) middle) c.deref.ensures.value c.in-Ok.ensures.opened in
-    let kept = are_opened_kept test p round (depth - 1) s groups takes first (length middle) middle last opened c.in-Ok-open_tree.ensures.kept in
-    let behind = subst (λ z. IsOpened test p round (depth - 1) z raised (length middle) (length last) last) c.raise_place.ensures.value c.in-Ok-open_tree.ensures.opened in
-    subst (λ z. IsOpened test p round depth s z first (length last) last) (sym c.in_ok-branched.ensures)
-    (branch_opened test p round depth s county groups takes raised first (length middle) (length last) last c.requires.some (plain_names round.format c.requires.plain) is.can is.groups kept behind)
+    let kept = are_opened_kept test p round c.open_tree.new.states.items (rw c.deref.ensures.value at c.in-Ok.ensures.opened) c.in-Ok-open_tree.ensures.kept in
+    let behind = rw c.raise_place.ensures.value at c.in-Ok-open_tree.ensures.opened in
+    rw c.in_ok-branched.ensures (branch_opened test p round c.requires.some (plain_names round.format c.requires.plain) is.can is.groups kept behind)
 
 pub open_branch-returns-clause-kept : goal.open_branch-returns-clause-kept
 open_branch-returns-clause-kept g t c = λ k u h. c.in-Ok-open_tree.ensures.kept k u (c.in-Ok.ensures.kept k u h)
@@ -76,60 +41,43 @@ open_takes-returns-in-Err-clause-stopped g t c =
     let test = g.C.CountySet.test in
     let input = c.args.input.now in
     let order = input.graph.now.ordered.now.order in
-    let p = board_problem input in
-    let round = board_round input in
-    let s = board_state input test c.args.state.now in
-    let first = length c.args.states.now.items in
-    let here = length c.taking.states.items in
     let groups = c.args.groups.now in
-    let i = c.taking.group-index in
-    let item = c.group-item.result in
-    let stop = c.in-Err.stop in
-    let all = codes_of_sets order test groups in
-    let halted = subst (λ z. IsHalted p round input.share c.args.depth z here stop) c.in_ok-closed.ensures.value c.in-Err.ensures.stopped in
-    let more = subst (λ z. MoreOn p round c.args.depth s first all z here) (left_sets order test groups i item c.group-item.is c.taking-test.true) c.taking.invariant.more in
-    take_halted p round c.requires.plain input.share c.args.depth s (codes_of_set order test item) (codes_of_sets order test (drop (i + 1) groups)) all first here stop halted more
+    let left = left_sets order test groups c.taking.group-index c.group-item.result c.group-item.is c.taking-test.true in
+    take_halted (board_problem input) (board_round input) c.requires.plain input.share c.args.depth (board_state input test c.args.state.now) (codes_of_set order test c.group-item.result) (codes_of_sets order test (drop (c.taking.group-index + 1) groups))
+    (codes_of_sets order test groups) (length c.args.states.now.items) (length c.taking.states.items) c.in-Err.stop (rw c.in_ok-closed.ensures.value at c.in-Err.ensures.stopped) (rw left at c.taking.invariant.more)
 
 pub open_takes-taking-preserved : goal.open_takes-taking-preserved
 open_takes-taking-preserved g t c =
     let test = g.C.CountySet.test in
     let input = c.args.input.now in
     let order = input.graph.now.ordered.now.order in
-    let p = board_problem input in
-    let round = board_round input in
-    let depth = c.args.depth in
     let s = board_state input test c.args.state.now in
     let first = length c.args.states.now.items in
     let states = c.taking.states.items in
     let later = c.open_tree.new.states.items in
     let groups = c.args.groups.now in
-    let i = c.taking.group-index in
-    let item = c.group-item.result in
-    let codes = codes_of_set order test item in
-    let all = codes_of_sets order test groups in
-    let rest = codes_of_sets order test (drop (i + 1) groups) in
+    let codes = codes_of_set order test c.group-item.result in
+    let rest = codes_of_sets order test (drop (c.taking.group-index + 1) groups) in
     let tree = partial_of c.in-Ok.tree in
-    let inv = c.taking.invariant in
-    let left = left_sets order test groups i item c.group-item.is c.taking-test.true in
-    let opened = subst (λ z. IsOpened test p round depth z tree (length states) (length later) later) c.in_ok-closed.ensures.value c.in-Ok.ensures.opened in
+    let left = left_sets order test groups c.taking.group-index c.group-item.result c.group-item.is c.taking-test.true in
+    let opened = rw c.in_ok-closed.ensures.value at c.in-Ok.ensures.opened in
     record {
-      kept = λ k u h. c.in-Ok.ensures.kept k u (inv.kept k u h);
+      kept = λ k u h. c.in-Ok.ensures.kept k u (c.taking.invariant.kept k u h);
       few = c.in-Ok.ensures.few;
       opened =
-          open_more test p round depth s first all codes rest c.taking.takes.items c.put_take.new.takes.items (roll-PartialTake (record { codes = codes; tree = c.in-Ok.tree })) tree states later (λ others. made_take codes c.in-Ok.tree others) c.in_ok-put_take.ensures opened c.in-Ok.ensures.kept
-          (subst (λ z. OpenOn test p round depth s first all z c.taking.takes.items states) left inv.opened);
-      more = more_more test p round depth s first all c.requires.plain codes rest tree states later opened (subst (λ z. MoreOn p round depth s first all z (length states)) left inv.more);
+          open_more test (board_problem input) (board_round input) c.args.depth s first (codes_of_sets order test groups) codes rest c.taking.takes.items c.put_take.new.takes.items (roll-PartialTake (record { codes = codes; tree = c.in-Ok.tree })) tree states later (λ others. made_take codes c.in-Ok.tree others) c.in_ok-put_take.ensures opened c.in-Ok.ensures.kept
+          (rw left at c.taking.invariant.opened);
+      more = more_more test (board_problem input) (board_round input) c.args.depth s first (codes_of_sets order test groups) c.requires.plain codes rest tree states later opened (rw left at c.taking.invariant.more);
     }
 
 pub open_takes-returns-clause-opened : goal.open_takes-returns-clause-opened
 open_takes-returns-clause-opened g t c =
     let test = g.C.CountySet.test in
     let input = c.args.input.now in
-    let order = input.graph.now.ordered.now.order in
     let groups = c.args.groups.now in
-    let i = c.taking.group-index in
-    open_end test (board_problem input) (board_round input) c.args.depth (board_state input test c.args.state.now) (length c.args.states.now.items) (codes_of_sets order test groups) c.taking.takes.items c.taking.states.items (codes_of_sets order test (drop i groups))
-    (no_sets_left order test groups i (omega (arith, c.taking-test.false))) c.taking.invariant.opened
+    let order = input.graph.now.ordered.now.order in
+    open_end test (board_problem input) (board_round input) c.args.depth (board_state input test c.args.state.now) (length c.args.states.now.items) (codes_of_sets order test groups) c.taking.takes.items c.taking.states.items (codes_of_sets order test (drop c.taking.group-index groups))
+    (no_sets_left order test groups c.taking.group-index (omega (arith, c.taking-test.false))) c.taking.invariant.opened
 
 pub open_tree-returns-in-Err-clause-stopped : goal.open_tree-returns-in-Err-clause-stopped
 open_tree-returns-in-Err-clause-stopped g t c =

@@ -18,4 +18,4 @@ returns-in-Err-clause-stopped g c =
     opening_halted p round c.args.budget share c.args.depth c.in-Err.stop c.share_of.ensures.greatest (subst (λ z. IsHalted p round share c.args.depth (empty_state p) z c.in-Err.stop) (ap length c.new-states.ensures.items) at_empty)
 
 pub returns-clause-wait : goal.returns-clause-wait
-returns-clause-wait g c = λ k low lt. c.in_ok-fates.ensures.wait k (omega (arith, lt, c.len.ensures))
+returns-clause-wait g c = λ k low lt. c.in_ok-fates.ensures.wait k (omega (arith, lt, c.len.ensures, c.in_ok-fates.ensures.count))

@@ -1,6 +1,6 @@
 use Rattle.std.proofs.Common.{◌≡◌, ◌∙◌, ◌∷◌, [], ◌++◌, List, ℕ, Option, Vec, Global, IfSome, ap, map, subst, sym}
 use Rattle.std.specs.Option.{IsSomeAnd}
-use Rattle.cli_record_text.specs.Sums.{SumValue, sum_of}
+use Rattle.cli_file_stores.specs.ByteSums.{SumValue, sum_of}
 use Rattle.cli_file_stores.specs.declared.sums.EventSum.{EventSum}
 use Rattle.cli_file_stores.specs.History.{is_taken}
 use Rattle.cli_file_stores.specs.History.FileStoreEvent.{Stored}

@@ -1,5 +1,0 @@
-pub mod Escapes
-pub mod Sums
-pub mod Running
-pub mod Answers
-pub mod Record

@@ -1,0 +1,96 @@
+//! The values of options, by their kind: paths, numbers of steps, numbers in a range and the allowance.
+ghost use Rattle.std.specs.Prelude.{◌≡◌, ◌≤◌, Some, codes, false};
+ghost use Rattle.clap.specs.{Takes.is_given, Words.{first_of, found_of, rows_of}};
+ghost use Rattle.cli_words.specs.Command.{chamber_option, depth_option, limit_option, number_option, of_steps, part_option, required, state_option, text_option, whole_option};
+ghost use Rattle.cli_words.specs.{Options.HasItsValue, Words.{GivesItsNumber, GivesNumber, GivesText, SaysWindow}};
+
+use clap::ArgMatches;
+use county_codes::Window;
+
+/// Reads the path that the option `name` gives, which is required.
+pub(crate) fn path<'a>(found: &ArgMatches<'a>, name: &str) -> &'a str
+    requires { HasItsValue (rows_of (found_of found.now)) (required (text_option name.now)) }
+    ensures { first_of name.now (rows_of (found_of found.now)) ≡ Some result.now }
+{
+    found.get_str(name).unwrap()
+}
+
+/// Reads the path that the option `name` gives, or `None` if the words don't give it.
+pub(crate) fn path_or_none<'a>(found: &ArgMatches<'a>, name: &str) -> Option<&'a str>
+    requires { HasItsValue (rows_of (found_of found.now)) (text_option name.now) }
+    ensures { GivesText name.now (rows_of (found_of found.now)) result }
+{
+    found.get_str(name)
+}
+
+/// Reads the number of steps that the option `name` gives, or 10,000,000 if the words don't give it.
+pub(crate) fn steps<'a>(found: &ArgMatches<'a>, name: &str) -> u64
+    requires { HasItsValue (rows_of (found_of found.now)) (of_steps (text_option name.now)) }
+    ensures number { GivesNumber name.now (rows_of (found_of found.now)) result }
+    ensures default { is_given name.now (rows_of (found_of found.now)) ≡ false → result ≡ 10000000 }
+{
+    found.get_one::<u64>(name).unwrap()
+}
+
+/// Reads the number that the option `name` gives, which is required.
+pub(crate) fn number<'a>(found: &ArgMatches<'a>, name: &str) -> u32
+    requires { HasItsValue (rows_of (found_of found.now)) (required (number_option name.now)) }
+    ensures { GivesNumber name.now (rows_of (found_of found.now)) result }
+{
+    found.get_one::<u32>(name).unwrap()
+}
+
+/// Reads the number that the option `name` gives, or `None` if the words don't give it.
+pub(crate) fn number_or_none<'a>(found: &ArgMatches<'a>, name: &str) -> Option<u32>
+    requires { HasItsValue (rows_of (found_of found.now)) (number_option name.now) }
+    ensures { GivesItsNumber name.now (rows_of (found_of found.now)) result }
+{
+    found.get_one::<u32>(name)
+}
+
+/// Reads the number of seats.
+pub(crate) fn chamber<'a>(found: &ArgMatches<'a>) -> u16
+    requires { HasItsValue (rows_of (found_of found.now)) chamber_option }
+    ensures number { GivesNumber (codes "chamber") (rows_of (found_of found.now)) result }
+    ensures range { (1 ≤ result) × (result ≤ 1000) }
+{
+    found.get_one::<u16>("chamber").unwrap()
+}
+
+/// Reads the state's FIPS code.
+pub(crate) fn state<'a>(found: &ArgMatches<'a>) -> u8
+    requires { HasItsValue (rows_of (found_of found.now)) state_option }
+    ensures number { GivesNumber (codes "state") (rows_of (found_of found.now)) result }
+    ensures range { result ≤ 99 }
+    ensures default { is_given (codes "state") (rows_of (found_of found.now)) ≡ false → result ≡ 37 }
+{
+    found.get_one::<u8>("state").unwrap()
+}
+
+/// Reads the allowance: a part of a whole.
+pub(crate) fn window<'a>(found: &ArgMatches<'a>) -> Window
+    requires part { HasItsValue (rows_of (found_of found.now)) part_option }
+    requires whole { HasItsValue (rows_of (found_of found.now)) whole_option }
+    ensures { SaysWindow (rows_of (found_of found.now)) result }
+{
+    Window {
+        part: found.get_one::<u16>("part").unwrap(),
+        whole: found.get_one::<u16>("of").unwrap(),
+    }
+}
+
+/// Reads the limit of a board's first round, or `None` if the words don't give it.
+pub(crate) fn limit<'a>(found: &ArgMatches<'a>) -> Option<u16>
+    requires { HasItsValue (rows_of (found_of found.now)) limit_option }
+    ensures { GivesItsNumber (codes "limit") (rows_of (found_of found.now)) result }
+{
+    found.get_one::<u16>("limit")
+}
+
+/// Reads the most branchings above a piece, or `None` if the words don't give it.
+pub(crate) fn depth<'a>(found: &ArgMatches<'a>) -> Option<u8>
+    requires { HasItsValue (rows_of (found_of found.now)) depth_option }
+    ensures { GivesItsNumber (codes "depth") (rows_of (found_of found.now)) result }
+{
+    found.get_one::<u8>("depth")
+}
