@@ -249,15 +249,16 @@ class Sweep:
             name = STANDARD_INPUT
         if name is None:
             return None, []
-        if self.case.runs[upto]:
-            return name, events_in(self.case.files.get(name, b""))
-        place = file_in_case(self.case.given, name)
-        return name, events_in(self.case.given[slice(*place)]) if place else []
+        return name, events_in(self.events_text(upto, name))
 
     def events_text(self, upto: int, name: str) -> bytes:
-        """Returns the bytes of the events file of a run of `share`."""
+        """Returns the bytes of the events file of a run of `share`, or none if it isn't there.
+
+        An earlier run may have stored it.
+        """
         if self.case.runs[upto]:
-            return self.case.files.get(name, b"")
+            self.prepare(upto)
+            return self.earlier[upto].get(name, b"")
         return self.case.given[slice(*file_in_case(self.case.given, name) or (0, 0))]
 
     def run_with_events(self, upto: int, name: str, text: bytes) -> Tuple[Followed, Files]:
@@ -272,7 +273,7 @@ class Sweep:
         made = self.run_once(self.case.runs[upto], folder, given, follow="calls memory")
         left = files_below(folder)
         if self.case.runs[upto] and left.get(name) == text:
-            left[name] = self.case.files[name]
+            left[name] = self.earlier[upto][name]
         return made, left
 
     def where_refused(self, upto: int, made: Followed) -> Optional[Tuple[Followed, Files]]:
@@ -495,6 +496,12 @@ def tests_of_refused_events(events: List[bytes]) -> Iterator[Test]:
     yield "two events are refused", found, wanted
     yield "none is refused", toy.wanted(b"sum 1\nsum 4\n"), None
     yield "an events file without events", ToyShare(b"").events_of(0), ("e", [])
+    stored = ToyShare(b"")
+    stored.case.runs = [["solve"], ["share", "--events", "f"]]
+    stored.earlier[1] = {"f": b"hand 1\nhand 2\n"}
+    stored.prepare = lambda upto: ""  # type: ignore[method-assign]
+    found_events = ("f", [b"hand 1\n", b"hand 2\n"])
+    yield "an events file of an earlier run", stored.events_of(1), found_events
 
 
 def tests_of_samples() -> Iterator[Test]:
