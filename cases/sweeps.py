@@ -418,6 +418,10 @@ class ToyShare(Sweep):
     def __init__(self, events: bytes) -> None:
         super().__init__(ToyCase(events), "", "", 0)
 
+    def prepare(self, upto: int) -> str:
+        """Returns no folder: what the earlier runs left stands in `earlier`."""
+        return ""
+
     def run_with_events(self, upto: int, name: str, text: bytes) -> Tuple[Followed, Files]:
         """Returns what stands for an ordinary run."""
         made, total = Followed(), 0
@@ -499,7 +503,6 @@ def tests_of_refused_events(events: List[bytes]) -> Iterator[Test]:
     stored = ToyShare(b"")
     stored.case.runs = [["solve"], ["share", "--events", "f"]]
     stored.earlier[1] = {"f": b"hand 1\nhand 2\n"}
-    stored.prepare = lambda upto: ""  # type: ignore[method-assign]
     found_events = ("f", [b"hand 1\n", b"hand 2\n"])
     yield "an events file of an earlier run", stored.events_of(1), found_events
 
