@@ -29,7 +29,6 @@ use Rattle.cli_runs.specs.Reading.{GivenBack, open_step, read_step, given_step, 
 use Rattle.cli_runs.proofs.RunLemmas.{came, went_on}
 use Rattle.certificate_checker.specs.declared.fault.CheckStop.{CheckStop}
 use Rattle.cli_words.specs.declared.words.CertificateWords.{CertificateWords}
-use Rattle.cli_runs.specs.declared.checker_report.Checked.{Checked}
 use Rattle.cli_runs.specs.declared.table_runs.Reported as held
 use Rattle.cli_runs.specs.CheckCourse.{IsChecked, ChecksGiven}
 use Rattle.cli_runs.specs.TableCourse.{Tabled}
@@ -203,13 +202,13 @@ only_memory_of_names view (Err (names.BadName line)) list x y one other of = of
 only_memory_of_names view (Err (names.Files fault)) list x y one other of = λ g s sees sees_too not. of g s sees sees_too (λ refused. ⊎_elim not (no_read_fault fault fault.file refl one other) refused)
 
 -- what was said of a certificate whose reader was given back
-pub said_checked : (t : Tabled) (budget : ℕ) (g x given : Given) (checked : Result Checked CheckStop) (end : Result held.Reported Refusal) → g ≡ nothing_given → given ≡ x
-    → IfOk checked (λ k. ChecksGiven t budget g x (reported_of k.reported)) → MatchResult end (λ r. IsOkAnd checked (λ k. k.reported ≡ r)) (λ refusal. refusal ≡ Memory)
+pub said_checked : (t : Tabled) (budget : ℕ) (g x given : Given) (checked : Result held.Reported CheckStop) (end : Result held.Reported Refusal) → g ≡ nothing_given → given ≡ x
+    → IfOk checked (λ k. ChecksGiven t budget g x (reported_of k)) → MatchResult end (λ r. IsOkAnd checked (λ k. reported_of k ≡ reported_of r)) (λ refusal. refusal ≡ Memory)
     → MatchResult end (λ r. IsChecked t budget given (reported_of r)) (λ refusal. refusal ≡ Memory)
 said_checked t budget g x given (Ok k) (Ok r) none same holds is =
     let begun : x.bytes ≡ holds.bytes = holds.are_given ∙ ap (λ (z : Given). z.bytes ++ holds.bytes) none in
-    let of_source : IsChecked t budget x (reported_of k.reported) = subst (λ (b : List ℕ). IsChecked t budget (record { bytes = b; ended = x.ended }) (reported_of k.reported)) (sym begun) holds.checked in
-    subst (λ (q : held.Reported). IsChecked t budget given (reported_of q)) is (subst (λ (z : Given). IsChecked t budget z (reported_of k.reported)) (sym same) of_source)
+    let of_source : IsChecked t budget x (reported_of k) = subst (λ (b : List ℕ). IsChecked t budget (record { bytes = b; ended = x.ended }) (reported_of k)) (sym begun) holds.checked in
+    subst (IsChecked t budget given) is (subst (λ (z : Given). IsChecked t budget z (reported_of k)) (sym same) of_source)
 said_checked t budget g x given (Err stop) (Ok r) none same holds is = absurd is
 said_checked t budget g x given checked (Err refusal) none same holds is = is
 

@@ -7,13 +7,13 @@ ghost use Rattle.cli_runs.specs.{JudgeCourse.{audit_step, audit_course}, Run.Com
 ghost use Rattle.cli_runs.specs.Texts.{audited_of};
 
 use crate::census_files::load_blocks;
-use crate::end::{End, Ending, FileOption};
 use crate::files::load_grouping;
+use crate::notes::Notes;
 use crate::plan_files::load_assignments;
 use crate::problem::load_problem;
 use crate::storing::store_named;
-use baf_auditor::{Assignment, Findings};
-use cli_answers::{Refusal, RunAnswer};
+use baf_auditor::Assignment;
+use cli_answers::{FileOption, Refusal, RunAnswer, Subject};
 use cli_file_stores::FileStore;
 use cli_runs::{Audited, audit_and_report};
 use cli_words::{AuditWords, CommandWords};
@@ -21,15 +21,6 @@ use county_codes::Grouping;
 use county_problem::Problem;
 use pl94_counties::Block;
 use std::alloc::Global;
-
-/// Returns the ending of an audit with these `findings`.
-fn audited_end(findings: Findings, problem: Problem, grouping: Grouping) -> Ending {
-    if findings.list.is_empty() {
-        Ending::Done
-    } else {
-        Ending::Found(findings, problem, grouping)
-    }
-}
 
 /// What `audit` says, and what was audited.
 #[derive(Drop)]
@@ -67,17 +58,17 @@ fn audit_files<H: FileStore>(
     alloc: Global,
     words: AuditWords<'_>,
     file_store: &mut H,
-    end: &mut End,
+    notes: &mut Notes,
 ) -> Result<AuditedPlan, Refusal>
     requires { words.problem.common.state ≤ 99 }
     ensures course { Comes (λ p. audited_of p.audited) result (audit_course (H.contents file_store.old) words.entry (H.history file_store.old) (H.history file_store.new)) }
     ensures same { H.contents file_store.new ≡ H.contents file_store.old }
     ensures kept { H.stored file_store.new ≡ H.stored file_store.old }
 {
-    let problem = load_problem(alloc, words.problem, file_store, end)?;
-    let blocks = load_blocks(alloc, words.problem.common, file_store, end)?;
-    let grouping = load_grouping(alloc, FileOption::Grouping, words.grouping, file_store, end)?;
-    let lines = load_assignments(alloc, words.assignments, file_store, end)?;
+    let problem = load_problem(alloc, words.problem, file_store, notes)?;
+    let blocks = load_blocks(alloc, words.problem.common, file_store, notes)?;
+    let grouping = load_grouping(alloc, FileOption::Grouping, words.grouping, file_store)?;
+    let lines = load_assignments(alloc, words.assignments, file_store)?;
     let asked = words.districts.is_some();
     audit_plan(alloc, problem, grouping, &blocks, &lines, asked)
 }
@@ -89,14 +80,14 @@ pub(crate) fn audit<H: FileStore>(
     alloc: Global,
     words: AuditWords<'_>,
     file_store: &mut H,
-    end: &mut End,
+    notes: &mut Notes,
 ) -> Result<RunAnswer, Refusal>
     requires { words.problem.common.state ≤ 99 }
     ensures { (stored : List NamedFile)
         × HasStored (H.contents file_store.old) (H.contents file_store.new) (H.stored file_store.old) (H.stored file_store.new) stored
         × CommandRun (H.contents file_store.old) (CommandWords.Audit words.entry) (H.history file_store.old) (H.history file_store.new) stored (said_by result) }
 {
-    let plan = audit_files(alloc, words, file_store, end)?;
+    let plan = audit_files(alloc, words, file_store, notes)?;
     let AuditedPlan {
         audited,
         problem,
@@ -108,14 +99,19 @@ pub(crate) fn audit<H: FileStore>(
         words.districts,
         audited.districts.as_ref(),
         file_store,
-        end,
+        notes,
     ) {
         Ok(()) => {
-            end.note(audited_end(audited.findings, problem, grouping));
-            Ok(audited.answer)
+            let mut answer = audited.answer;
+            answer.subject = Some(Subject {
+                problem,
+                grouping: Some(grouping),
+                certificate: None,
+            });
+            Ok(answer)
         }
         Err(refusal) => {
-            end.note_report(audited.answer.text);
+            notes.note_report(audited.answer.text);
             Err(refusal)
         }
     }

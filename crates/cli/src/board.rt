@@ -10,15 +10,18 @@ ghost use Rattle.cli_runs.specs.Run.{CommandRun};
 ghost use Rattle.written_output.specs.Writing.{HasWritten};
 ghost use Rattle.cli.specs.GoingOn.{ServesBy, IsStopRefusal};
 
-use crate::end::{End, FileFault, FileOption};
 use crate::files::load_grouping;
+use crate::notes::Notes;
 use crate::problem::load_problem;
-use crate::readers::{open, refuse_named};
-use crate::share::{answer_to, shared_end};
+use crate::readers::open;
+use crate::share::answer_to;
 use crate::storing::store_named;
 use board_report::Shared;
 use board_server::{ServeStop, serve_events};
-use cli_answers::{Refusal, RunAnswer, refuse_board, refuse_events};
+use cli_answers::{
+    FaultText, FileOption, Refusal, RefusedFile, RunAnswer, refuse_board, refuse_events,
+    refuse_load,
+};
 use cli_file_stores::{FileStore, Sink};
 use cli_runs::shape_for;
 use cli_words::{CommandWords, STANDARD_INPUT, ServeWords};
@@ -27,18 +30,18 @@ use county_problem::Problem;
 use std::alloc::Global;
 use written_output::Written;
 
-/// Returns the refusal of a board that stopped, and notes why.
-fn refuse_stop(alloc: Global, stop: ServeStop, end: &mut End) -> Refusal
+/// Returns the refusal of a board that stopped.
+fn refuse_stop(alloc: Global, stop: ServeStop) -> Refusal
     ensures { IsStopRefusal stop result }
 {
     match stop {
-        ServeStop::Board(fault) => {
-            end.note_board(&fault);
-            refuse_board(alloc, fault)
-        }
+        ServeStop::Board(fault) => refuse_board(alloc, fault),
         ServeStop::Events(fault) => {
-            end.note_refused(FileOption::Input, FileFault::Events(fault), Vec::new(alloc));
-            refuse_events(alloc, fault)
+            let refused = RefusedFile {
+                option: FileOption::Input,
+                text: FaultText::Whole(Vec::new(alloc)),
+            };
+            refuse_events(alloc, fault, refused)
         }
     }
 }
@@ -53,7 +56,6 @@ fn serve_input<H: FileStore, W: Sink>(
     file_store: &mut H,
     out: &mut W,
     written: &mut Written,
-    end: &mut End,
 ) -> Result<Shared, Refusal>
     ensures served { (text : List ℕ)
         × HasWritten W.contents W.is_failed out.old written.old out.new written.new text
@@ -63,7 +65,7 @@ fn serve_input<H: FileStore, W: Sink>(
 {
     let shape = shape_for(words.board.round, grouping);
     let (option, name) = (FileOption::Input, STANDARD_INPUT);
-    let mut reader = open(alloc, option, name, file_store, end)?;
+    let mut reader = open(alloc, option, name, file_store)?;
     let budget = words.budget;
     let served = serve_events(
         alloc,
@@ -78,9 +80,9 @@ fn serve_input<H: FileStore, W: Sink>(
     match file_store.give_back(name, reader) {
         Ok(_) => match served {
             Ok(shared) => Ok(shared),
-            Err(stop) => Err(refuse_stop(alloc, stop, end)),
+            Err(stop) => Err(refuse_stop(alloc, stop)),
         },
-        Err(fault) => Err(refuse_named(alloc, option, name, fault, end)),
+        Err(fault) => Err(refuse_load(alloc, option, name, fault)),
     }
 }
 
@@ -91,7 +93,7 @@ fn serve_files<H: FileStore, W: Sink>(
     file_store: &mut H,
     out: &mut W,
     written: &mut Written,
-    end: &mut End,
+    notes: &mut Notes,
 ) -> Result<Shared, Refusal>
     requires { words.board.problem.common.state ≤ 99 }
     ensures served { (text : List ℕ)
@@ -100,17 +102,14 @@ fn serve_files<H: FileStore, W: Sink>(
     ensures same { H.contents file_store.new ≡ H.contents file_store.old }
     ensures kept { H.stored file_store.new ≡ H.stored file_store.old }
 {
-    let problem = load_problem(alloc, words.board.problem, file_store, end)?;
+    let problem = load_problem(alloc, words.board.problem, file_store, notes)?;
     let grouping = load_grouping(
         alloc,
         FileOption::Grouping,
         words.board.grouping,
         file_store,
-        end,
     )?;
-    serve_input(
-        alloc, &problem, &grouping, words, file_store, out, written, end,
-    )
+    serve_input(alloc, &problem, &grouping, words, file_store, out, written)
 }
 
 /// Opens a board that takes the events of standard input as they come, and stores the certificate that it joins. The
@@ -121,7 +120,7 @@ pub(crate) fn board<H: FileStore, W: Sink>(
     file_store: &mut H,
     out: &mut W,
     written: &mut Written,
-    end: &mut End,
+    notes: &mut Notes,
 ) -> Result<RunAnswer, Refusal>
     requires { words.board.problem.common.state ≤ 99 }
     ensures { (stored : List NamedFile) × (text : List ℕ)
@@ -129,21 +128,18 @@ pub(crate) fn board<H: FileStore, W: Sink>(
         × HasWritten W.contents W.is_failed out.old written.old out.new written.new text
         × CommandRun (H.contents file_store.old) (CommandWords.Board words.entry) (H.history file_store.old) (H.history file_store.new) stored (behind text (said_by result)) }
 {
-    let shared = serve_files(alloc, words, file_store, out, written, end)?;
+    let shared = serve_files(alloc, words, file_store, out, written, notes)?;
     match store_named(
         alloc,
         FileOption::CertificateOut,
         words.certificate,
         shared.certificate.as_ref(),
         file_store,
-        end,
+        notes,
     ) {
-        Ok(()) => {
-            end.note(shared_end(shared.left));
-            Ok(answer_to(shared))
-        }
+        Ok(()) => Ok(answer_to(shared)),
         Err(refusal) => {
-            end.note_report(shared.text);
+            notes.note_report(shared.text);
             Err(refusal)
         }
     }

@@ -6,10 +6,9 @@ ghost use Rattle.cli_file_stores.specs.History.{History};
 ghost use Rattle.cli_answers.specs.Answers.{Comes};
 ghost use Rattle.cli_runs.specs.BoardCourse.{format_of, events_in, events_of, named_events_of};
 
-use crate::end::{End, Ending, FileFault, FileOption};
 use crate::files::load;
 use board_report::read_events;
-use cli_answers::{Refusal, refuse_events};
+use cli_answers::{FaultText, FileOption, Refusal, RefusedFile, refuse_events};
 use cli_file_stores::FileStore;
 use cli_runs::format_for;
 use cli_words::RoundWords;
@@ -23,7 +22,6 @@ fn events_from(
     text: Vec<u8>,
     words: RoundWords,
     problem: &Problem,
-    end: &mut End,
 ) -> Result<Vec<Event>, Refusal>
     ensures { (history : History)
         → Comes (λ v. map event_of v.items) result (events_in (format_of words) (length problem.now.counties) text.items history history) }
@@ -33,8 +31,11 @@ fn events_from(
     match read_events(alloc, &text, format, counties) {
         Ok(events) => Ok(events),
         Err(fault) => {
-            end.note_refused(FileOption::Events, FileFault::Events(fault), text);
-            Err(refuse_events(alloc, fault))
+            let refused = RefusedFile {
+                option: FileOption::Events,
+                text: FaultText::Whole(text),
+            };
+            Err(refuse_events(alloc, fault, refused))
         }
     }
 }
@@ -47,14 +48,13 @@ pub(crate) fn load_events<H: FileStore>(
     words: RoundWords,
     problem: &Problem,
     file_store: &mut H,
-    end: &mut End,
 ) -> Result<Vec<Event>, Refusal>
     ensures course { Comes (λ v. map event_of v.items) result (events_of (H.contents file_store.old) (format_of words) (length problem.now.counties) name.now (H.history file_store.old) (H.history file_store.new)) }
     ensures same { H.contents file_store.new ≡ H.contents file_store.old }
     ensures kept { H.stored file_store.new ≡ H.stored file_store.old }
 {
-    let text = load(alloc, FileOption::Events, name, file_store, end)?;
-    events_from(alloc, text, words, problem, end)
+    let text = load(alloc, FileOption::Events, name, file_store)?;
+    events_from(alloc, text, words, problem)
 }
 
 /// Loads and reads the events of the file `name`. Returns none if no file is named.
@@ -64,14 +64,13 @@ pub(crate) fn load_named_events<H: FileStore>(
     words: RoundWords,
     problem: &Problem,
     file_store: &mut H,
-    end: &mut End,
 ) -> Result<Vec<Event>, Refusal>
     ensures course { Comes (λ v. map event_of v.items) result (named_events_of (H.contents file_store.old) (format_of words) (length problem.now.counties) name.entry (H.history file_store.old) (H.history file_store.new)) }
     ensures same { H.contents file_store.new ≡ H.contents file_store.old }
     ensures kept { H.stored file_store.new ≡ H.stored file_store.old }
 {
     match name {
-        Some(name) => load_events(alloc, name, words, problem, file_store, end),
+        Some(name) => load_events(alloc, name, words, problem, file_store),
         None => Ok(Vec::new(alloc)),
     }
 }

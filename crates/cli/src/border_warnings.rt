@@ -1,6 +1,6 @@
 //! What is odd about the borders that an adjacency file and links give.
 
-use crate::end::End;
+use crate::notes::Notes;
 use crate::warnings::Warning;
 use adjacency_reader::{Link, Sign};
 use county_codes::{CountyCode, unlisted_code};
@@ -65,11 +65,11 @@ pub(crate) fn note_adjacency(
     listed: &[CountyCode],
     text: &[u8],
     pairs: &[(CountyCode, CountyCode)],
-    end: &mut End,
+    notes: &mut Notes,
 ) {
-    end.note_pairs(!pairs.is_empty());
+    notes.note_pairs(!pairs.is_empty());
     if let Ok(rows) = rows_in(alloc, listed, text) {
-        end.note_warning(one_way(&rows, pairs));
+        notes.note_warning(one_way(&rows, pairs));
     }
 }
 
@@ -122,13 +122,13 @@ pub(crate) fn note_links(
     listed: &[CountyCode],
     pairs: &[(CountyCode, CountyCode)],
     links: &[Link],
-    end: &mut End,
+    notes: &mut Notes,
 ) {
     if links.is_empty() {
         return;
     }
     if let Ok(missing) = missing_border(alloc, listed, pairs, links) {
-        end.note_warning(missing);
+        notes.note_warning(missing);
     }
-    end.note_warning(unknown_county(listed, links));
+    notes.note_warning(unknown_county(listed, links));
 }

@@ -12,9 +12,10 @@ ghost use Rattle.written_output.specs.Writing.{kept_of};
 ghost use Rattle.cli_runs.specs.Spoken.{behind};
 
 use crate::command::{deliver, words_answer};
-use crate::end::{End, Ending};
+use crate::ended_run::EndedRun;
+use crate::notes::Notes;
 use branch_bound::NoWatcher;
-use cli_answers::{MEMORY, RunAnswer};
+use cli_answers::{MEMORY, RunAnswer, RunOutcome};
 use cli_file_stores::{MemoryFile, MemoryFileStore, Sink, WholeFault, read_whole};
 use field_lines::{Piece, RawLines, Source};
 use std::alloc::{AllocError, Global};
@@ -158,6 +159,8 @@ fn whole_answer(written: Written, answer: RunAnswer) -> Result<RunAnswer, AllocE
             Ok(RunAnswer {
                 text,
                 status: answer.status,
+                outcome: answer.outcome,
+                subject: answer.subject,
             })
         }
         None => Ok(answer),
@@ -170,7 +173,7 @@ fn words_over_files(
     alloc: Global,
     line: &str,
     mut files: Vec<MemoryFile>,
-    end: &mut End,
+    notes: &mut Notes,
 ) -> Result<RunAnswer, AllocError>
     ensures { IfOk result (λ a. WordsOver (reverse (files_of files.items)) (slice_split (λ b. b == 32) line.now) (answer_of a)) }
 {
@@ -184,7 +187,7 @@ fn words_over_files(
         &mut file_store,
         &mut NoSink,
         &mut written,
-        end,
+        notes,
         &mut NoWatcher,
     )?;
     let mut answer = whole_answer(written, answer)?;
@@ -193,21 +196,26 @@ fn words_over_files(
 }
 
 /// Returns the answer to the `text` of a case, or `None` if its first line or the name of a file isn't UTF-8.
-fn case_answer(alloc: Global, text: &[u8], end: &mut End) -> Result<Option<RunAnswer>, AllocError>
+fn case_answer(
+    alloc: Global,
+    text: &[u8],
+    notes: &mut Notes,
+) -> Result<Option<RunAnswer>, AllocError>
     ensures { IfOk result (λ a. IsCaseAnswer text.now (option_map answer_of a)) }
 {
     match parts_in(alloc, text)? {
-        Some((line, files)) => Ok(Some(words_over_files(alloc, line, files, end)?)),
-        None => {
-            end.note(Ending::CaseNotText);
-            Ok(None)
-        }
+        Some((line, files)) => Ok(Some(words_over_files(alloc, line, files, notes)?)),
+        None => Ok(None),
     }
 }
 
-/// Reads and runs a case, and returns the exit status and how the run ended. All that `run_case` promises holds of it
-/// and of its status.
-pub fn run_case_with_end<R: Source, W: Sink>(alloc: Global, input: &mut R, out: &mut W) -> (u8, End)
+/// Reads and runs a case, and returns the exit status and the run that has ended. All that `run_case` promises holds of
+/// it and of its status.
+pub fn run_case_with_notes<R: Source, W: Sink>(
+    alloc: Global,
+    input: &mut R,
+    out: &mut W,
+) -> (u8, EndedRun)
     requires { R.is_failed input.old ≡ false }
     ensures { (read : Result (List ℕ) WholeFault)
         × IsWholeSource (R.content input.old) (R.is_failed input.new) read
@@ -215,22 +223,34 @@ pub fn run_case_with_end<R: Source, W: Sink>(alloc: Global, input: &mut R, out: 
         × IsReadAnswer read a
         × DeliversCase out.old out.new W.is_failed W.contents a result.0 }
 {
-    let mut end = End::new(alloc);
+    let mut notes = Notes::new(alloc);
     match read_whole(alloc, input, MAX_CASE) {
-        Ok(text) => match case_answer(alloc, &text, &mut end) {
-            Ok(Some(answer)) => (deliver(out, &answer.text, answer.status), end),
-            Ok(None) => (2, end),
-            Err(AllocError) => (deliver(out, MEMORY, 5), end),
+        Ok(text) => match case_answer(alloc, &text, &mut notes) {
+            Ok(Some(answer)) => {
+                let status = deliver(out, &answer.text, answer.status);
+                (status, EndedRun::of_case(answer, notes))
+            }
+            Ok(None) => (2, EndedRun::unanswered(RunOutcome::CaseNotText, notes)),
+            Err(AllocError) => {
+                let status = deliver(out, MEMORY, 5);
+                (status, EndedRun::unanswered(RunOutcome::Memory, notes))
+            }
         },
         Err(WholeFault::TooLarge) => {
-            end.note(Ending::CaseTooLarge);
-            (deliver(out, b"refused case TooLarge line 0\n", 4), end)
+            let status = deliver(out, b"refused case TooLarge line 0\n", 4);
+            (
+                status,
+                EndedRun::unanswered(RunOutcome::CaseTooLarge, notes),
+            )
         }
         Err(WholeFault::Failed) => {
-            end.note(Ending::CaseUnread);
-            (deliver(out, b"device case Device\n", 5), end)
+            let status = deliver(out, b"device case Device\n", 5);
+            (status, EndedRun::unanswered(RunOutcome::CaseUnread, notes))
         }
-        Err(WholeFault::Memory) => (deliver(out, MEMORY, 5), end),
+        Err(WholeFault::Memory) => {
+            let status = deliver(out, MEMORY, 5);
+            (status, EndedRun::unanswered(RunOutcome::Memory, notes))
+        }
     }
 }
 
@@ -246,5 +266,5 @@ pub fn run_case<R: Source, W: Sink>(alloc: Global, input: &mut R, out: &mut W) -
         × IsReadAnswer read a
         × DeliversCase out.old out.new W.is_failed W.contents a result }
 {
-    run_case_with_end(alloc, input, out).0
+    run_case_with_notes(alloc, input, out).0
 }

@@ -10,11 +10,12 @@ ghost use Rattle.pl94_counties.specs.CountyNames.{IsNoMemory, county_name, named
 ghost use Rattle.cli_runs.specs.{Reading.OfTexts, ProblemCourse.{counties_in, counties_course}};
 ghost use Rattle.cli_runs.specs.{TableCourse.{named_counties_in, named_counties_of}, PlanCourse.{blocks_in, blocks_of}};
 
-use crate::end::{End, FileFault, FileOption};
-use crate::fault_text::FaultText;
 use crate::head_reader::HeadReader;
+use crate::notes::Notes;
 use crate::readers::{give_both_back, open_both};
-use cli_answers::{Refusal, refuse_file, refuse_named_counties};
+use cli_answers::{
+    FaultText, FileOption, Refusal, RefusedFile, refuse_file, refuse_named_counties,
+};
 use cli_file_stores::FileStore;
 use cli_words::CommonWords;
 use county_codes::County;
@@ -40,24 +41,27 @@ fn kept_of(file: File, geo: Vec<u8>, segment: Vec<u8>) -> (FileOption, Vec<u8>) 
     }
 }
 
-/// Notes the fault of `file`, with what was kept of the file.
-fn note_fault(texts: CensusTexts, file: File, fault: FileFault, end: &mut End) {
+/// Returns `file` as it is refused, by what was kept of it. The states that both files name are noted.
+fn refused_of(texts: CensusTexts, file: File, notes: &mut Notes) -> RefusedFile {
     let CensusTexts {
         geo,
         segment,
-        notes,
+        notes: read,
     } = texts;
-    end.note_states(&notes);
+    notes.note_states(&read);
     let (option, head) = kept_of(file, geo, segment);
-    let line = notes.line;
-    end.note_read_refused(option, fault, FaultText::Read { head, line });
+    let line = read.line;
+    RefusedFile {
+        option,
+        text: FaultText::Read { head, line },
+    }
 }
 
-/// Notes a fault of one of the files, or a name that isn't UTF-8, with what was kept of the file.
-fn note_named_fault(texts: CensusTexts, fault: NamedFault, end: &mut End) {
+/// Returns the file that `fault` is of. A name that isn't UTF-8 is of the geographic header.
+fn file_of(fault: &NamedFault) -> File {
     match fault {
-        NamedFault::Files(fault) => note_fault(texts, fault.file, FileFault::Census(fault), end),
-        NamedFault::BadName(line) => note_fault(texts, File::Geo, FileFault::BadName(line), end),
+        NamedFault::Files(fault) => fault.file,
+        NamedFault::BadName(_) => File::Geo,
     }
 }
 
@@ -66,7 +70,7 @@ fn counties_read(
     alloc: Global,
     read: Result<Vec<County>, Pl94Fault>,
     texts: CensusTexts,
-    end: &mut End,
+    notes: &mut Notes,
 ) -> Result<Vec<County>, Refusal>
     ensures { (state : ℕ) (geo segment : Given) (now : History)
         → OfTexts (λ g s. GivesUnless IsPl94Memory (λ v. v.items) read (county_list g s state)) geo segment
@@ -74,13 +78,13 @@ fn counties_read(
 {
     match read {
         Ok(counties) => {
-            end.note_counties(&counties, &texts.notes);
-            end.note_geo_head(texts.geo);
+            notes.note_counties(&counties, &texts.notes);
+            notes.note_geo_head(texts.geo);
             Ok(counties)
         }
         Err(fault) => {
-            note_fault(texts, fault.file, FileFault::Census(fault), end);
-            Err(refuse_file(alloc, fault))
+            let refused = refused_of(texts, fault.file, notes);
+            Err(refuse_file(alloc, fault, refused))
         }
     }
 }
@@ -91,27 +95,27 @@ pub(crate) fn load_counties<H: FileStore>(
     alloc: Global,
     words: CommonWords<'_>,
     file_store: &mut H,
-    end: &mut End,
+    notes: &mut Notes,
 ) -> Result<Vec<County>, Refusal>
     requires { words.state ≤ 99 }
     ensures course { Comes (λ v. v.items) result (counties_course (H.contents file_store.old) words.entry (H.history file_store.old) (H.history file_store.new)) }
     ensures same { H.contents file_store.new ≡ H.contents file_store.old }
     ensures kept { H.stored file_store.new ≡ H.stored file_store.old }
 {
-    let (geo, segment) = open_both(alloc, words, file_store, end)?;
+    let (geo, segment) = open_both(alloc, words, file_store)?;
     let mut geo = HeadReader::new(alloc, geo);
     let mut segment = HeadReader::new(alloc, segment);
-    let mut notes = CensusNotes::new(alloc);
-    let read = read_counties_from(alloc, &mut geo, &mut segment, words.state, &mut notes);
+    let mut read_notes = CensusNotes::new(alloc);
+    let read = read_counties_from(alloc, &mut geo, &mut segment, words.state, &mut read_notes);
     let (geo_reader, geo) = geo.into_parts();
     let (segment_reader, segment) = segment.into_parts();
-    give_both_back(alloc, words, (geo_reader, segment_reader), file_store, end)?;
+    give_both_back(alloc, words, (geo_reader, segment_reader), file_store)?;
     let texts = CensusTexts {
         geo,
         segment,
-        notes,
+        notes: read_notes,
     };
-    counties_read(alloc, read, texts, end)
+    counties_read(alloc, read, texts, notes)
 }
 
 /// Returns the counties of `named` without their names, in the same order.
@@ -131,7 +135,7 @@ fn named_read(
     alloc: Global,
     read: Result<Vec<NamedCounty>, NamedFault>,
     texts: CensusTexts,
-    end: &mut End,
+    notes: &mut Notes,
 ) -> Result<Vec<NamedCounty>, Refusal>
     ensures { (state : ℕ) (geo segment : Given) (now : History)
         → OfTexts (λ g s. GivesUnless IsNoMemory (λ v. map county_name v.items) read (named_list g s state)) geo segment
@@ -139,13 +143,13 @@ fn named_read(
 {
     match read {
         Ok(named) => {
-            end.note_census(&texts.notes);
-            end.note_geo_head(texts.geo);
+            notes.note_census(&texts.notes);
+            notes.note_geo_head(texts.geo);
             Ok(named)
         }
         Err(fault) => {
-            note_named_fault(texts, fault, end);
-            Err(refuse_named_counties(alloc, fault))
+            let refused = refused_of(texts, file_of(&fault), notes);
+            Err(refuse_named_counties(alloc, fault, refused))
         }
     }
 }
@@ -155,27 +159,33 @@ pub(crate) fn load_named_counties<H: FileStore>(
     alloc: Global,
     words: CommonWords<'_>,
     file_store: &mut H,
-    end: &mut End,
+    notes: &mut Notes,
 ) -> Result<Vec<NamedCounty>, Refusal>
     requires { words.state ≤ 99 }
     ensures course { Comes (λ v. map county_name v.items) result (named_counties_of (H.contents file_store.old) words.entry (H.history file_store.old) (H.history file_store.new)) }
     ensures same { H.contents file_store.new ≡ H.contents file_store.old }
     ensures kept { H.stored file_store.new ≡ H.stored file_store.old }
 {
-    let (geo, segment) = open_both(alloc, words, file_store, end)?;
+    let (geo, segment) = open_both(alloc, words, file_store)?;
     let mut geo = HeadReader::new(alloc, geo);
     let mut segment = HeadReader::new(alloc, segment);
-    let mut notes = CensusNotes::new(alloc);
-    let read = read_named_counties_from(alloc, &mut geo, &mut segment, words.state, &mut notes);
+    let mut read_notes = CensusNotes::new(alloc);
+    let read = read_named_counties_from(
+        alloc,
+        &mut geo,
+        &mut segment,
+        words.state,
+        &mut read_notes,
+    );
     let (geo_reader, geo) = geo.into_parts();
     let (segment_reader, segment) = segment.into_parts();
-    give_both_back(alloc, words, (geo_reader, segment_reader), file_store, end)?;
+    give_both_back(alloc, words, (geo_reader, segment_reader), file_store)?;
     let texts = CensusTexts {
         geo,
         segment,
-        notes,
+        notes: read_notes,
     };
-    named_read(alloc, read, texts, end)
+    named_read(alloc, read, texts, notes)
 }
 
 /// Returns the census blocks that were read, or the refusal of the first fault. `texts` is what was kept of the files.
@@ -183,7 +193,7 @@ fn blocks_read(
     alloc: Global,
     read: Result<Vec<Block>, Pl94Fault>,
     texts: CensusTexts,
-    end: &mut End,
+    notes: &mut Notes,
 ) -> Result<Vec<Block>, Refusal>
     ensures course { (state : ℕ) (geo segment : Given) (now : History)
         → OfTexts (λ g s. GivesUnless IsPl94Memory (λ v. v.items) read (block_list g s state)) geo segment
@@ -193,8 +203,8 @@ fn blocks_read(
     match read {
         Ok(blocks) => Ok(blocks),
         Err(fault) => {
-            note_fault(texts, fault.file, FileFault::Census(fault), end);
-            Err(refuse_file(alloc, fault))
+            let refused = refused_of(texts, fault.file, notes);
+            Err(refuse_file(alloc, fault, refused))
         }
     }
 }
@@ -204,7 +214,7 @@ pub(crate) fn load_blocks<H: FileStore>(
     alloc: Global,
     words: CommonWords<'_>,
     file_store: &mut H,
-    end: &mut End,
+    notes: &mut Notes,
 ) -> Result<Vec<Block>, Refusal>
     requires { words.state ≤ 99 }
     ensures course { Comes (λ v. v.items) result (blocks_of (H.contents file_store.old) words.entry (H.history file_store.old) (H.history file_store.new)) }
@@ -213,18 +223,18 @@ pub(crate) fn load_blocks<H: FileStore>(
     ensures same { H.contents file_store.new ≡ H.contents file_store.old }
     ensures kept { H.stored file_store.new ≡ H.stored file_store.old }
 {
-    let (geo, segment) = open_both(alloc, words, file_store, end)?;
+    let (geo, segment) = open_both(alloc, words, file_store)?;
     let mut geo = HeadReader::new(alloc, geo);
     let mut segment = HeadReader::new(alloc, segment);
-    let mut notes = CensusNotes::new(alloc);
-    let read = read_blocks_from(alloc, &mut geo, &mut segment, words.state, &mut notes);
+    let mut read_notes = CensusNotes::new(alloc);
+    let read = read_blocks_from(alloc, &mut geo, &mut segment, words.state, &mut read_notes);
     let (geo_reader, geo) = geo.into_parts();
     let (segment_reader, segment) = segment.into_parts();
-    give_both_back(alloc, words, (geo_reader, segment_reader), file_store, end)?;
+    give_both_back(alloc, words, (geo_reader, segment_reader), file_store)?;
     let texts = CensusTexts {
         geo,
         segment,
-        notes,
+        notes: read_notes,
     };
-    blocks_read(alloc, read, texts, end)
+    blocks_read(alloc, read, texts, notes)
 }

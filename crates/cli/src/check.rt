@@ -7,57 +7,35 @@ ghost use Rattle.cli_runs.specs.{CheckCourse.check_course, Storing.HasStored, Ru
 ghost use Rattle.cli_runs.specs.Texts.{reported_of, tabled_of};
 ghost use Rattle.cli.specs.Streams.{checked_file};
 
-use crate::end::{End, Ending, FileOption};
-use crate::fault_text::FaultText;
 use crate::head_reader::HeadReader;
+use crate::notes::Notes;
 use crate::problem::load_tabled_problem;
 use crate::readers::{give_one_back, open};
 use crate::storing::store_reported;
 use certificate_checker::CheckStop;
-use cli_answers::{Refusal, RunAnswer};
+use cli_answers::{FaultText, FileOption, Refusal, RunAnswer, Subject};
 use cli_file_stores::FileStore;
-use cli_runs::{Checked, Reported, Tabled, check_from_and_report};
+use cli_runs::{Reported, Tabled, check_from_and_report};
 use cli_words::{CertificateWords, CheckWords, CommandWords};
 use county_problem::Problem;
-use state_judge::CheckFault;
 use std::alloc::Global;
 
-/// Returns the ending of a check that found no fault and answers `status`.
-fn unrefuted(status: u8) -> Ending {
-    match status {
-        0 => Ending::Done,
-        1 => Ending::Impossible,
-        _ => Ending::Budget,
-    }
-}
-
-/// Returns the ending of a check that found `fault`, if any, and answers `status`.
-fn verdict(
-    fault: Option<(CheckFault, u64)>,
-    status: u8,
-    text: FaultText,
-    problem: Problem,
-) -> Ending {
-    match fault {
-        Some((fault, line)) => Ending::NoCertificate(fault, line, text, problem),
-        None => unrefuted(status),
-    }
-}
-
-/// Returns what a check said, and notes how it ended. If the check said nothing, returns `Memory`.
+/// Returns what a check said of the certificate with this `text`. If the check said nothing, returns `Memory`.
 fn said(
-    checked: Result<Checked, CheckStop>,
+    checked: Result<Reported, CheckStop>,
     text: FaultText,
     problem: Problem,
-    end: &mut End,
 ) -> Result<Reported, Refusal>
-    ensures { MatchResult result (λ r. IsOkAnd checked (λ c. c.reported ≡ r)) (λ refusal. refusal ≡ Refusal.Memory) }
+    ensures { MatchResult result (λ r. IsOkAnd checked (λ c. reported_of c ≡ reported_of r)) (λ refusal. refusal ≡ Refusal.Memory) }
 {
     match checked {
-        Ok(checked) => {
-            let status = checked.reported.answer.status;
-            end.note(verdict(checked.fault, status, text, problem));
-            Ok(checked.reported)
+        Ok(mut reported) => {
+            reported.answer.subject = Some(Subject {
+                problem,
+                grouping: None,
+                certificate: Some(text),
+            });
+            Ok(reported)
         }
         Err(_) => Err(Refusal::Memory),
     }
@@ -69,20 +47,19 @@ fn check_file<H: FileStore>(
     words: CertificateWords<'_>,
     tabled: Tabled,
     file_store: &mut H,
-    end: &mut End,
 ) -> Result<Reported, Refusal>
     ensures course { Comes reported_of result (checked_file (H.contents file_store.old) words.entry (tabled_of tabled) (H.history file_store.old) (H.history file_store.new)) }
     ensures same { H.contents file_store.new ≡ H.contents file_store.old }
     ensures kept { H.stored file_store.new ≡ H.stored file_store.old }
 {
     let (option, name) = (FileOption::Certificate, words.certificate);
-    let reader = open(alloc, option, name, file_store, end)?;
+    let reader = open(alloc, option, name, file_store)?;
     let mut source = HeadReader::new(alloc, reader);
     let mut line = Vec::new(alloc);
     let checked = check_from_and_report(alloc, &tabled, &mut source, words.budget, &mut line);
     let (reader, head) = source.into_parts();
-    give_one_back(alloc, option, name, reader, file_store, end)?;
-    said(checked, FaultText::Read { head, line }, tabled.problem, end)
+    give_one_back(alloc, option, name, reader, file_store)?;
+    said(checked, FaultText::Read { head, line }, tabled.problem)
 }
 
 /// Returns the verdict on the certificate of a file, before anything is stored.
@@ -90,15 +67,15 @@ fn check_files<H: FileStore>(
     alloc: Global,
     words: CheckWords<'_>,
     file_store: &mut H,
-    end: &mut End,
+    notes: &mut Notes,
 ) -> Result<Reported, Refusal>
     requires { words.check.problem.common.state ≤ 99 }
     ensures course { Comes reported_of result (check_course (H.contents file_store.old) words.entry (H.history file_store.old) (H.history file_store.new)) }
     ensures same { H.contents file_store.new ≡ H.contents file_store.old }
     ensures kept { H.stored file_store.new ≡ H.stored file_store.old }
 {
-    let tabled = load_tabled_problem(alloc, words.check.problem, words.table, file_store, end)?;
-    check_file(alloc, words.check, tabled, file_store, end)
+    let tabled = load_tabled_problem(alloc, words.check.problem, words.table, file_store, notes)?;
+    check_file(alloc, words.check, tabled, file_store)
 }
 
 /// Returns the verdict on a certificate. The problem is built before the certificate is opened. If a grouping is best,
@@ -107,13 +84,13 @@ pub(crate) fn check<H: FileStore>(
     alloc: Global,
     words: CheckWords<'_>,
     file_store: &mut H,
-    end: &mut End,
+    notes: &mut Notes,
 ) -> Result<RunAnswer, Refusal>
     requires { words.check.problem.common.state ≤ 99 }
     ensures { (stored : List NamedFile)
         × HasStored (H.contents file_store.old) (H.contents file_store.new) (H.stored file_store.old) (H.stored file_store.new) stored
         × CommandRun (H.contents file_store.old) (CommandWords.Check words.entry) (H.history file_store.old) (H.history file_store.new) stored (said_by result) }
 {
-    let reported = check_files(alloc, words, file_store, end)?;
-    store_reported(alloc, words.table, reported, file_store, end)
+    let reported = check_files(alloc, words, file_store, notes)?;
+    store_reported(alloc, words.table, reported, file_store, notes)
 }

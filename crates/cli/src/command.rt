@@ -13,16 +13,17 @@ use crate::audit::audit;
 use crate::board::board;
 use crate::check::check;
 use crate::desk::desk;
-use crate::end::{End, Ending};
+use crate::ended_run::EndedRun;
 use crate::judge::judge;
 use crate::list::list;
+use crate::notes::Notes;
 use crate::piece::piece;
 use crate::recording::answer_as_asked;
 use crate::share::share;
 use crate::size::size;
 use crate::solve::solve;
 use branch_bound::{NoWatcher, Watcher};
-use cli_answers::{MEMORY, Refusal, RunAnswer};
+use cli_answers::{MEMORY, Refusal, RunAnswer, RunOutcome};
 use cli_file_stores::{FileStore, Sink};
 use cli_words::{CommandWords, WordsEnd, parse};
 use std::alloc::{AllocError, Global};
@@ -36,7 +37,7 @@ fn command_end<H: FileStore, W: Sink, V: Watcher>(
     file_store: &mut H,
     out: &mut W,
     written: &mut Written,
-    end: &mut End,
+    notes: &mut Notes,
     watcher: &mut V,
 ) -> Result<RunAnswer, Refusal>
     requires { HasState command }
@@ -46,16 +47,16 @@ fn command_end<H: FileStore, W: Sink, V: Watcher>(
         × CommandRun (H.contents file_store.old) command.entry (H.history file_store.old) (H.history file_store.new) stored (behind text (said_by result)) }
 {
     match command {
-        CommandWords::Size(words) => size(alloc, words, file_store, end),
-        CommandWords::Judge(words) => judge(alloc, words, file_store, end),
-        CommandWords::Solve(words) => solve(alloc, words, file_store, end, watcher),
-        CommandWords::Check(words) => check(alloc, words, file_store, end),
-        CommandWords::Audit(words) => audit(alloc, words, file_store, end),
-        CommandWords::List(words) => list(alloc, words, file_store, end),
-        CommandWords::Share(words) => share(alloc, words, file_store, end),
-        CommandWords::Piece(words) => piece(alloc, words, file_store, end),
-        CommandWords::Board(words) => board(alloc, words, file_store, out, written, end),
-        CommandWords::Desk(words) => desk(alloc, words, file_store, out, written, end),
+        CommandWords::Size(words) => size(alloc, words, file_store, notes),
+        CommandWords::Judge(words) => judge(alloc, words, file_store, notes),
+        CommandWords::Solve(words) => solve(alloc, words, file_store, notes, watcher),
+        CommandWords::Check(words) => check(alloc, words, file_store, notes),
+        CommandWords::Audit(words) => audit(alloc, words, file_store, notes),
+        CommandWords::List(words) => list(alloc, words, file_store, notes),
+        CommandWords::Share(words) => share(alloc, words, file_store, notes),
+        CommandWords::Piece(words) => piece(alloc, words, file_store, notes),
+        CommandWords::Board(words) => board(alloc, words, file_store, out, written, notes),
+        CommandWords::Desk(words) => desk(alloc, words, file_store, out, written, notes),
     }
 }
 
@@ -67,7 +68,7 @@ pub(crate) fn command_answer<H: FileStore, W: Sink, V: Watcher>(
     file_store: &mut H,
     out: &mut W,
     written: &mut Written,
-    end: &mut End,
+    notes: &mut Notes,
     watcher: &mut V,
 ) -> Result<RunAnswer, AllocError>
     requires { HasState command }
@@ -76,38 +77,36 @@ pub(crate) fn command_answer<H: FileStore, W: Sink, V: Watcher>(
         × HasWritten W.contents W.is_failed out.old written.old out.new written.new text
         × CommandRun (H.contents file_store.old) command.entry (H.history file_store.old) (H.history file_store.new) stored (behind text (said_of result)) }
 {
-    match command_end(alloc, command, file_store, out, written, end, watcher) {
+    match command_end(alloc, command, file_store, out, written, notes, watcher) {
         Ok(answer) => Ok(answer),
         Err(Refusal::Shown(answer)) => Ok(answer),
-        Err(Refusal::Memory) => {
-            end.note(Ending::Memory);
-            Err(AllocError)
-        }
+        Err(Refusal::Memory) => Err(AllocError),
     }
+}
+
+/// Returns the text and the status of the answer to words that give no command.
+fn end_text(alloc: Global, words_end: &WordsEnd) -> Result<(Vec<u8>, u8), AllocError>
+    ensures { IfOk result (λ r. IsEndAnswer words_end.now (record { text = r.0.items; status = r.1 })) }
+{
+    let (text, status) = match words_end {
+        WordsEnd::Help(text) | WordsEnd::Version(text) => (text.as_bytes(), 0),
+        WordsEnd::Usage(text) => (text.as_bytes(), 2),
+        WordsEnd::Memory => (MEMORY, 5),
+    };
+    Ok((Vec::from_slice(alloc, text)?, status))
 }
 
 /// Returns the answer to words that give no command.
-fn end_answer(alloc: Global, words_end: &WordsEnd) -> Result<RunAnswer, AllocError>
-    ensures { IfOk result (λ a. IsEndAnswer words_end.now (answer_of a)) }
-{
-    match words_end {
-        WordsEnd::Help(text) | WordsEnd::Version(text) => RunAnswer::new(alloc, text.as_bytes(), 0),
-        WordsEnd::Usage(text) => RunAnswer::new(alloc, text.as_bytes(), 2),
-        WordsEnd::Memory => RunAnswer::new(alloc, MEMORY, 5),
-    }
-}
-
-/// Returns the answer to words that give no command, and notes them as the end of the run.
-fn words_end_answer(
-    alloc: Global,
-    words_end: WordsEnd,
-    end: &mut End,
-) -> Result<RunAnswer, AllocError>
+fn words_end_answer(alloc: Global, words_end: WordsEnd) -> Result<RunAnswer, AllocError>
     ensures { IfOk result (λ a. IsEndAnswer words_end (answer_of a)) }
 {
-    let answer = end_answer(alloc, &words_end)?;
-    end.note(Ending::Words(words_end));
-    Ok(answer)
+    let (text, status) = end_text(alloc, &words_end)?;
+    Ok(RunAnswer {
+        text,
+        status,
+        outcome: RunOutcome::Words(words_end),
+        subject: None,
+    })
 }
 
 /// Parses `words`, runs their command and returns the answer. Returns `AllocError` if memory was refused. What `board`
@@ -118,7 +117,7 @@ pub(crate) fn words_answer<H: FileStore, W: Sink, V: Watcher>(
     file_store: &mut H,
     out: &mut W,
     written: &mut Written,
-    end: &mut End,
+    notes: &mut Notes,
     watcher: &mut V,
 ) -> Result<RunAnswer, AllocError>
     requires { IsFresh written.old }
@@ -130,10 +129,10 @@ pub(crate) fn words_answer<H: FileStore, W: Sink, V: Watcher>(
     match parse(alloc, words) {
         Ok(command) => {
             answer_as_asked(
-                alloc, words, command, file_store, out, written, end, watcher,
+                alloc, words, command, file_store, out, written, notes, watcher,
             )
         }
-        Err(words_end) => words_end_answer(alloc, words_end, end),
+        Err(words_end) => words_end_answer(alloc, words_end),
     }
 }
 
@@ -159,37 +158,28 @@ fn deliver_rest<W: Sink>(out: &mut W, written: &Written, text: &[u8], status: u8
     deliver(out, text, status)
 }
 
-/// Writes an answer behind what was `written`, or the line that says that memory was refused. Returns the status, or 5
-/// if a write failed.
-fn deliver_said<W: Sink>(
-    out: &mut W,
-    written: &Written,
-    said: Result<RunAnswer, AllocError>,
-    end: &mut End,
-) -> u8
+/// Writes the answer that was `said` behind what was `written`, or the line that says that memory was refused. Returns
+/// the status, or 5 if a write failed.
+fn deliver_said<W: Sink>(out: &mut W, written: &Written, said: &Result<RunAnswer, AllocError>) -> u8
     ensures { (begun : W) (fresh : Written) (front : List ℕ) → IsFresh fresh
         → HasWritten W.contents W.is_failed begun fresh out.old written.now front
-        → Delivers (W.is_failed out.new) (W.contents begun) (W.contents out.new) (behind front (said_of said)) result }
+        → Delivers (W.is_failed out.new) (W.contents begun) (W.contents out.new) (behind front (said_of said.now)) result }
 {
     match said {
-        Ok(answer) => {
-            let status = deliver_rest(out, written, &answer.text, answer.status);
-            end.note_answer(answer.text);
-            status
-        }
+        Ok(answer) => deliver_rest(out, written, &answer.text, answer.status),
         Err(AllocError) => deliver_rest(out, written, MEMORY, 5),
     }
 }
 
-/// Runs one command, and returns the exit status and how the run ended. `watcher` is told how far a search is. All that
+/// Runs one command, and returns the exit status and the run that has ended. `watcher` is told how far a search is. All that
 /// `run` promises holds of it and of its status, for each watcher.
-pub fn run_with_end<H: FileStore, W: Sink, V: Watcher>(
+pub fn run_with_notes<H: FileStore, W: Sink, V: Watcher>(
     alloc: Global,
     words: &[&str],
     file_store: &mut H,
     out: &mut W,
     watcher: &mut V,
-) -> (u8, End)
+) -> (u8, EndedRun)
 
     // The answer is that of the steps of the words' command, its files are stored, and its text is written. If the
     // status is 0, 1 or 3, this answer tells of the machine's files what the command promises.
@@ -199,7 +189,7 @@ pub fn run_with_end<H: FileStore, W: Sink, V: Watcher>(
         × RunTells (texts words.now) (H.history file_store.old) (H.history file_store.new) a
         × Delivers (W.is_failed out.new) (W.contents out.old) (W.contents out.new) a result.0 }
 {
-    let mut end = End::new(alloc);
+    let mut notes = Notes::new(alloc);
     let mut written = Written::new(None);
     let said = words_answer(
         alloc,
@@ -207,11 +197,11 @@ pub fn run_with_end<H: FileStore, W: Sink, V: Watcher>(
         file_store,
         out,
         &mut written,
-        &mut end,
+        &mut notes,
         watcher,
     );
-    let status = deliver_said(out, &written, said, &mut end);
-    (status, end)
+    let status = deliver_said(out, &written, &said);
+    (status, EndedRun::of_words(said, notes))
 }
 
 /// Runs one command and returns its exit status. `words` are those after the program's name. The answer is composed
@@ -255,5 +245,5 @@ pub fn run<H: FileStore, W: Sink>(
         × RunTells (texts words.now) (H.history file_store.old) (H.history file_store.new) a
         × Delivers (W.is_failed out.new) (W.contents out.old) (W.contents out.new) a result }
 {
-    run_with_end(alloc, words, file_store, out, &mut NoWatcher).0
+    run_with_notes(alloc, words, file_store, out, &mut NoWatcher).0
 }

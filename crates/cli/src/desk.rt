@@ -9,11 +9,13 @@ ghost use Rattle.cli_runs.specs.Storing.{HasStored};
 ghost use Rattle.written_output.specs.Writing.{HasWritten};
 ghost use Rattle.cli.specs.GoingOn.{ProvesBy};
 
-use crate::end::{End, Ending, FileFault, FileOption};
+use crate::notes::Notes;
 use crate::problem::load_problem;
-use crate::readers::{open, refuse_named};
+use crate::readers::open;
 use certificate_lines::TextFault;
-use cli_answers::{Refusal, RunAnswer, refuse_pieces};
+use cli_answers::{
+    FaultText, FileOption, Refusal, RefusedFile, RunAnswer, RunOutcome, refuse_load, refuse_pieces,
+};
 use cli_file_stores::{FileStore, Sink};
 use cli_words::{CommandWords, DeskWords, STANDARD_INPUT};
 use county_problem::Problem;
@@ -21,24 +23,28 @@ use desk_server::prove_pieces;
 use std::alloc::Global;
 use written_output::Written;
 
-/// Returns the refusal of a text that isn't one of a board, and notes it.
-fn refuse_text(alloc: Global, fault: TextFault, end: &mut End) -> Refusal
+/// Returns the refusal of a text that isn't one of a board.
+fn refuse_text(alloc: Global, fault: TextFault) -> Refusal
     ensures answer { RefusalShows (pieces_answer fault) result }
     ensures shown { IsShown result → fault.kind ≢ text.Memory }
 {
-    end.note_refused(FileOption::Input, FileFault::Pieces(fault), Vec::new(alloc));
-    refuse_pieces(alloc, fault)
+    let refused = RefusedFile {
+        option: FileOption::Input,
+        text: FaultText::Whole(Vec::new(alloc)),
+    };
+    refuse_pieces(alloc, fault, refused)
 }
 
 /// Returns the answer where the texts have ended.
-fn answer_of_end(alloc: Global, end: &mut End) -> RunAnswer
+fn answer_of_end(alloc: Global) -> RunAnswer
     ensures text { result.text.items ≡ [] }
     ensures status { result.status ≡ 0 }
 {
-    end.note(Ending::Done);
     RunAnswer {
         text: Vec::new(alloc),
         status: 0,
+        outcome: RunOutcome::Done,
+        subject: None,
     }
 }
 
@@ -50,7 +56,6 @@ fn prove_input<H: FileStore, W: Sink>(
     file_store: &mut H,
     out: &mut W,
     written: &mut Written,
-    end: &mut End,
 ) -> Result<RunAnswer, Refusal>
     ensures proved { (text : List ℕ)
         × HasWritten W.contents W.is_failed out.old written.old out.new written.new text
@@ -59,14 +64,14 @@ fn prove_input<H: FileStore, W: Sink>(
     ensures kept { H.stored file_store.new ≡ H.stored file_store.old }
 {
     let (option, name) = (FileOption::Input, STANDARD_INPUT);
-    let mut reader = open(alloc, option, name, file_store, end)?;
+    let mut reader = open(alloc, option, name, file_store)?;
     let proved = prove_pieces(alloc, problem, steps, &mut reader, out, written);
     match file_store.give_back(name, reader) {
         Ok(_) => match proved {
-            Ok(()) => Ok(answer_of_end(alloc, end)),
-            Err(fault) => Err(refuse_text(alloc, fault, end)),
+            Ok(()) => Ok(answer_of_end(alloc)),
+            Err(fault) => Err(refuse_text(alloc, fault)),
         },
-        Err(fault) => Err(refuse_named(alloc, option, name, fault, end)),
+        Err(fault) => Err(refuse_load(alloc, option, name, fault)),
     }
 }
 
@@ -77,7 +82,7 @@ fn prove_files<H: FileStore, W: Sink>(
     file_store: &mut H,
     out: &mut W,
     written: &mut Written,
-    end: &mut End,
+    notes: &mut Notes,
 ) -> Result<RunAnswer, Refusal>
     requires { words.problem.common.state ≤ 99 }
     ensures proved { (text : List ℕ)
@@ -86,8 +91,8 @@ fn prove_files<H: FileStore, W: Sink>(
     ensures same { H.contents file_store.new ≡ H.contents file_store.old }
     ensures kept { H.stored file_store.new ≡ H.stored file_store.old }
 {
-    let problem = load_problem(alloc, words.problem, file_store, end)?;
-    prove_input(alloc, &problem, words.steps, file_store, out, written, end)
+    let problem = load_problem(alloc, words.problem, file_store, notes)?;
+    prove_input(alloc, &problem, words.steps, file_store, out, written)
 }
 
 /// Proves the pieces that standard input tells, one after the other. The problem is built before. What is said of each
@@ -98,7 +103,7 @@ pub(crate) fn desk<H: FileStore, W: Sink>(
     file_store: &mut H,
     out: &mut W,
     written: &mut Written,
-    end: &mut End,
+    notes: &mut Notes,
 ) -> Result<RunAnswer, Refusal>
     requires { words.problem.common.state ≤ 99 }
     ensures { (stored : List NamedFile) × (text : List ℕ)
@@ -106,5 +111,5 @@ pub(crate) fn desk<H: FileStore, W: Sink>(
         × HasWritten W.contents W.is_failed out.old written.old out.new written.new text
         × CommandRun (H.contents file_store.old) (CommandWords.Desk words.entry) (H.history file_store.old) (H.history file_store.new) stored (behind text (said_by result)) }
 {
-    prove_files(alloc, words, file_store, out, written, end)
+    prove_files(alloc, words, file_store, out, written, notes)
 }

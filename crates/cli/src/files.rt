@@ -8,10 +8,11 @@ ghost use Rattle.cli_runs.specs.Course.{load_step};
 ghost use Rattle.cli_runs.specs.ProblemCourse.{pairs_of, pairs_in, links_in, withdrawn_in, grouping_in, links_of, withdrawn_of, adjacency_of, grouping_of};
 
 use crate::border_warnings::{note_adjacency, note_links};
-use crate::end::{End, FileFault, FileOption};
-use crate::readers::refuse_named;
+use crate::notes::Notes;
 use adjacency_reader::{Link, apply_links, read_links, read_pairs, read_withdrawn};
-use cli_answers::{InputFile, Refusal, refuse_codes};
+use cli_answers::{
+    FaultText, FileOption, InputFile, Refusal, RefusedFile, refuse_codes, refuse_load,
+};
 use cli_file_stores::FileStore;
 use cli_words::ProblemWords;
 use county_codes::{County, CountyCode, Grouping, Withdrawn, listed_codes};
@@ -24,7 +25,6 @@ pub(crate) fn load<H: FileStore>(
     option: FileOption,
     name: &str,
     file_store: &mut H,
-    end: &mut End,
 ) -> Result<Vec<u8>, Refusal>
     ensures course { Comes (λ v. v.items) result (load_step (H.contents file_store.old) name.now (H.history file_store.old) (H.history file_store.new)) }
     ensures same { H.contents file_store.new ≡ H.contents file_store.old }
@@ -32,7 +32,7 @@ pub(crate) fn load<H: FileStore>(
 {
     match file_store.load(alloc, name) {
         Ok(bytes) => Ok(bytes),
-        Err(fault) => Err(refuse_named(alloc, option, name, fault, end)),
+        Err(fault) => Err(refuse_load(alloc, option, name, fault)),
     }
 }
 
@@ -41,62 +41,69 @@ fn pairs_from(
     alloc: Global,
     listed: &[CountyCode],
     text: Vec<u8>,
-    end: &mut End,
+    notes: &mut Notes,
 ) -> Result<Vec<(CountyCode, CountyCode)>, Refusal>
     ensures { (history : History) → Comes (λ v. v.items) result (pairs_in listed.now text.items history history) }
 {
     match read_pairs(alloc, &text, listed) {
         Ok(pairs) => {
-            note_adjacency(alloc, listed, &text, &pairs, end);
+            note_adjacency(alloc, listed, &text, &pairs, notes);
             Ok(pairs)
         }
         Err(fault) => {
-            end.note_refused(FileOption::Adjacency, FileFault::Codes(fault), text);
-            Err(refuse_codes(alloc, InputFile::Adjacency, fault))
+            let refused = RefusedFile {
+                option: FileOption::Adjacency,
+                text: FaultText::Whole(text),
+            };
+            Err(refuse_codes(alloc, InputFile::Adjacency, fault, refused))
         }
     }
 }
 
 /// Reads the links in the `text` of a file.
-fn links_from(alloc: Global, text: Vec<u8>, end: &mut End) -> Result<Vec<Link>, Refusal>
+fn links_from(alloc: Global, text: Vec<u8>) -> Result<Vec<Link>, Refusal>
     ensures { (history : History) → Comes (λ v. v.items) result (links_in text.items history history) }
 {
     match read_links(alloc, &text) {
         Ok(links) => Ok(links),
         Err(fault) => {
-            end.note_refused(FileOption::Links, FileFault::Codes(fault), text);
-            Err(refuse_codes(alloc, InputFile::Links, fault))
+            let refused = RefusedFile {
+                option: FileOption::Links,
+                text: FaultText::Whole(text),
+            };
+            Err(refuse_codes(alloc, InputFile::Links, fault, refused))
         }
     }
 }
 
 /// Reads the withdrawn sets in the `text` of a file.
-fn withdrawn_from(alloc: Global, text: Vec<u8>, end: &mut End) -> Result<Vec<Withdrawn>, Refusal>
+fn withdrawn_from(alloc: Global, text: Vec<u8>) -> Result<Vec<Withdrawn>, Refusal>
     ensures { (history : History) → Comes (λ v. v.items) result (withdrawn_in text.items history history) }
 {
     match read_withdrawn(alloc, &text) {
         Ok(sets) => Ok(sets),
         Err(fault) => {
-            end.note_refused(FileOption::Withdrawn, FileFault::Codes(fault), text);
-            Err(refuse_codes(alloc, InputFile::Withdrawn, fault))
+            let refused = RefusedFile {
+                option: FileOption::Withdrawn,
+                text: FaultText::Whole(text),
+            };
+            Err(refuse_codes(alloc, InputFile::Withdrawn, fault, refused))
         }
     }
 }
 
 /// Reads the grouping in the `text` of the file of `option`.
-fn grouping_from(
-    alloc: Global,
-    option: FileOption,
-    text: Vec<u8>,
-    end: &mut End,
-) -> Result<Grouping, Refusal>
+fn grouping_from(alloc: Global, option: FileOption, text: Vec<u8>) -> Result<Grouping, Refusal>
     ensures { (history : History) → Comes (λ g. g.groups.items) result (grouping_in text.items history history) }
 {
     match read_grouping(alloc, &text) {
         Ok(grouping) => Ok(grouping),
         Err(fault) => {
-            end.note_refused(option, FileFault::Codes(fault), text);
-            Err(refuse_codes(alloc, InputFile::Grouping, fault))
+            let refused = RefusedFile {
+                option,
+                text: FaultText::Whole(text),
+            };
+            Err(refuse_codes(alloc, InputFile::Grouping, fault, refused))
         }
     }
 }
@@ -107,14 +114,14 @@ fn load_pairs<H: FileStore>(
     listed: &[CountyCode],
     name: &str,
     file_store: &mut H,
-    end: &mut End,
+    notes: &mut Notes,
 ) -> Result<Vec<(CountyCode, CountyCode)>, Refusal>
     ensures course { Comes (λ v. v.items) result (pairs_of (H.contents file_store.old) listed.now name.now (H.history file_store.old) (H.history file_store.new)) }
     ensures same { H.contents file_store.new ≡ H.contents file_store.old }
     ensures kept { H.stored file_store.new ≡ H.stored file_store.old }
 {
-    let text = load(alloc, FileOption::Adjacency, name, file_store, end)?;
-    pairs_from(alloc, listed, text, end)
+    let text = load(alloc, FileOption::Adjacency, name, file_store)?;
+    pairs_from(alloc, listed, text, notes)
 }
 
 /// Loads and reads the links of the file `name`. Returns none if no file is named.
@@ -122,7 +129,6 @@ fn load_links<H: FileStore>(
     alloc: Global,
     name: Option<&str>,
     file_store: &mut H,
-    end: &mut End,
 ) -> Result<Vec<Link>, Refusal>
     ensures course { Comes (λ v. v.items) result (links_of (H.contents file_store.old) name.entry (H.history file_store.old) (H.history file_store.new)) }
     ensures same { H.contents file_store.new ≡ H.contents file_store.old }
@@ -130,8 +136,8 @@ fn load_links<H: FileStore>(
 {
     match name {
         Some(name) => {
-            let text = load(alloc, FileOption::Links, name, file_store, end)?;
-            links_from(alloc, text, end)
+            let text = load(alloc, FileOption::Links, name, file_store)?;
+            links_from(alloc, text)
         }
         None => Ok(Vec::new(alloc)),
     }
@@ -142,7 +148,6 @@ pub(crate) fn load_withdrawn<H: FileStore>(
     alloc: Global,
     name: Option<&str>,
     file_store: &mut H,
-    end: &mut End,
 ) -> Result<Vec<Withdrawn>, Refusal>
     ensures course { Comes (λ v. v.items) result (withdrawn_of (H.contents file_store.old) name.entry (H.history file_store.old) (H.history file_store.new)) }
     ensures same { H.contents file_store.new ≡ H.contents file_store.old }
@@ -150,8 +155,8 @@ pub(crate) fn load_withdrawn<H: FileStore>(
 {
     match name {
         Some(name) => {
-            let text = load(alloc, FileOption::Withdrawn, name, file_store, end)?;
-            withdrawn_from(alloc, text, end)
+            let text = load(alloc, FileOption::Withdrawn, name, file_store)?;
+            withdrawn_from(alloc, text)
         }
         None => Ok(Vec::new(alloc)),
     }
@@ -163,16 +168,16 @@ pub(crate) fn load_adjacency<H: FileStore>(
     counties: &[County],
     words: ProblemWords<'_>,
     file_store: &mut H,
-    end: &mut End,
+    notes: &mut Notes,
 ) -> Result<Vec<(CountyCode, CountyCode)>, Refusal>
     ensures course { Comes (λ v. v.items) result (adjacency_of (H.contents file_store.old) (codes_of counties.now) words.entry (H.history file_store.old) (H.history file_store.new)) }
     ensures same { H.contents file_store.new ≡ H.contents file_store.old }
     ensures kept { H.stored file_store.new ≡ H.stored file_store.old }
 {
     let listed = listed_codes(alloc, counties)?;
-    let pairs = load_pairs(alloc, &listed, words.adjacency, file_store, end)?;
-    let links = load_links(alloc, words.links, file_store, end)?;
-    note_links(alloc, &listed, &pairs, &links, end);
+    let pairs = load_pairs(alloc, &listed, words.adjacency, file_store, notes)?;
+    let links = load_links(alloc, words.links, file_store)?;
+    note_links(alloc, &listed, &pairs, &links, notes);
     let linked = apply_links(alloc, &pairs, &links)?;
     Ok(linked)
 }
@@ -183,12 +188,11 @@ pub(crate) fn load_grouping<H: FileStore>(
     option: FileOption,
     name: &str,
     file_store: &mut H,
-    end: &mut End,
 ) -> Result<Grouping, Refusal>
     ensures course { Comes (λ g. g.groups.items) result (grouping_of (H.contents file_store.old) name.now (H.history file_store.old) (H.history file_store.new)) }
     ensures same { H.contents file_store.new ≡ H.contents file_store.old }
     ensures kept { H.stored file_store.new ≡ H.stored file_store.old }
 {
-    let text = load(alloc, option, name, file_store, end)?;
-    grouping_from(alloc, option, text, end)
+    let text = load(alloc, option, name, file_store)?;
+    grouping_from(alloc, option, text)
 }

@@ -6,14 +6,13 @@ ghost use Rattle.cli_answers.specs.Answers.{Comes, said_by};
 ghost use Rattle.cli_runs.specs.{JudgeWithCertificate.certificate_text_of, JudgeCourse.{judge_step, judge_course}};
 ghost use Rattle.cli_runs.specs.{Storing.HasStored, Run.CommandRun, Texts.{reported_of, tabled_of}};
 
-use crate::end::{End, Ending, FileOption};
-use crate::fault_text::FaultText;
 use crate::files::{load, load_grouping};
+use crate::notes::Notes;
 use crate::problem::load_tabled_problem;
 use crate::storing::store_reported;
-use cli_answers::{Refusal, RunAnswer, refuse_verdict};
+use cli_answers::{FaultText, FileOption, Refusal, RunAnswer, Subject, refuse_verdict};
 use cli_file_stores::FileStore;
-use cli_runs::{BestNotShown, Judged, Reported, Tabled, judge_and_report};
+use cli_runs::{Reported, Tabled, judge_and_report};
 use cli_words::{CommandWords, JudgeWords};
 use county_codes::Grouping;
 use county_problem::{Problem, judge as judge_grouping};
@@ -24,7 +23,6 @@ fn load_certificate<H: FileStore>(
     alloc: Global,
     name: Option<&str>,
     file_store: &mut H,
-    end: &mut End,
 ) -> Result<Option<Vec<u8>>, Refusal>
     ensures course { Comes (option_map (λ t. t.items)) result (certificate_text_of (H.contents file_store.old) name.entry (H.history file_store.old) (H.history file_store.new)) }
     ensures same { H.contents file_store.new ≡ H.contents file_store.old }
@@ -32,27 +30,23 @@ fn load_certificate<H: FileStore>(
 {
     match name {
         Some(name) => {
-            let text = load(alloc, FileOption::Certificate, name, file_store, end)?;
+            let text = load(alloc, FileOption::Certificate, name, file_store)?;
             Ok(Some(text))
         }
         None => Ok(None),
     }
 }
 
-/// Returns the ending of a run whose grouping is lawful. `best_not_shown` says why the certificate doesn't show that
-/// the grouping is best, if it doesn't.
-fn lawful_end(
-    best_not_shown: Option<BestNotShown>,
-    certificate: Option<Vec<u8>>,
-    problem: Problem,
-) -> Ending {
-    match (best_not_shown, certificate) {
-        (Some(best_not_shown), Some(text)) => Ending::NotShownBest(
-            best_not_shown,
-            FaultText::Whole(text),
-            problem,
-        ),
-        _ => Ending::Done,
+/// Returns what was judged: a lawful grouping of `problem`, by the text of a `certificate` if one was given.
+fn subject_of(problem: Problem, certificate: Option<Vec<u8>>) -> Subject {
+    let certificate = match certificate {
+        Some(text) => Some(FaultText::Whole(text)),
+        None => None,
+    };
+    Subject {
+        problem,
+        grouping: None,
+        certificate,
     }
 }
 
@@ -64,7 +58,6 @@ fn verdict(
     grouping: Grouping,
     certificate: Option<Vec<u8>>,
     budget: u64,
-    end: &mut End,
 ) -> Result<Reported, Refusal>
     ensures { (history : History)
         → Comes reported_of result (judge_step (tabled_of tabled) grouping.groups.items budget (option_map (λ t. t.items) certificate) history history) }
@@ -72,16 +65,17 @@ fn verdict(
     match judge_grouping(alloc, &tabled.problem, &grouping) {
         Ok(own) => {
             let text = certificate.as_ref();
-            let Judged {
-                reported,
-                best_not_shown,
-            } = judge_and_report(alloc, &tabled, grouping, own, text, budget)?;
-            end.note(lawful_end(best_not_shown, certificate, tabled.problem));
+            let mut reported = judge_and_report(alloc, &tabled, grouping, own, text, budget)?;
+            reported.answer.subject = Some(subject_of(tabled.problem, certificate));
             Ok(reported)
         }
         Err(fault) => {
-            end.note_unlawful(&fault, tabled.problem, grouping);
-            Err(refuse_verdict(alloc, fault))
+            let subject = Subject {
+                problem: tabled.problem,
+                grouping: Some(grouping),
+                certificate: None,
+            };
+            Err(refuse_verdict(alloc, fault, subject))
         }
     }
 }
@@ -91,17 +85,17 @@ fn judge_files<H: FileStore>(
     alloc: Global,
     words: JudgeWords<'_>,
     file_store: &mut H,
-    end: &mut End,
+    notes: &mut Notes,
 ) -> Result<Reported, Refusal>
     requires { words.problem.common.state ≤ 99 }
     ensures course { Comes reported_of result (judge_course (H.contents file_store.old) words.entry (H.history file_store.old) (H.history file_store.new)) }
     ensures same { H.contents file_store.new ≡ H.contents file_store.old }
     ensures kept { H.stored file_store.new ≡ H.stored file_store.old }
 {
-    let tabled = load_tabled_problem(alloc, words.problem, words.table, file_store, end)?;
-    let grouping = load_grouping(alloc, FileOption::Grouping, words.grouping, file_store, end)?;
-    let certificate = load_certificate(alloc, words.certificate, file_store, end)?;
-    verdict(alloc, tabled, grouping, certificate, words.budget, end)
+    let tabled = load_tabled_problem(alloc, words.problem, words.table, file_store, notes)?;
+    let grouping = load_grouping(alloc, FileOption::Grouping, words.grouping, file_store)?;
+    let certificate = load_certificate(alloc, words.certificate, file_store)?;
+    verdict(alloc, tabled, grouping, certificate, words.budget)
 }
 
 /// Judges whether a grouping is lawful, and with a certificate whether it is best. The problem is built first. Then the
@@ -111,13 +105,13 @@ pub(crate) fn judge<H: FileStore>(
     alloc: Global,
     words: JudgeWords<'_>,
     file_store: &mut H,
-    end: &mut End,
+    notes: &mut Notes,
 ) -> Result<RunAnswer, Refusal>
     requires { words.problem.common.state ≤ 99 }
     ensures { (stored : List NamedFile)
         × HasStored (H.contents file_store.old) (H.contents file_store.new) (H.stored file_store.old) (H.stored file_store.new) stored
         × CommandRun (H.contents file_store.old) (CommandWords.Judge words.entry) (H.history file_store.old) (H.history file_store.new) stored (said_by result) }
 {
-    let reported = judge_files(alloc, words, file_store, end)?;
-    store_reported(alloc, words.table, reported, file_store, end)
+    let reported = judge_files(alloc, words, file_store, notes)?;
+    store_reported(alloc, words.table, reported, file_store, notes)
 }

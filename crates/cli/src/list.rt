@@ -7,17 +7,15 @@ ghost use Rattle.cli_runs.specs.{Storing.{HasStored, store_steps}, ListCourse.{l
 ghost use Rattle.cli_runs.specs.{Run.CommandRun, Texts.listed_of};
 ghost use Rattle.cli.specs.Ends.{refusal_by};
 
-use crate::end::{End, Ending, FileOption};
-use crate::fault_text::FaultText;
 use crate::files::{load, load_grouping};
+use crate::notes::Notes;
 use crate::problem::load_tabled_problem;
 use crate::storing::store_named;
-use cli_answers::{Refusal, RunAnswer};
+use cli_answers::{FaultText, FileOption, Refusal, RunAnswer, Subject};
 use cli_file_stores::FileStore;
-use cli_runs::{Asked, ListEnd, Listed, list_and_report};
+use cli_runs::{Asked, Listed, list_and_report};
 use cli_words::{CommandWords, ListWords, StoredWords};
 use county_codes::Grouping;
-use county_problem::Problem;
 use std::alloc::Global;
 
 /// Returns the number of the grouping to store, if one is to be stored.
@@ -40,30 +38,11 @@ fn out_in<'a>(words: Option<StoredWords<'a>>) -> Option<&'a str>
     }
 }
 
-/// Returns the ending of a run of `list` over the certificate `text`.
-fn listed_end(end: ListEnd, text: Vec<u8>, problem: Problem) -> Ending {
-    match end {
-        ListEnd::All => Ending::Done,
-        ListEnd::Unlisted(count) => Ending::Unlisted(count),
-        ListEnd::NoSuchGrouping(count) => Ending::NoSuchGrouping(count),
-        ListEnd::Open(_, line) => Ending::ListOpen(line),
-        ListEnd::Impossible => Ending::Impossible,
-        ListEnd::NoCertificate(fault, line) => Ending::NoCertificate(
-            fault,
-            line,
-            FaultText::Whole(text),
-            problem,
-        ),
-        ListEnd::Budget => Ending::Budget,
-    }
-}
-
 /// Loads the grouping whose number is asked for, if `name` is given.
 fn load_which<H: FileStore>(
     alloc: Global,
     name: Option<&str>,
     file_store: &mut H,
-    end: &mut End,
 ) -> Result<Option<Grouping>, Refusal>
     ensures course { Comes (option_map (λ g. g.groups.items)) result (which_of (H.contents file_store.old) name.entry (H.history file_store.old) (H.history file_store.new)) }
     ensures same { H.contents file_store.new ≡ H.contents file_store.old }
@@ -71,7 +50,7 @@ fn load_which<H: FileStore>(
 {
     match name {
         Some(name) => {
-            let grouping = load_grouping(alloc, FileOption::Which, name, file_store, end)?;
+            let grouping = load_grouping(alloc, FileOption::Which, name, file_store)?;
             Ok(Some(grouping))
         }
         None => Ok(None),
@@ -83,26 +62,35 @@ fn list_files<H: FileStore>(
     alloc: Global,
     words: ListWords<'_>,
     file_store: &mut H,
-    end: &mut End,
+    notes: &mut Notes,
 ) -> Result<Listed, Refusal>
     requires { words.check.problem.common.state ≤ 99 }
     ensures course { Comes listed_of result (list_course (H.contents file_store.old) words.entry (H.history file_store.old) (H.history file_store.new)) }
     ensures same { H.contents file_store.new ≡ H.contents file_store.old }
     ensures kept { H.stored file_store.new ≡ H.stored file_store.old }
 {
-    let tabled = load_tabled_problem(alloc, words.check.problem, words.groupings, file_store, end)?;
-    let which = load_which(alloc, words.which, file_store, end)?;
+    let tabled = load_tabled_problem(
+        alloc,
+        words.check.problem,
+        words.groupings,
+        file_store,
+        notes,
+    )?;
+    let which = load_which(alloc, words.which, file_store)?;
     let text = load(
         alloc,
         FileOption::Certificate,
         words.check.certificate,
         file_store,
-        end,
     )?;
     let number = number_in(words.stored);
     let asked = Asked { number, which };
-    let listed = list_and_report(alloc, &tabled, &text, words.check.budget, &asked)?;
-    end.note(listed_end(listed.end, text, tabled.problem));
+    let mut listed = list_and_report(alloc, &tabled, &text, words.check.budget, &asked)?;
+    listed.answer.subject = Some(Subject {
+        problem: tabled.problem,
+        grouping: None,
+        certificate: Some(FaultText::Whole(text)),
+    });
     Ok(listed)
 }
 
@@ -113,7 +101,7 @@ fn store_listed<H: FileStore>(
     words: ListWords<'_>,
     listed: &Listed,
     file_store: &mut H,
-    end: &mut End,
+    notes: &mut Notes,
 ) -> Result<(), Refusal>
     ensures { (stored : List NamedFile)
         × HasStored (H.contents file_store.old) (H.contents file_store.new) (H.stored file_store.old) (H.stored file_store.new) stored
@@ -126,7 +114,7 @@ fn store_listed<H: FileStore>(
         out,
         listed.grouping.as_ref(),
         file_store,
-        end,
+        notes,
     )?;
     store_named(
         alloc,
@@ -134,7 +122,7 @@ fn store_listed<H: FileStore>(
         words.groupings,
         listed.table.as_ref(),
         file_store,
-        end,
+        notes,
     )
 }
 
@@ -145,18 +133,18 @@ pub(crate) fn list<H: FileStore>(
     alloc: Global,
     words: ListWords<'_>,
     file_store: &mut H,
-    end: &mut End,
+    notes: &mut Notes,
 ) -> Result<RunAnswer, Refusal>
     requires { words.check.problem.common.state ≤ 99 }
     ensures { (stored : List NamedFile)
         × HasStored (H.contents file_store.old) (H.contents file_store.new) (H.stored file_store.old) (H.stored file_store.new) stored
         × CommandRun (H.contents file_store.old) (CommandWords.List words.entry) (H.history file_store.old) (H.history file_store.new) stored (said_by result) }
 {
-    let listed = list_files(alloc, words, file_store, end)?;
-    match store_listed(alloc, words, &listed, file_store, end) {
+    let listed = list_files(alloc, words, file_store, notes)?;
+    match store_listed(alloc, words, &listed, file_store, notes) {
         Ok(()) => Ok(listed.answer),
         Err(refusal) => {
-            end.note_report(listed.answer.text);
+            notes.note_report(listed.answer.text);
             Err(refusal)
         }
     }

@@ -7,26 +7,17 @@ ghost use Rattle.cli_answers.specs.Answers.{answer_of, Comes};
 ghost use Rattle.cli_runs.specs.PieceCourse.{said_step, piece_course};
 
 use crate::board_files::load_named_events;
-use crate::end::{End, Ending, FileOption};
 use crate::files::load_grouping;
+use crate::notes::Notes;
 use crate::problem::load_problem;
-use cli_answers::{Refusal, RunAnswer, refuse_board};
+use cli_answers::{FileOption, Refusal, RunAnswer, refuse_board};
 use cli_file_stores::FileStore;
-use cli_runs::{PieceEnd, piece_and_report};
+use cli_runs::piece_and_report;
 use cli_words::PieceWords;
 use county_codes::Grouping;
 use county_problem::Problem;
 use share_board::Event;
 use std::alloc::Global;
-
-/// Returns the ending of a run of `piece` that came to `end`.
-fn piece_end(end: PieceEnd) -> Ending {
-    match end {
-        PieceEnd::Answered => Ending::Done,
-        PieceEnd::Open(is_part) => Ending::PieceOpen(is_part),
-        PieceEnd::NoSuchPiece => Ending::NoSuchPiece,
-    }
-}
 
 /// Returns what the solver answers for the piece, on a board that takes `events`.
 fn proved(
@@ -35,20 +26,13 @@ fn proved(
     grouping: &Grouping,
     events: Vec<Event>,
     words: PieceWords<'_>,
-    end: &mut End,
 ) -> Result<RunAnswer, Refusal>
     ensures { (history : History)
         → Comes answer_of result (said_step problem.now grouping.now.groups.items words.entry (map event_of events.items) history history) }
 {
     match piece_and_report(alloc, problem, grouping, words, events) {
-        Ok(said) => {
-            end.note(piece_end(said.end));
-            Ok(said.answer)
-        }
-        Err(fault) => {
-            end.note_board(&fault);
-            Err(refuse_board(alloc, fault))
-        }
+        Ok(answer) => Ok(answer),
+        Err(fault) => Err(refuse_board(alloc, fault)),
     }
 }
 
@@ -58,28 +42,20 @@ pub(crate) fn piece<H: FileStore>(
     alloc: Global,
     words: PieceWords<'_>,
     file_store: &mut H,
-    end: &mut End,
+    notes: &mut Notes,
 ) -> Result<RunAnswer, Refusal>
     requires { words.board.problem.common.state ≤ 99 }
     ensures course { Comes answer_of result (piece_course (H.contents file_store.old) words.entry (H.history file_store.old) (H.history file_store.new)) }
     ensures same { H.contents file_store.new ≡ H.contents file_store.old }
     ensures kept { H.stored file_store.new ≡ H.stored file_store.old }
 {
-    let problem = load_problem(alloc, words.board.problem, file_store, end)?;
+    let problem = load_problem(alloc, words.board.problem, file_store, notes)?;
     let grouping = load_grouping(
         alloc,
         FileOption::Grouping,
         words.board.grouping,
         file_store,
-        end,
     )?;
-    let events = load_named_events(
-        alloc,
-        words.events,
-        words.board.round,
-        &problem,
-        file_store,
-        end,
-    )?;
-    proved(alloc, &problem, &grouping, events, words, end)
+    let events = load_named_events(alloc, words.events, words.board.round, &problem, file_store)?;
+    proved(alloc, &problem, &grouping, events, words)
 }

@@ -5,23 +5,25 @@ ghost use Rattle.cli_file_stores.specs.History.{History};
 ghost use Rattle.cli_answers.specs.Answers.{Comes};
 ghost use Rattle.cli_runs.specs.PlanCourse.{assignments_in, plan_assignments};
 
-use crate::end::{End, FileFault, FileOption};
 use crate::files::load;
 use baf_auditor::{Assignment, read_assignments};
-use cli_answers::{Refusal, refuse_assignments};
+use cli_answers::{FaultText, FileOption, Refusal, RefusedFile, refuse_assignments};
 use cli_file_stores::FileStore;
 use std::alloc::Global;
 
 /// Reads the assignments in the `text` of a file.
-fn assignments_from(alloc: Global, text: Vec<u8>, end: &mut End) -> Result<Vec<Assignment>, Refusal>
+fn assignments_from(alloc: Global, text: Vec<u8>) -> Result<Vec<Assignment>, Refusal>
     ensures course { (history : History) → Comes (λ v. v.items) result (assignments_in text.items history history) }
     ensures few { IfOk result (λ v. vec_len v ≤ 4000000) }
 {
     match read_assignments(alloc, &text) {
         Ok(lines) => Ok(lines),
         Err(fault) => {
-            end.note_refused(FileOption::Assignments, FileFault::Assignments(fault), text);
-            Err(refuse_assignments(alloc, fault))
+            let refused = RefusedFile {
+                option: FileOption::Assignments,
+                text: FaultText::Whole(text),
+            };
+            Err(refuse_assignments(alloc, fault, refused))
         }
     }
 }
@@ -31,13 +33,12 @@ pub(crate) fn load_assignments<H: FileStore>(
     alloc: Global,
     name: &str,
     file_store: &mut H,
-    end: &mut End,
 ) -> Result<Vec<Assignment>, Refusal>
     ensures course { Comes (λ v. v.items) result (plan_assignments (H.contents file_store.old) name.now (H.history file_store.old) (H.history file_store.new)) }
     ensures few { IfOk result (λ v. vec_len v ≤ 4000000) }
     ensures same { H.contents file_store.new ≡ H.contents file_store.old }
     ensures kept { H.stored file_store.new ≡ H.stored file_store.old }
 {
-    let text = load(alloc, FileOption::Assignments, name, file_store, end)?;
-    assignments_from(alloc, text, end)
+    let text = load(alloc, FileOption::Assignments, name, file_store)?;
+    assignments_from(alloc, text)
 }

@@ -7,8 +7,8 @@ ghost use Rattle.cli_runs.specs.ProblemCourse.{build_step, problem_over, problem
 ghost use Rattle.cli_runs.specs.{TableCourse.{named_problem_in, tabled_problem_in}, Texts.tabled_of};
 
 use crate::census_files::{load_counties, load_named_counties, without_names};
-use crate::end::End;
 use crate::files::{load_adjacency, load_withdrawn};
+use crate::notes::Notes;
 use crate::withdrawn_warnings::note_withdrawn;
 use cli_answers::{Refusal, refuse_problem};
 use cli_file_stores::FileStore;
@@ -26,17 +26,13 @@ pub(crate) fn build(
     withdrawn: &[Withdrawn],
     chamber: u16,
     window: Window,
-    end: &mut End,
 ) -> Result<Problem, Refusal>
     ensures { (history : History)
         → Comes (λ p. p) result (build_step chamber window counties.now pairs.now withdrawn.now history history) }
 {
     match Problem::build_with(alloc, counties, pairs, withdrawn, chamber, window) {
         Ok(problem) => Ok(problem),
-        Err(fault) => {
-            end.note_problem(&fault);
-            Err(refuse_problem(alloc, fault))
-        }
+        Err(fault) => Err(refuse_problem(alloc, fault)),
     }
 }
 
@@ -46,15 +42,15 @@ fn load_problem_over<H: FileStore>(
     words: ProblemWords<'_>,
     counties: &[County],
     file_store: &mut H,
-    end: &mut End,
+    notes: &mut Notes,
 ) -> Result<Problem, Refusal>
     ensures course { Comes (λ p. p) result (problem_over (H.contents file_store.old) words.entry counties.now (H.history file_store.old) (H.history file_store.new)) }
     ensures same { H.contents file_store.new ≡ H.contents file_store.old }
     ensures kept { H.stored file_store.new ≡ H.stored file_store.old }
 {
-    let pairs = load_adjacency(alloc, counties, words, file_store, end)?;
-    let withdrawn = load_withdrawn(alloc, words.withdrawn, file_store, end)?;
-    note_withdrawn(alloc, counties, &pairs, &withdrawn, words.common, end);
+    let pairs = load_adjacency(alloc, counties, words, file_store, notes)?;
+    let withdrawn = load_withdrawn(alloc, words.withdrawn, file_store)?;
+    note_withdrawn(alloc, counties, &pairs, &withdrawn, words.common, notes);
     build(
         alloc,
         counties,
@@ -62,7 +58,6 @@ fn load_problem_over<H: FileStore>(
         &withdrawn,
         words.common.chamber,
         words.common.window,
-        end,
     )
 }
 
@@ -71,15 +66,15 @@ pub(crate) fn load_problem<H: FileStore>(
     alloc: Global,
     words: ProblemWords<'_>,
     file_store: &mut H,
-    end: &mut End,
+    notes: &mut Notes,
 ) -> Result<Problem, Refusal>
     requires { words.common.state ≤ 99 }
     ensures course { Comes (λ p. p) result (problem_course (H.contents file_store.old) words.entry (H.history file_store.old) (H.history file_store.new)) }
     ensures same { H.contents file_store.new ≡ H.contents file_store.old }
     ensures kept { H.stored file_store.new ≡ H.stored file_store.old }
 {
-    let counties = load_counties(alloc, words.common, file_store, end)?;
-    load_problem_over(alloc, words, &counties, file_store, end)
+    let counties = load_counties(alloc, words.common, file_store, notes)?;
+    load_problem_over(alloc, words, &counties, file_store, notes)
 }
 
 /// Builds the problem of the files, and keeps the names of its counties. The census files are loaded and read first,
@@ -88,17 +83,17 @@ fn load_named_problem<H: FileStore>(
     alloc: Global,
     words: ProblemWords<'_>,
     file_store: &mut H,
-    end: &mut End,
+    notes: &mut Notes,
 ) -> Result<Tabled, Refusal>
     requires { words.common.state ≤ 99 }
     ensures course { Comes tabled_of result (named_problem_in (H.contents file_store.old) words.entry (H.history file_store.old) (H.history file_store.new)) }
     ensures same { H.contents file_store.new ≡ H.contents file_store.old }
     ensures kept { H.stored file_store.new ≡ H.stored file_store.old }
 {
-    let named = load_named_counties(alloc, words.common, file_store, end)?;
+    let named = load_named_counties(alloc, words.common, file_store, notes)?;
     let counties = without_names(alloc, &named)?;
-    end.note_people(&counties);
-    let problem = load_problem_over(alloc, words, &counties, file_store, end)?;
+    notes.note_people(&counties);
+    let problem = load_problem_over(alloc, words, &counties, file_store, notes)?;
     Ok(Tabled {
         problem,
         named: Some(named),
@@ -111,7 +106,7 @@ pub(crate) fn load_tabled_problem<H: FileStore>(
     words: ProblemWords<'_>,
     table: Option<&str>,
     file_store: &mut H,
-    end: &mut End,
+    notes: &mut Notes,
 ) -> Result<Tabled, Refusal>
     requires { words.common.state ≤ 99 }
     ensures course { Comes tabled_of result (tabled_problem_in (H.contents file_store.old) words.entry table.entry (H.history file_store.old) (H.history file_store.new)) }
@@ -119,9 +114,9 @@ pub(crate) fn load_tabled_problem<H: FileStore>(
     ensures kept { H.stored file_store.new ≡ H.stored file_store.old }
 {
     match table {
-        Some(_) => load_named_problem(alloc, words, file_store, end),
+        Some(_) => load_named_problem(alloc, words, file_store, notes),
         None => {
-            let problem = load_problem(alloc, words, file_store, end)?;
+            let problem = load_problem(alloc, words, file_store, notes)?;
             Ok(Tabled {
                 problem,
                 named: None,

@@ -6,15 +6,15 @@ ghost use Rattle.cli_answers.specs.Answer.{Answered};
 ghost use Rattle.cli_runs.specs.{Storing.HasStored, Run.IsRunAnswer, Headline.RunTells};
 ghost use Rattle.cli.specs.{Delivery.{Delivers, texts}, CaseRun.{IsWholeSource, IsReadAnswer, DeliversCase}};
 
-use crate::case::run_case_with_end;
-use crate::command::run_with_end;
-use crate::end::End;
+use crate::case::run_case_with_notes;
+use crate::command::run_with_notes;
+use crate::ended_run::EndedRun;
 use branch_bound::Watcher;
 use cli_file_stores::{FileStore, Sink};
 use field_lines::Source;
 use std::alloc::Global;
 
-/// Runs the program, and returns its exit status and how the run ended. With `words`, it runs their command over the
+/// Runs the program, and returns its exit status and the run that has ended. With `words`, it runs their command over the
 /// file store's files, as `run` does. Without any, it runs the case that `input` holds, as `run_case` does, and the
 /// file store stays as it was. `watcher` is told how far the search of a command is. What is promised holds for each
 /// watcher.
@@ -25,7 +25,7 @@ pub fn run_program<H: FileStore, R: Source, W: Sink, V: Watcher>(
     input: &mut R,
     out: &mut W,
     watcher: &mut V,
-) -> (u8, End)
+) -> (u8, EndedRun)
     requires { R.is_failed input.old ≡ false }
 
     // With words, their command was run over the file store's files. If the status is 0, 1 or 3, the answer tells of
@@ -47,8 +47,8 @@ pub fn run_program<H: FileStore, R: Source, W: Sink, V: Watcher>(
     ensures still { words.now ≡ [] → H.history file_store.new ≡ H.history file_store.old }
 {
     if words.is_empty() {
-        run_case_with_end(alloc, input, out)
+        run_case_with_notes(alloc, input, out)
     } else {
-        run_with_end(alloc, words, file_store, out, watcher)
+        run_with_notes(alloc, words, file_store, out, watcher)
     }
 }

@@ -2,29 +2,14 @@
 
 ghost use Rattle.std.specs.Prelude.{◌≡◌, false, Ok, Err, IfOk, OnOk, MatchResult};
 ghost use Rattle.field_lines.specs.Source.{nothing_given};
-ghost use Rattle.cli_answers.specs.{Answers.{Comes, AnswerMeets, RefusalShows}, Refusals.file_store_answer};
+ghost use Rattle.cli_answers.specs.Answers.{Comes, AnswerMeets};
 ghost use Rattle.cli_runs.specs.Reading.{open_step, read_both};
 ghost use Rattle.cli.specs.Streams.{given_back, both_given_back, AreBack};
 
-use crate::end::{End, FileOption};
-use cli_answers::{Refusal, refuse_load};
+use cli_answers::{FileOption, Refusal, refuse_load};
 use cli_file_stores::{FileStore, FileStoreFault, ReadEnd};
 use cli_words::CommonWords;
 use std::alloc::Global;
-
-/// Returns the refusal of the file store's `fault` for the file of `option`, and notes it at `end`.
-pub(crate) fn refuse_named(
-    alloc: Global,
-    option: FileOption,
-    name: &str,
-    fault: FileStoreFault,
-    end: &mut End,
-) -> Refusal
-    ensures { RefusalShows (file_store_answer name.now fault) result }
-{
-    end.note_unloaded(alloc, option, name, fault);
-    refuse_load(alloc, name, fault)
-}
 
 /// Opens the file of `option`, and returns its reader.
 pub(crate) fn open<H: FileStore>(
@@ -32,7 +17,6 @@ pub(crate) fn open<H: FileStore>(
     option: FileOption,
     name: &str,
     file_store: &mut H,
-    end: &mut End,
 ) -> Result<H::Reader, Refusal>
     ensures course { Comes (λ reader. tt) result (open_step (H.contents file_store.old) name.now (H.history file_store.old) (H.history file_store.new)) }
     ensures given { IfOk result (λ reader. H.Reader.given reader ≡ nothing_given) }
@@ -42,7 +26,7 @@ pub(crate) fn open<H: FileStore>(
 {
     match file_store.reader(alloc, name) {
         Ok(reader) => Ok(reader),
-        Err(fault) => Err(refuse_named(alloc, option, name, fault, end)),
+        Err(fault) => Err(refuse_load(alloc, option, name, fault)),
     }
 }
 
@@ -53,7 +37,6 @@ pub(crate) fn give_one_back<H: FileStore>(
     name: &str,
     reader: H::Reader,
     file_store: &mut H,
-    end: &mut End,
 ) -> Result<(), Refusal>
     ensures back { Comes (λ _. H.Reader.given reader) result (given_back (H.contents file_store.old) name.now (H.history file_store.old) (H.history file_store.new)) }
     ensures sound { OnOk result (H.Reader.is_failed reader ≡ false) }
@@ -62,7 +45,7 @@ pub(crate) fn give_one_back<H: FileStore>(
 {
     match file_store.give_back(name, reader) {
         Ok(_) => Ok(()),
-        Err(fault) => Err(refuse_named(alloc, option, name, fault, end)),
+        Err(fault) => Err(refuse_load(alloc, option, name, fault)),
     }
 }
 
@@ -71,7 +54,6 @@ pub(crate) fn open_both<H: FileStore>(
     alloc: Global,
     words: CommonWords<'_>,
     file_store: &mut H,
-    end: &mut End,
 ) -> Result<(H::Reader, H::Reader), Refusal>
     ensures opened { MatchResult
         result
@@ -82,8 +64,8 @@ pub(crate) fn open_both<H: FileStore>(
     ensures same { H.contents file_store.new ≡ H.contents file_store.old }
     ensures kept { H.stored file_store.new ≡ H.stored file_store.old }
 {
-    let geo = open(alloc, FileOption::Geo, words.geo, file_store, end)?;
-    let segment = open(alloc, FileOption::Segment, words.segment, file_store, end)?;
+    let geo = open(alloc, FileOption::Geo, words.geo, file_store)?;
+    let segment = open(alloc, FileOption::Segment, words.segment, file_store)?;
     Ok((geo, segment))
 }
 
@@ -94,14 +76,13 @@ fn if_sound(
     words: CommonWords<'_>,
     geo: Result<ReadEnd, FileStoreFault>,
     segment: Result<ReadEnd, FileStoreFault>,
-    end: &mut End,
 ) -> Result<(), Refusal>
     ensures { AreBack words.entry.geo.now words.entry.segment.now geo segment result }
 {
     match (segment, geo) {
         (Ok(_), Ok(_)) => Ok(()),
-        (Ok(_), Err(fault)) => Err(refuse_named(alloc, FileOption::Geo, words.geo, fault, end)),
-        (Err(fault), _) => Err(refuse_named(alloc, FileOption::Segment, words.segment, fault, end)),
+        (Ok(_), Err(fault)) => Err(refuse_load(alloc, FileOption::Geo, words.geo, fault)),
+        (Err(fault), _) => Err(refuse_load(alloc, FileOption::Segment, words.segment, fault)),
     }
 }
 
@@ -112,7 +93,6 @@ pub(crate) fn give_both_back<H: FileStore>(
     words: CommonWords<'_>,
     readers: (H::Reader, H::Reader),
     file_store: &mut H,
-    end: &mut End,
 ) -> Result<(), Refusal>
     ensures back { Comes
         (λ _. (H.Reader.given readers.0, H.Reader.given readers.1))
@@ -126,5 +106,5 @@ pub(crate) fn give_both_back<H: FileStore>(
     let (geo, segment) = readers;
     let segment_end = file_store.give_back(words.segment, segment);
     let geo_end = file_store.give_back(words.geo, geo);
-    if_sound(alloc, words, geo_end, segment_end, end)
+    if_sound(alloc, words, geo_end, segment_end)
 }

@@ -11,10 +11,10 @@ ghost use Rattle.cli_runs.specs.Recording.{RecordEnds, is_recorded as must_be_re
 ghost use Rattle.cli.specs.{Delivery.texts, Ends.{refusal_by, said_of}};
 
 use crate::command::command_answer;
-use crate::end::{End, Ending, FileOption};
+use crate::notes::Notes;
 use crate::storing::store_named;
 use branch_bound::Watcher;
-use cli_answers::{Refusal, RunAnswer};
+use cli_answers::{FileOption, Refusal, RunAnswer};
 use cli_file_stores::{FileStore, Sink};
 use cli_record::{record_file, record_since};
 use cli_words::CommandWords;
@@ -33,19 +33,18 @@ fn is_recorded(status: u8) -> bool
 fn answer_after(
     handed_over: Result<(), Refusal>,
     answer: RunAnswer,
-    end: &mut End,
+    notes: &mut Notes,
 ) -> Result<RunAnswer, AllocError>
     ensures { said_of result ≡ said_after (refusal_by handed_over) (answer_of answer) }
 {
     match handed_over {
         Ok(()) => Ok(answer),
         Err(Refusal::Shown(refused)) => {
-            end.note_report(answer.text);
+            notes.note_report(answer.text);
             Ok(refused)
         }
         Err(Refusal::Memory) => {
-            end.note(Ending::Memory);
-            end.note_report(answer.text);
+            notes.note_report(answer.text);
             Err(AllocError)
         }
     }
@@ -58,7 +57,7 @@ fn store_bytes<H: FileStore>(
     bytes: Vec<u8>,
     answer: RunAnswer,
     file_store: &mut H,
-    end: &mut End,
+    notes: &mut Notes,
 ) -> Result<RunAnswer, AllocError>
     ensures { (last : List NamedFile) × (refusal : Option Answered)
         × HasStored (H.contents file_store.old) (H.contents file_store.new) (H.stored file_store.old) (H.stored file_store.new) last
@@ -67,16 +66,15 @@ fn store_bytes<H: FileStore>(
         × (said_of result ≡ said_after refusal (answer_of answer)) }
 {
     let option = FileOption::Record;
-    let handed_over = store_named(alloc, option, Some(name), Some(&bytes), file_store, end);
-    answer_after(handed_over, answer, end)
+    let handed_over = store_named(alloc, option, Some(name), Some(&bytes), file_store, notes);
+    answer_after(handed_over, answer, notes)
 }
 
 /// Reports that a growth was refused while the record was composed. Nothing more is stored.
-fn uncomposed(answer: RunAnswer, end: &mut End) -> Result<RunAnswer, AllocError>
+fn uncomposed(answer: RunAnswer, notes: &mut Notes) -> Result<RunAnswer, AllocError>
     ensures { said_of result ≡ memory_answer }
 {
-    end.note(Ending::Memory);
-    end.note_report(answer.text);
+    notes.note_report(answer.text);
     Err(AllocError)
 }
 
@@ -129,7 +127,7 @@ fn store_composed<H: FileStore>(
     written: &Written,
     answer: RunAnswer,
     file_store: &mut H,
-    end: &mut End,
+    notes: &mut Notes,
 ) -> Result<RunAnswer, AllocError>
     requires { must_be_recorded answer.status ≡ true }
     ensures { (before : History) (front : List ℕ) → first ≡ min (length before.events) (2 ^ 64 - 1)
@@ -138,8 +136,8 @@ fn store_composed<H: FileStore>(
         × RecordEnds (texts words.now) command.now name.now before (H.history file_store.old) (H.history file_store.new) last front (answer_of answer) (said_of result) }
 {
     match composed(alloc, words, command, first, written, &answer, file_store) {
-        Some(bytes) => store_bytes(alloc, name, bytes, answer, file_store, end),
-        None => uncomposed(answer, end),
+        Some(bytes) => store_bytes(alloc, name, bytes, answer, file_store, notes),
+        None => uncomposed(answer, notes),
     }
 }
 
@@ -153,7 +151,7 @@ fn store_record<H: FileStore>(
     written: &Written,
     answer: RunAnswer,
     file_store: &mut H,
-    end: &mut End,
+    notes: &mut Notes,
 ) -> Result<RunAnswer, AllocError>
     ensures { (before : History) (front : List ℕ) → first ≡ min (length before.events) (2 ^ 64 - 1)
         → kept_of written.now ≡ Some front → (last : List NamedFile)
@@ -162,7 +160,7 @@ fn store_record<H: FileStore>(
 {
     if is_recorded(answer.status) {
         store_composed(
-            alloc, words, command, name, first, written, answer, file_store, end,
+            alloc, words, command, name, first, written, answer, file_store, notes,
         )
     } else {
         Ok(answer)
@@ -178,7 +176,7 @@ fn answer_with_record<H: FileStore, W: Sink, V: Watcher>(
     file_store: &mut H,
     out: &mut W,
     written: &mut Written,
-    end: &mut End,
+    notes: &mut Notes,
     watcher: &mut V,
 ) -> Result<RunAnswer, AllocError>
     requires state { HasState command }
@@ -191,9 +189,9 @@ fn answer_with_record<H: FileStore, W: Sink, V: Watcher>(
     let first = file_store.events();
     file_store.keep_sums(alloc);
     written.keep_all(alloc);
-    match command_answer(alloc, command, file_store, out, written, end, watcher) {
+    match command_answer(alloc, command, file_store, out, written, notes, watcher) {
         Ok(answer) => store_record(
-            alloc, words, &command, name, first, written, answer, file_store, end,
+            alloc, words, &command, name, first, written, answer, file_store, notes,
         ),
         Err(AllocError) => Err(AllocError),
     }
@@ -208,7 +206,7 @@ pub(crate) fn answer_as_asked<H: FileStore, W: Sink, V: Watcher>(
     file_store: &mut H,
     out: &mut W,
     written: &mut Written,
-    end: &mut End,
+    notes: &mut Notes,
     watcher: &mut V,
 ) -> Result<RunAnswer, AllocError>
     requires state { HasState command }
@@ -220,8 +218,8 @@ pub(crate) fn answer_as_asked<H: FileStore, W: Sink, V: Watcher>(
 {
     match record_file(&command) {
         Some(name) => answer_with_record(
-            alloc, words, command, name, file_store, out, written, end, watcher,
+            alloc, words, command, name, file_store, out, written, notes, watcher,
         ),
-        None => command_answer(alloc, command, file_store, out, written, end, watcher),
+        None => command_answer(alloc, command, file_store, out, written, notes, watcher),
     }
 }

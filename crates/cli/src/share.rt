@@ -8,12 +8,12 @@ ghost use Rattle.cli_runs.specs.{Storing.HasStored, ShareCourse.{share_answer, s
 ghost use Rattle.cli_runs.specs.Run.{CommandRun};
 
 use crate::board_files::load_events;
-use crate::end::{End, Ending, FileOption};
 use crate::files::load_grouping;
+use crate::notes::Notes;
 use crate::problem::load_problem;
 use crate::storing::store_named;
 use board_report::Shared;
-use cli_answers::{Refusal, RunAnswer, refuse_board};
+use cli_answers::{FileOption, Refusal, RunAnswer, RunOutcome, refuse_board};
 use cli_file_stores::FileStore;
 use cli_runs::share_events;
 use cli_words::{CommandWords, ShareWords};
@@ -29,7 +29,6 @@ fn taken(
     grouping: &Grouping,
     events: Vec<Event>,
     words: ShareWords<'_>,
-    end: &mut End,
 ) -> Result<Shared, Refusal>
     ensures { (history : History)
         → Comes (λ s. s) result (share_step problem.now grouping.now.groups.items words.entry (map event_of events.items) history history) }
@@ -43,10 +42,7 @@ fn taken(
         words.budget,
     ) {
         Ok(shared) => Ok(shared),
-        Err(fault) => {
-            end.note_board(&fault);
-            Err(refuse_board(alloc, fault))
-        }
+        Err(fault) => Err(refuse_board(alloc, fault)),
     }
 }
 
@@ -55,30 +51,31 @@ fn share_files<H: FileStore>(
     alloc: Global,
     words: ShareWords<'_>,
     file_store: &mut H,
-    end: &mut End,
+    notes: &mut Notes,
 ) -> Result<Shared, Refusal>
     requires { words.board.problem.common.state ≤ 99 }
     ensures course { Comes (λ s. s) result (share_course (H.contents file_store.old) words.entry (H.history file_store.old) (H.history file_store.new)) }
     ensures same { H.contents file_store.new ≡ H.contents file_store.old }
     ensures kept { H.stored file_store.new ≡ H.stored file_store.old }
 {
-    let problem = load_problem(alloc, words.board.problem, file_store, end)?;
+    let problem = load_problem(alloc, words.board.problem, file_store, notes)?;
     let grouping = load_grouping(
         alloc,
         FileOption::Grouping,
         words.board.grouping,
         file_store,
-        end,
     )?;
-    let events = load_events(
-        alloc,
-        words.events,
-        words.board.round,
-        &problem,
-        file_store,
-        end,
-    )?;
-    taken(alloc, &problem, &grouping, events, words, end)
+    let events = load_events(alloc, words.events, words.board.round, &problem, file_store)?;
+    taken(alloc, &problem, &grouping, events, words)
+}
+
+/// Returns what a run of a board comes to at which `left` pieces are still waiting.
+fn board_outcome(left: usize) -> RunOutcome {
+    if left == 0 {
+        RunOutcome::Done
+    } else {
+        RunOutcome::PiecesLeft(left)
+    }
 }
 
 /// Returns the answer of a board: its text, with status 0 if no piece is waiting, and 3 otherwise.
@@ -88,15 +85,8 @@ pub(crate) fn answer_to(shared: Shared) -> RunAnswer
     RunAnswer {
         status: if shared.left == 0 { 0 } else { 3 },
         text: shared.text,
-    }
-}
-
-/// Returns the ending of a run of a board at which `left` pieces are still waiting.
-pub(crate) fn shared_end(left: usize) -> Ending {
-    if left == 0 {
-        Ending::Done
-    } else {
-        Ending::PiecesLeft(left)
+        outcome: board_outcome(shared.left),
+        subject: None,
     }
 }
 
@@ -106,28 +96,25 @@ pub(crate) fn share<H: FileStore>(
     alloc: Global,
     words: ShareWords<'_>,
     file_store: &mut H,
-    end: &mut End,
+    notes: &mut Notes,
 ) -> Result<RunAnswer, Refusal>
     requires { words.board.problem.common.state ≤ 99 }
     ensures { (stored : List NamedFile)
         × HasStored (H.contents file_store.old) (H.contents file_store.new) (H.stored file_store.old) (H.stored file_store.new) stored
         × CommandRun (H.contents file_store.old) (CommandWords.Share words.entry) (H.history file_store.old) (H.history file_store.new) stored (said_by result) }
 {
-    let shared = share_files(alloc, words, file_store, end)?;
+    let shared = share_files(alloc, words, file_store, notes)?;
     match store_named(
         alloc,
         FileOption::CertificateOut,
         words.certificate,
         shared.certificate.as_ref(),
         file_store,
-        end,
+        notes,
     ) {
-        Ok(()) => {
-            end.note(shared_end(shared.left));
-            Ok(answer_to(shared))
-        }
+        Ok(()) => Ok(answer_to(shared)),
         Err(refusal) => {
-            end.note_report(shared.text);
+            notes.note_report(shared.text);
             Err(refusal)
         }
     }

@@ -5,9 +5,9 @@ ghost use Rattle.cli_answers.specs.Answers.{answer_of, Comes};
 ghost use Rattle.cli_runs.specs.JudgeCourse.{size_course};
 
 use crate::census_files::load_counties;
-use crate::end::{End, Ending};
+use crate::notes::Notes;
 use crate::problem::build;
-use cli_answers::{Refusal, RunAnswer};
+use cli_answers::{Refusal, RunAnswer, RunOutcome};
 use cli_file_stores::FileStore;
 use cli_words::CommonWords;
 use grouping_report::size_table;
@@ -18,16 +18,20 @@ pub(crate) fn size<H: FileStore>(
     alloc: Global,
     words: CommonWords<'_>,
     file_store: &mut H,
-    end: &mut End,
+    notes: &mut Notes,
 ) -> Result<RunAnswer, Refusal>
     requires { words.state ≤ 99 }
     ensures course { Comes answer_of result (size_course (H.contents file_store.old) words.entry (H.history file_store.old) (H.history file_store.new)) }
     ensures same { H.contents file_store.new ≡ H.contents file_store.old }
     ensures kept { H.stored file_store.new ≡ H.stored file_store.old }
 {
-    let counties = load_counties(alloc, words, file_store, end)?;
-    let problem = build(alloc, &counties, &[], &[], words.chamber, words.window, end)?;
+    let counties = load_counties(alloc, words, file_store, notes)?;
+    let problem = build(alloc, &counties, &[], &[], words.chamber, words.window)?;
     let text = size_table(alloc, &problem)?;
-    end.note(Ending::Done);
-    Ok(RunAnswer { text, status: 0 })
+    Ok(RunAnswer {
+        text,
+        status: 0,
+        outcome: RunOutcome::Done,
+        subject: None,
+    })
 }

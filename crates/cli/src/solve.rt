@@ -7,11 +7,11 @@ ghost use Rattle.cli_runs.specs.Storing.{HasStored, named_file, store_steps};
 ghost use Rattle.cli_runs.specs.{SolveCourse.{solve_course, files_to_store}, Run.CommandRun, Texts.solved_of};
 ghost use Rattle.cli.specs.Ends.{refusal_by};
 
-use crate::end::{End, Ending, FileOption};
+use crate::notes::Notes;
 use crate::problem::load_tabled_problem;
 use crate::storing::store_named;
 use branch_bound::Watcher;
-use cli_answers::{Refusal, RunAnswer};
+use cli_answers::{FileOption, Refusal, RunAnswer};
 use cli_file_stores::FileStore;
 use cli_runs::{Solved, solve_and_report};
 use cli_words::{CommandWords, SolveWords};
@@ -22,7 +22,7 @@ fn solve_files<H: FileStore, V: Watcher>(
     alloc: Global,
     words: SolveWords<'_>,
     file_store: &mut H,
-    end: &mut End,
+    notes: &mut Notes,
     watcher: &mut V,
 ) -> Result<Solved, Refusal>
     requires { words.problem.common.state ≤ 99 }
@@ -30,18 +30,9 @@ fn solve_files<H: FileStore, V: Watcher>(
     ensures same { H.contents file_store.new ≡ H.contents file_store.old }
     ensures kept { H.stored file_store.new ≡ H.stored file_store.old }
 {
-    let tabled = load_tabled_problem(alloc, words.problem, words.table, file_store, end)?;
+    let tabled = load_tabled_problem(alloc, words.problem, words.table, file_store, notes)?;
     let solved = solve_and_report(alloc, &tabled, words.steps, watcher)?;
     Ok(solved)
-}
-
-/// Returns the ending of a search whose files are stored.
-fn searched(solved: &Solved) -> Ending {
-    match (&solved.certificate, &solved.grouping) {
-        (Some(_), Some(_)) => Ending::Done,
-        (Some(_), None) => Ending::Impossible,
-        (None, _) => Ending::Open,
-    }
 }
 
 /// Stores the table and then the events. Each is stored if there is one and its file is named.
@@ -50,7 +41,7 @@ fn store_table_and_events<H: FileStore>(
     words: SolveWords<'_>,
     solved: &Solved,
     file_store: &mut H,
-    end: &mut End,
+    notes: &mut Notes,
 ) -> Result<(), Refusal>
     ensures { (stored : List NamedFile)
         × HasStored (H.contents file_store.old) (H.contents file_store.new) (H.stored file_store.old) (H.stored file_store.new) stored
@@ -63,7 +54,7 @@ fn store_table_and_events<H: FileStore>(
         words.table,
         solved.table.as_ref(),
         file_store,
-        end,
+        notes,
     )?;
     store_named(
         alloc,
@@ -71,7 +62,7 @@ fn store_table_and_events<H: FileStore>(
         words.events,
         solved.events.as_ref(),
         file_store,
-        end,
+        notes,
     )
 }
 
@@ -82,7 +73,7 @@ fn store_solved<H: FileStore>(
     words: SolveWords<'_>,
     solved: &Solved,
     file_store: &mut H,
-    end: &mut End,
+    notes: &mut Notes,
 ) -> Result<(), Refusal>
     ensures { (stored : List NamedFile)
         × HasStored (H.contents file_store.old) (H.contents file_store.new) (H.stored file_store.old) (H.stored file_store.new) stored
@@ -94,7 +85,7 @@ fn store_solved<H: FileStore>(
         words.certificate,
         solved.certificate.as_ref(),
         file_store,
-        end,
+        notes,
     )?;
     store_named(
         alloc,
@@ -102,9 +93,9 @@ fn store_solved<H: FileStore>(
         words.out,
         solved.grouping.as_ref(),
         file_store,
-        end,
+        notes,
     )?;
-    store_table_and_events(alloc, words, solved, file_store, end)
+    store_table_and_events(alloc, words, solved, file_store, notes)
 }
 
 /// Returns the best grouping of the problem with its certificate. The problem is built first, and then the solver
@@ -114,7 +105,7 @@ pub(crate) fn solve<H: FileStore, V: Watcher>(
     alloc: Global,
     words: SolveWords<'_>,
     file_store: &mut H,
-    end: &mut End,
+    notes: &mut Notes,
     watcher: &mut V,
 ) -> Result<RunAnswer, Refusal>
     requires { words.problem.common.state ≤ 99 }
@@ -122,14 +113,11 @@ pub(crate) fn solve<H: FileStore, V: Watcher>(
         × HasStored (H.contents file_store.old) (H.contents file_store.new) (H.stored file_store.old) (H.stored file_store.new) stored
         × CommandRun (H.contents file_store.old) (CommandWords.Solve words.entry) (H.history file_store.old) (H.history file_store.new) stored (said_by result) }
 {
-    let solved = solve_files(alloc, words, file_store, end, watcher)?;
-    match store_solved(alloc, words, &solved, file_store, end) {
-        Ok(()) => {
-            end.note(searched(&solved));
-            Ok(solved.answer)
-        }
+    let solved = solve_files(alloc, words, file_store, notes, watcher)?;
+    match store_solved(alloc, words, &solved, file_store, notes) {
+        Ok(()) => Ok(solved.answer),
         Err(refusal) => {
-            end.note_report(solved.answer.text);
+            notes.note_report(solved.answer.text);
             Err(refusal)
         }
     }

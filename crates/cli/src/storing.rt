@@ -6,21 +6,21 @@ ghost use Rattle.cli_file_stores.specs.Files.{NamedFile};
 ghost use Rattle.cli_runs.specs.{Storing.{HasStored, named_file, said_after, store_steps}, Texts.reported_of};
 ghost use Rattle.cli.specs.Ends.{refusal_by};
 
-use crate::end::{End, FileOption};
-use cli_answers::{Refusal, RunAnswer, refuse_load};
+use crate::notes::Notes;
+use cli_answers::{FileOption, Refusal, RunAnswer, refuse_store};
 use cli_file_stores::FileStore;
 use cli_runs::Reported;
 use std::alloc::Global;
 
-/// Stores `bytes` under `name`, and notes at `end` whether that succeeded. Returns the refusal of the file store's
-/// fault if it didn't.
+/// Stores `bytes` under `name`, and notes that the file of `option` was stored. Returns the refusal of the file store's
+/// fault if it wasn't.
 fn store<H: FileStore>(
     alloc: Global,
     option: FileOption,
     name: &str,
     bytes: &[u8],
     file_store: &mut H,
-    end: &mut End,
+    notes: &mut Notes,
 ) -> Result<(), Refusal>
     ensures { (stored : List NamedFile)
         × HasStored (H.contents file_store.old) (H.contents file_store.new) (H.stored file_store.old) (H.stored file_store.new) stored
@@ -29,13 +29,10 @@ fn store<H: FileStore>(
 {
     match file_store.store(alloc, name, bytes) {
         Ok(()) => {
-            end.note_stored(option);
+            notes.note_stored(option);
             Ok(())
         }
-        Err(fault) => {
-            end.note_unstored(alloc, option, name, fault);
-            Err(refuse_load(alloc, name, fault))
-        }
+        Err(fault) => Err(refuse_store(alloc, option, name, fault)),
     }
 }
 
@@ -46,14 +43,14 @@ pub(crate) fn store_named<H: FileStore>(
     name: Option<&str>,
     text: Option<&Vec<u8>>,
     file_store: &mut H,
-    end: &mut End,
+    notes: &mut Notes,
 ) -> Result<(), Refusal>
     ensures { (stored : List NamedFile)
         × HasStored (H.contents file_store.old) (H.contents file_store.new) (H.stored file_store.old) (H.stored file_store.new) stored
         × store_steps (named_file name.entry (option_map (λ t. t.now.items) text.entry)) (H.history file_store.old) (H.history file_store.new) stored (refusal_by result) }
 {
     match (name, text) {
-        (Some(name), Some(text)) => store(alloc, option, name, text, file_store, end),
+        (Some(name), Some(text)) => store(alloc, option, name, text, file_store, notes),
         _ => Ok(()),
     }
 }
@@ -65,7 +62,7 @@ pub(crate) fn store_reported<H: FileStore>(
     name: Option<&str>,
     reported: Reported,
     file_store: &mut H,
-    end: &mut End,
+    notes: &mut Notes,
 ) -> Result<RunAnswer, Refusal>
     ensures { (stored : List NamedFile) × (refusal : Option Answered)
         × HasStored (H.contents file_store.old) (H.contents file_store.new) (H.stored file_store.old) (H.stored file_store.new) stored
@@ -78,11 +75,11 @@ pub(crate) fn store_reported<H: FileStore>(
         name,
         reported.table.as_ref(),
         file_store,
-        end,
+        notes,
     ) {
         Ok(()) => Ok(reported.answer),
         Err(refusal) => {
-            end.note_report(reported.answer.text);
+            notes.note_report(reported.answer.text);
             Err(refusal)
         }
     }

@@ -1,6 +1,6 @@
 //! What is odd about withdrawn sets.
 
-use crate::end::{End, people_of};
+use crate::notes::{Notes, people_of};
 use crate::warnings::Warning;
 use cli_words::CommonWords;
 use county_codes::{County, CountyCode, Withdrawn, has_code, listed_codes, unlisted_code};
@@ -137,10 +137,10 @@ pub(crate) fn note_withdrawn(
     pairs: &[(CountyCode, CountyCode)],
     sets: &[Withdrawn],
     words: CommonWords<'_>,
-    end: &mut End,
+    notes: &mut Notes,
 ) {
     if let Ok(found) = first_of(alloc, counties, pairs, sets, words) {
-        end.note_warning(found.unsuited);
-        end.note_warning(found.apart);
+        notes.note_warning(found.unsuited);
+        notes.note_warning(found.apart);
     }
 }

@@ -6,6 +6,7 @@ ghost use Rattle.cli_answers.specs.Answers.{answer_of};
 ghost use Rattle.cli_answers.specs.CheckLines.{no_line, no_answer as answer_of_no};
 
 use crate::answer::RunAnswer;
+use crate::outcome::RunOutcome;
 use field_lines::push_number;
 use state_judge::{CheckFault, push_check_fault};
 use std::alloc::{AllocError, Global};
@@ -23,6 +24,11 @@ fn no_text(alloc: Global, fault: CheckFault, line: u64) -> Result<Vec<u8>, Alloc
     Ok(out)
 }
 
+/// Returns what a run comes to whose text is no certificate, with its first fault at `line`.
+fn no_certificate(fault: &CheckFault, line: u64) -> RunOutcome {
+    RunOutcome::NoCertificate(*fault, line)
+}
+
 /// Returns the answer to a text that is no certificate: `no KIND line L` with exit status 1. If the kind tells of a
 /// fault of the text or of the target, that fault's own kind follows it. The line counts from 1.
 ///
@@ -32,8 +38,14 @@ fn no_text(alloc: Global, fault: CheckFault, line: u64) -> Result<Vec<u8>, Alloc
 pub fn no_answer(alloc: Global, fault: CheckFault, line: u64) -> Result<RunAnswer, AllocError>
     ensures { IfOk result (λ a. answer_of a ≡ answer_of_no fault line) }
 {
+    let outcome = no_certificate(&fault, line);
     let text = no_text(alloc, fault, line)?;
-    Ok(RunAnswer { text, status: 1 })
+    Ok(RunAnswer {
+        text,
+        status: 1,
+        outcome,
+        subject: None,
+    })
 }
 
 /// Returns the answer of a check whose budget was too small: `budget` with exit status 3.
@@ -44,5 +56,5 @@ pub fn no_answer(alloc: Global, fault: CheckFault, line: u64) -> Result<RunAnswe
 pub fn budget_answer(alloc: Global) -> Result<RunAnswer, AllocError>
     ensures { IfOk result (λ a. answer_of a ≡ answer_of_budget) }
 {
-    RunAnswer::new(alloc, b"budget\n", 3)
+    RunAnswer::new(alloc, b"budget\n", 3, RunOutcome::Budget)
 }

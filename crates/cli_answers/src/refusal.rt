@@ -11,7 +11,10 @@ ghost use Rattle.grouping_reader.specs.declared.fault.CodeLineKind.TheVariants a
 ghost use Rattle.baf_auditor.specs.declared.fault.AssignmentKind.TheVariants as lines_of_assignments;
 ghost use Rattle.cli_answers.specs.Refusals.{assignment_answer, cut_line, file_word, input_of as input_file_of};
 
-use crate::answer::Refusal;
+use crate::answer::{Refusal, RunAnswer};
+use crate::fault_text::FaultText;
+use crate::file_fault::{FileFault, FileOption};
+use crate::outcome::{RunOutcome, Subject};
 use baf_auditor::{AssignmentFault, AssignmentKind};
 use cli_file_stores::FileStoreFault;
 use county_codes::{CountyCode, push_code};
@@ -154,17 +157,41 @@ fn refused_text(alloc: Global, file: &[u8], kind: &[u8], line: u64) -> Result<Ve
     Ok(out)
 }
 
-/// Returns the refusal of an input file for a fault at `line`, with exit status 4.
-pub(crate) fn refuse_input(alloc: Global, file: InputFile, kind: &[u8], line: u64) -> Refusal
+/// A file that is refused: the option that names it, and what is known of its text.
+#[derive(Drop)]
+pub struct RefusedFile {
+    /// The option that names the file.
+    pub option: FileOption,
+    /// What is known of its text.
+    pub text: FaultText,
+}
+
+impl RefusedFile {
+    /// Returns what a run comes to that is refused for this `fault` of the file.
+    pub(crate) fn outcome(self, fault: FileFault) -> RunOutcome {
+        let RefusedFile { option, text } = self;
+        RunOutcome::Refused(option, fault, text)
+    }
+}
+
+/// Returns the refusal of an input file for a fault at `line`, with exit status 4 and with `outcome`.
+pub(crate) fn refuse_input(
+    alloc: Global,
+    file: InputFile,
+    kind: &[u8],
+    line: u64,
+    outcome: RunOutcome,
+) -> Refusal
     ensures { RefusalShows (input_answer file kind.now line) result }
 {
-    Refusal::of_text(refused_text(alloc, word_of_file(file), kind, line), 4)
+    let text = refused_text(alloc, word_of_file(file), kind, line);
+    Refusal::of_text(text, 4, outcome)
 }
 
 /// Returns the refusal of a PL 94-171 file: `refused FILE KIND line L` with exit status 4. The line counts from 1. It
 /// is 0 if the file has too many lines, or if none of its lines is a county or a block of the state. Returns `Memory`
 /// if that is the fault, or if memory for the line was refused.
-pub fn refuse_file(alloc: Global, fault: Pl94Fault) -> Refusal
+pub fn refuse_file(alloc: Global, fault: Pl94Fault, refused: RefusedFile) -> Refusal
     ensures answer { RefusalShows (pl94_answer fault) result }
     ensures shown { IsShown result → fault.kind ≢ kinds.Memory }
 {
@@ -178,20 +205,22 @@ pub fn refuse_file(alloc: Global, fault: Pl94Fault) -> Refusal
         input_of(fault.file),
         word_of_kind(fault.kind),
         u64::from(line),
+        refused.outcome(FileFault::Census(fault)),
     )
 }
 
 /// Returns the refusal of the files of a state, or of the NAME of a county. A fault of the files is refused as
 /// `refuse_file` says. If a NAME isn't UTF-8, the refusal is `refused geo BadName line L` with exit status 4. Returns
 /// `Memory` if memory for the line was refused.
-pub fn refuse_named_counties(alloc: Global, fault: NamedFault) -> Refusal
+pub fn refuse_named_counties(alloc: Global, fault: NamedFault, refused: RefusedFile) -> Refusal
     ensures answer { RefusalShows (named_answer fault) result }
     ensures shown { IsShown result → IsNoMemory fault → ⊥ }
 {
     match fault {
-        NamedFault::Files(fault) => refuse_file(alloc, fault),
+        NamedFault::Files(fault) => refuse_file(alloc, fault, refused),
         NamedFault::BadName(line) => {
-            refuse_input(alloc, InputFile::Geo, b"BadName", u64::from(line))
+            let outcome = refused.outcome(FileFault::BadName(line));
+            refuse_input(alloc, InputFile::Geo, b"BadName", u64::from(line), outcome)
         }
     }
 }
@@ -199,7 +228,12 @@ pub fn refuse_named_counties(alloc: Global, fault: NamedFault) -> Refusal
 /// Returns the refusal of a file whose lines have county codes: `refused FILE KIND line L` with exit status 4. The line
 /// counts from 1. It is 0 if the file has too many lines. Returns `Memory` if that is the fault, or if memory for the
 /// line was refused.
-pub fn refuse_codes(alloc: Global, file: InputFile, fault: CodeLineFault) -> Refusal
+pub fn refuse_codes(
+    alloc: Global,
+    file: InputFile,
+    fault: CodeLineFault,
+    refused: RefusedFile,
+) -> Refusal
     ensures answer { RefusalShows (code_file_answer file fault) result }
     ensures shown { IsShown result → fault.kind ≢ lines_of_codes.Memory }
 {
@@ -208,13 +242,15 @@ pub fn refuse_codes(alloc: Global, file: InputFile, fault: CodeLineFault) -> Ref
         CodeLineKind::Lower(cut) => line_of_cut(cut, fault.line),
         _ => fault.line,
     };
-    refuse_input(alloc, file, word_of_code_line(fault.kind), u64::from(line))
+    let word = word_of_code_line(fault.kind);
+    let outcome = refused.outcome(FileFault::Codes(fault));
+    refuse_input(alloc, file, word, u64::from(line), outcome)
 }
 
 /// Returns the refusal of an assignment file: `refused assignments KIND line L` with exit status 4. The line counts
 /// from 1. It is 0 if the file has too many lines. Returns `Memory` if that is the fault, or if memory for the line was
 /// refused.
-pub fn refuse_assignments(alloc: Global, fault: AssignmentFault) -> Refusal
+pub fn refuse_assignments(alloc: Global, fault: AssignmentFault, refused: RefusedFile) -> Refusal
     ensures answer { RefusalShows (assignment_answer fault) result }
     ensures shown { IsShown result → fault.kind ≢ lines_of_assignments.Memory }
 {
@@ -224,7 +260,14 @@ pub fn refuse_assignments(alloc: Global, fault: AssignmentFault) -> Refusal
         _ => fault.line,
     };
     let word = word_of_assignment(fault.kind);
-    refuse_input(alloc, InputFile::Assignments, word, u64::from(line))
+    let outcome = refused.outcome(FileFault::Assignments(fault));
+    refuse_input(
+        alloc,
+        InputFile::Assignments,
+        word,
+        u64::from(line),
+        outcome,
+    )
 }
 
 /// Returns the line `fault KIND`, with the group, the county or the seats of the fault after the kind.
@@ -240,13 +283,21 @@ fn fault_text(alloc: Global, fault: GroupingFault) -> Result<Vec<u8>, AllocError
 
 /// Returns the answer to a grouping that isn't lawful: `fault KIND` with exit status 1. The group, the county or the
 /// seats of the fault follow the kind. Returns `Memory` if that is the fault, or if memory for the line was refused.
-pub fn refuse_verdict(alloc: Global, fault: GroupingFault) -> Refusal
+pub fn refuse_verdict(alloc: Global, fault: GroupingFault, subject: Subject) -> Refusal
     ensures { RefusalShows (verdict_answer fault) result }
 {
     if fault == GroupingFault::Memory {
         return Refusal::Memory;
     }
-    Refusal::of_text(fault_text(alloc, fault), 1)
+    match fault_text(alloc, fault) {
+        Ok(text) => Refusal::Shown(RunAnswer {
+            text,
+            status: 1,
+            outcome: RunOutcome::Unlawful(fault),
+            subject: Some(subject),
+        }),
+        Err(AllocError) => Refusal::Memory,
+    }
 }
 
 /// Appends a blank and then `code`.
@@ -323,7 +374,7 @@ pub fn refuse_problem(alloc: Global, fault: ProblemFault) -> Refusal
     if fault == ProblemFault::Memory {
         return Refusal::Memory;
     }
-    Refusal::of_text(problem_text(alloc, fault), 4)
+    Refusal::of_text(problem_text(alloc, fault), 4, RunOutcome::Problem(fault))
 }
 
 fn word_of_file_store_fault(fault: FileStoreFault) -> &'static [u8]
@@ -350,14 +401,37 @@ fn device_text(alloc: Global, name: &[u8], kind: &[u8]) -> Result<Vec<u8>, Alloc
     Ok(out)
 }
 
-/// Returns the refusal of a fault of the file store at the file `name`: `device NAME KIND` with exit status 5. Returns
-/// `Memory` if that is the fault, or if memory for the line was refused.
-pub fn refuse_load(alloc: Global, name: &str, fault: FileStoreFault) -> Refusal
+/// Returns a copy of `path`, or `None` if memory for it was refused.
+fn copied(alloc: Global, path: &str) -> Option<String> {
+    String::from_str(alloc, path).ok()
+}
+
+/// Returns the refusal of a fault of the file store at the file `name`: `device NAME KIND` with exit status 5 and with
+/// `outcome`. Returns `Memory` if that is the fault, or if memory for the line was refused.
+fn refuse_device(alloc: Global, name: &str, fault: FileStoreFault, outcome: RunOutcome) -> Refusal
     ensures { RefusalShows (file_store_answer name.now fault) result }
 {
     if fault == FileStoreFault::Memory {
         return Refusal::Memory;
     }
     let text = device_text(alloc, name.as_bytes(), word_of_file_store_fault(fault));
-    Refusal::of_text(text, 5)
+    Refusal::of_text(text, 5, outcome)
+}
+
+/// Returns the refusal of the file `name` of `option`, which could not be had: `device NAME KIND` with exit status 5.
+/// Returns `Memory` if that is the fault, or if memory for the line was refused.
+pub fn refuse_load(alloc: Global, option: FileOption, name: &str, fault: FileStoreFault) -> Refusal
+    ensures { RefusalShows (file_store_answer name.now fault) result }
+{
+    let outcome = RunOutcome::NotLoaded(option, fault, copied(alloc, name));
+    refuse_device(alloc, name, fault, outcome)
+}
+
+/// Returns the refusal of the file `name` of `option`, which could not be stored: `device NAME KIND` with exit status
+/// 5. Returns `Memory` if that is the fault, or if memory for the line was refused.
+pub fn refuse_store(alloc: Global, option: FileOption, name: &str, fault: FileStoreFault) -> Refusal
+    ensures { RefusalShows (file_store_answer name.now fault) result }
+{
+    let outcome = RunOutcome::NotStored(option, fault, copied(alloc, name));
+    refuse_device(alloc, name, fault, outcome)
 }

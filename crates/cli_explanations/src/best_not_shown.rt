@@ -2,8 +2,7 @@
 
 use crate::certificate_fault::explain_certificate;
 use crate::options::Options;
-use cli::{FaultText, FileOption};
-use cli_runs::BestNotShown;
+use cli_answers::{BestNotShown, FaultText, FileOption};
 use county_problem::{Counts, Problem};
 use std::alloc::AllocError;
 use std::fmt::Write;

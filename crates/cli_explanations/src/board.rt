@@ -1,7 +1,7 @@
 //! Why there is no board, and what is left to do on one.
 
 use crate::options::Options;
-use cli::FileOption;
+use cli_answers::FileOption;
 use cli_words::CommandWords;
 use share_board::BoardFault;
 use std::alloc::AllocError;

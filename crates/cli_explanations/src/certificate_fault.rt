@@ -5,7 +5,7 @@ use crate::grouping_fault::explain_chamber;
 use crate::options::{NamedFile, Options};
 use crate::shown_bytes::start_of;
 use certificate_lines::TextKind;
-use cli::{FaultText, FileOption};
+use cli_answers::{FaultText, FileOption};
 use county_codes::Window;
 use county_problem::Problem;
 use field_lines::{Fields, field_at, number_in};

@@ -2,7 +2,7 @@
 
 use crate::machine_files::words_of_reason;
 use crate::shown_bytes::name_of;
-use cli::FileOption;
+use cli_answers::FileOption;
 use cli_file_stores::FileStoreFault;
 use std::alloc::AllocError;
 use std::fmt::Write;

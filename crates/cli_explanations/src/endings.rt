@@ -13,7 +13,9 @@ use crate::refusals::{explain_problem, explain_refused};
 use crate::state_line::{warn_of_state, warn_of_two_states};
 use crate::usage::explain_usage;
 use crate::warnings::push_warnings;
-use cli::{End, Ending, FileOption};
+use cli::{EndedRun, Notes};
+use cli_answers::{FileOption, RunOutcome, Subject};
+use cli_file_stores::FileStoreFault;
 use cli_words::{WordsEnd, parse};
 use std::alloc::{AllocError, Global};
 use std::fmt::Write;
@@ -76,8 +78,8 @@ fn explain_unlisted(
 pub struct Ended<'a> {
     /// The words after the program's name. There are none at a case.
     pub words: &'a [&'a str],
-    /// How it ended.
-    pub end: &'a End,
+    /// What it came to, and what it noted on its way.
+    pub run: &'a EndedRun,
     /// The kind of error that the system gave at the last file that failed.
     pub reason: Option<ErrorKind>,
     /// Whether the answer could not be written.
@@ -93,86 +95,98 @@ fn options_of<'a>(alloc: Global, words: &'a [&'a str]) -> Options<'a> {
     }
 }
 
-/// Explains how the run ended, if a file could not be read or stored.
-fn explain_device(out: &mut String, ended: Ended<'_>) -> Result<(), AllocError> {
-    let (option, fault, path) = match &ended.end.ending {
-        Ending::NotLoaded(option, fault, path) => (*option, *fault, path),
-        Ending::NotStored(option, fault, path) => (*option, *fault, path),
-        _ => return Ok(()),
-    };
+/// Returns the file of `option`, named `path`, that could not be read or stored, with what the file store says of it.
+fn unmoved<'a>(
+    ended: Ended<'_>,
+    option: FileOption,
+    fault: FileStoreFault,
+    path: &'a Option<String>,
+) -> Unmoved<'a> {
     let path = match path {
         Some(path) => path.as_str(),
         None => "",
     };
-    let file = Unmoved {
+    Unmoved {
         option,
         fault,
         path,
         reason: ended.reason,
-    };
-    match option {
-        FileOption::CertificateOut
-        | FileOption::Out
-        | FileOption::Table
-        | FileOption::Groupings
-        | FileOption::Districts
-        | FileOption::EventsOut
-        | FileOption::Record => explain_unstored(out, file),
-        _ => explain_unloaded(out, file, ended.words.is_empty()),
     }
 }
 
-/// Explains how the run ended. Says nothing if all is well.
-fn explain_ending(
+/// Explains the outcome of a command that judged `subject`. Says nothing of an outcome that isn't explained by it.
+fn explain_judged(
+    out: &mut String,
+    options: Options<'_>,
+    outcome: &RunOutcome,
+    subject: &Subject,
+) -> Result<(), AllocError> {
+    let problem = &subject.problem;
+    match (outcome, &subject.grouping, &subject.certificate) {
+        (RunOutcome::Unlawful(fault), Some(grouping), _) => {
+            explain_fault(out, options, fault, (problem, grouping))
+        }
+        (RunOutcome::Found(findings), Some(grouping), _) => {
+            explain_findings(out, options, findings, (problem, grouping))
+        }
+        (RunOutcome::NotShownBest(best_not_shown), _, Some(text)) => {
+            explain_best_not_shown(out, options, best_not_shown, (text, problem))
+        }
+        (RunOutcome::NoCertificate(fault, line), _, Some(text)) => {
+            explain_certificate(out, options, (fault, *line), (text, problem))
+        }
+        _ => Ok(()),
+    }
+}
+
+/// Explains what the run came to. Says nothing if all is well.
+fn explain_outcome(
     rt: &impl Files,
     out: &mut String,
     options: Options<'_>,
     ended: Ended<'_>,
 ) -> Result<(), AllocError> {
-    match &ended.end.ending {
-        Ending::Words(WordsEnd::Usage(text)) => {
+    match &ended.run.outcome {
+        RunOutcome::Words(WordsEnd::Usage(text)) => {
             explain_usage(out, ended.words, text.as_str(), ended.is_at_terminal)
         }
-        Ending::Words(WordsEnd::Memory) => out.push_str(NO_MEMORY),
-        Ending::Words(_) => Ok(()),
-        Ending::CaseTooLarge => out.push_str(CASE_TOO_LARGE),
-        Ending::CaseUnread => out.push_str(CASE_UNREAD),
-        Ending::CaseNotText => out.push_str(CASE_NOT_TEXT),
-        Ending::Refused(option, fault, text) => {
+        RunOutcome::Words(WordsEnd::Memory) => out.push_str(NO_MEMORY),
+        RunOutcome::Words(_) => Ok(()),
+        RunOutcome::CaseTooLarge => out.push_str(CASE_TOO_LARGE),
+        RunOutcome::CaseUnread => out.push_str(CASE_UNREAD),
+        RunOutcome::CaseNotText => out.push_str(CASE_NOT_TEXT),
+        RunOutcome::Refused(option, fault, text) => {
             explain_refused(rt, out, options, *option, (fault, text))
         }
-        Ending::Problem(fault) => explain_problem(out, options, fault),
-        Ending::Unlawful(fault, problem, grouping) => {
-            explain_fault(out, options, fault, (problem, grouping))
+        RunOutcome::Problem(fault) => explain_problem(out, options, fault),
+        RunOutcome::NotLoaded(option, fault, path) => {
+            let file = unmoved(ended, *option, *fault, path);
+            explain_unloaded(out, file, ended.words.is_empty())
         }
-        Ending::NotShownBest(best_not_shown, text, problem) => {
-            explain_best_not_shown(out, options, best_not_shown, (text, problem))
+        RunOutcome::NotStored(option, fault, path) => {
+            explain_unstored(out, unmoved(ended, *option, *fault, path))
         }
-        Ending::Found(findings, problem, grouping) => {
-            explain_findings(out, options, findings, (problem, grouping))
-        }
-        Ending::NoCertificate(fault, line, text, problem) => {
-            explain_certificate(out, options, (fault, *line), (text, problem))
-        }
-        Ending::NotLoaded(_, _, _) | Ending::NotStored(_, _, _) => explain_device(out, ended),
-        Ending::Budget => out.push_str(SMALL_BUDGET),
-        Ending::Memory => out.push_str(NO_MEMORY),
-        Ending::Impossible => out.push_str(IMPOSSIBLE),
-        Ending::Open => out.push_str(OPEN),
-        Ending::ListOpen(line) => explain_open_list(out, *line),
-        Ending::NoSuchGrouping(count) => explain_number(out, *count),
-        Ending::Unlisted(count) => explain_unlisted(out, options, *count),
-        Ending::Board(fault) => explain_board(out, options, fault),
-        Ending::PiecesLeft(left) => explain_left(out, options, *left),
-        Ending::PieceOpen(is_part) => explain_open_piece(out, *is_part),
-        Ending::NoSuchPiece => explain_no_piece(out),
-        Ending::Done => Ok(()),
+        RunOutcome::Budget => out.push_str(SMALL_BUDGET),
+        RunOutcome::Memory => out.push_str(NO_MEMORY),
+        RunOutcome::Impossible => out.push_str(IMPOSSIBLE),
+        RunOutcome::Open => out.push_str(OPEN),
+        RunOutcome::ListOpen(line) => explain_open_list(out, *line),
+        RunOutcome::NoSuchGrouping(count) => explain_number(out, *count),
+        RunOutcome::Unlisted(count) => explain_unlisted(out, options, *count),
+        RunOutcome::Board(fault) => explain_board(out, options, fault),
+        RunOutcome::PiecesLeft(left) => explain_left(out, options, *left),
+        RunOutcome::PieceOpen(is_part) => explain_open_piece(out, *is_part),
+        RunOutcome::NoSuchPiece => explain_no_piece(out),
+        outcome => match &ended.run.subject {
+            Some(subject) => explain_judged(out, options, outcome, subject),
+            None => Ok(()),
+        },
     }
 }
 
 /// Warns if the adjacency file hasn't a single pair of listed counties.
-fn warn_of_pairs(out: &mut String, options: Options<'_>, end: &End) -> Result<(), AllocError> {
-    if end.has_pairs != Some(false) {
+fn warn_of_pairs(out: &mut String, options: Options<'_>, notes: &Notes) -> Result<(), AllocError> {
+    if notes.has_pairs != Some(false) {
         return Ok(());
     }
     let file = options.file(FileOption::Adjacency);
@@ -187,16 +201,17 @@ fn warn(
     rt: &impl Files,
     out: &mut String,
     options: Options<'_>,
-    end: &End,
+    run: &EndedRun,
 ) -> Result<(), AllocError> {
-    warn_of_two_states(out, options, end)?;
-    warn_of_pairs(out, options, end)?;
-    push_warnings(out, options, end)?;
+    let notes = &run.notes;
+    warn_of_two_states(out, options, notes)?;
+    warn_of_pairs(out, options, notes)?;
+    push_warnings(out, options, run)?;
     let Some(command) = options.command else {
         return Ok(());
     };
-    warn_of_state(out, command, end)?;
-    warn_of_older_files(rt, out, command, end)
+    warn_of_state(out, command, notes)?;
+    warn_of_older_files(rt, out, command, notes.stored)
 }
 
 /// Returns what a person is told of a run that has ended, in whole lines that each begin with `countygroups: `. Of a
@@ -213,13 +228,13 @@ pub fn explain(rt: &(impl Files + AllocGlobal), ended: Ended<'_>) -> Result<Stri
     if ended.is_unwritten {
         out.push_str(UNWRITTEN)?;
     } else {
-        explain_ending(rt, &mut out, options, ended)?;
+        explain_outcome(rt, &mut out, options, ended)?;
     }
     if ended.is_at_terminal && !ended.is_unwritten {
-        push_named(&mut out, options, ended.end)?;
+        push_named(&mut out, options, ended.run)?;
     }
-    warn(rt, &mut out, options, ended.end)?;
-    if let Some(report) = &ended.end.report {
+    warn(rt, &mut out, options, ended.run)?;
+    if let Some(report) = &ended.run.notes.report {
         push_report(&mut out, report.as_slice())?;
     }
     Ok(out)

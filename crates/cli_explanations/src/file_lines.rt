@@ -1,6 +1,6 @@
 //! Lines of a file at fault, and what a file looks like.
 
-use cli::{FaultText, FileOption};
+use cli_answers::{FaultText, FileOption};
 use field_lines::{Fields, field_at};
 
 /// What helps against a file that is a zip archive.

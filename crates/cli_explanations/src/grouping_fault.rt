@@ -1,7 +1,7 @@
 //! Where a grouping's fault comes from, and what would help.
 
 use crate::options::Options;
-use cli::FileOption;
+use cli_answers::FileOption;
 use county_codes::{CountyCode, Group, Grouping, has_code};
 use county_problem::{GroupingFault, Problem};
 use std::alloc::{AllocError, Global};

@@ -5,10 +5,10 @@ use crate::county_names::push_county;
 use crate::options::Options;
 use crate::shown_bytes::start_of;
 use baf_auditor::{Finding, Findings, Set};
-use cli::{End, Ending};
+use cli::EndedRun;
+use cli_answers::{RunOutcome, Subject};
 use cli_words::CommandWords;
-use county_codes::{Codes, Grouping};
-use county_problem::Problem;
+use county_codes::Codes;
 use field_lines::Fields;
 use std::alloc::AllocError;
 use std::fmt::Write;
@@ -181,15 +181,17 @@ fn push_findings(
     out: &mut String,
     head: &[u8],
     findings: &Findings,
-    (problem, grouping): (&Problem, &Grouping),
+    subject: &Subject,
 ) -> Result<(), AllocError> {
     push_kinds(out, findings)?;
-    for (number, group) in (1..=u32::MAX).zip(&grouping.groups) {
-        if names_set(findings, Set::Group(number)) {
-            push_set(out, head, "group", number, &group.codes)?;
+    if let Some(grouping) = &subject.grouping {
+        for (number, group) in (1..=u32::MAX).zip(&grouping.groups) {
+            if names_set(findings, Set::Group(number)) {
+                push_set(out, head, "group", number, &group.codes)?;
+            }
         }
     }
-    for (number, set) in (1..=u32::MAX).zip(problem.withdrawn()) {
+    for (number, set) in (1..=u32::MAX).zip(subject.problem.withdrawn()) {
         if names_set(findings, Set::Withdrawn(number)) {
             push_set(out, head, "withdrawn set", number, &set.codes)?;
         }
@@ -217,13 +219,13 @@ fn has_groups(command: CommandWords<'_>) -> bool {
 pub(crate) fn push_named(
     out: &mut String,
     options: Options<'_>,
-    end: &End,
+    run: &EndedRun,
 ) -> Result<(), AllocError> {
-    let head = end.geo_head.as_slice();
-    if let Ending::Found(findings, problem, grouping) = &end.ending {
-        return push_findings(out, head, findings, (problem, grouping));
+    let head = run.notes.geo_head.as_slice();
+    if let (RunOutcome::Found(findings), Some(subject)) = (&run.outcome, &run.subject) {
+        return push_findings(out, head, findings, subject);
     }
-    match (options.command, &end.answer) {
+    match (options.command, &run.answer) {
         (Some(command), Some(answer)) if has_groups(command) => push_groups(out, head, answer),
         _ => Ok(()),
     }

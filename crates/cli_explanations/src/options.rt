@@ -1,7 +1,7 @@
 //! The files that the words of a command give.
 
 use crate::shown_bytes::name_of;
-use cli::FileOption;
+use cli_answers::FileOption;
 use cli_words::{CommandWords, CommonWords, ProblemWords, STANDARD_INPUT};
 use std::fmt;
 

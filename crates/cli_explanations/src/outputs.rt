@@ -3,7 +3,8 @@
 use crate::machine_files::{closed_reason, is_plain};
 use crate::options::path_in;
 use crate::shown_bytes::name_of;
-use cli::{End, FileOption};
+use cli::StoredFiles;
+use cli_answers::FileOption;
 use cli_words::CommandWords;
 use std::alloc::AllocError;
 use std::fmt::Write;
@@ -34,24 +35,10 @@ const OUTPUTS: [(FileOption, &str); 7] = [
     (FileOption::Record, "record"),
 ];
 
-/// Returns whether the run stored the file of `option`.
-fn has_stored_option(end: &End, option: FileOption) -> bool {
-    match option {
-        FileOption::CertificateOut => end.has_stored_certificate,
-        FileOption::Out => end.has_stored_out,
-        FileOption::Table => end.has_stored_table,
-        FileOption::Groupings => end.has_stored_groupings,
-        FileOption::Districts => end.has_stored_districts,
-        FileOption::EventsOut => end.has_stored_events,
-        FileOption::Record => end.has_stored_record,
-        _ => false,
-    }
-}
-
-/// Returns whether the run stored a file under `path`.
-fn has_stored(command: CommandWords<'_>, end: &End, path: &str) -> bool {
+/// Returns whether one of the `stored` files has this `path`.
+fn has_stored(command: CommandWords<'_>, stored: StoredFiles, path: &str) -> bool {
     for (option, _) in OUTPUTS {
-        if has_stored_option(end, option) && path_in(command, option) == Some(path) {
+        if stored.has(option) && path_in(command, option) == Some(path) {
             return true;
         }
     }
@@ -149,7 +136,7 @@ pub(crate) fn warn_of_outputs(
     Ok(())
 }
 
-/// Warns of older files that stay under the names of outputs because the run stored nothing there.
+/// Warns of older files that stay under the names of outputs because none of the `stored` files took their place.
 ///
 /// # Errors
 ///
@@ -158,11 +145,11 @@ pub(crate) fn warn_of_older_files(
     rt: &impl Files,
     out: &mut String,
     command: CommandWords<'_>,
-    end: &End,
+    stored: StoredFiles,
 ) -> Result<(), AllocError> {
     for (option, _) in OUTPUTS {
         match path_in(command, option) {
-            Some(path) if !has_stored(command, end, path) && is_plain(rt, path) => {
+            Some(path) if !has_stored(command, stored, path) && is_plain(rt, path) => {
                 let name = name_of(path);
                 writeln!(
                     out,

@@ -4,7 +4,7 @@ use crate::file_lines::{UNZIP, county_state, is_utf16, is_zip, line_at_fault, lo
 use crate::machine_files::is_plain;
 use crate::options::{NamedFile, Options};
 use crate::shown_bytes::start_of;
-use cli::{FaultText, FileFault, FileOption};
+use cli_answers::{FaultText, FileFault, FileOption};
 use cli_words::CommandWords;
 use county_problem::ProblemFault;
 use field_lines::field_at;

@@ -2,7 +2,8 @@
 
 use crate::options::{Options, common_of};
 use crate::shown_bytes::name_of;
-use cli::{End, FileOption};
+use cli::Notes;
+use cli_answers::FileOption;
 use cli_words::CommandWords;
 use std::alloc::AllocError;
 use std::fmt::Write;
@@ -15,9 +16,9 @@ use std::fmt::Write;
 pub(crate) fn warn_of_state(
     out: &mut String,
     command: CommandWords<'_>,
-    end: &End,
+    notes: &Notes,
 ) -> Result<(), AllocError> {
-    let (Some((count, people)), Some(all)) = (end.counties, end.state_people) else {
+    let (Some((count, people)), Some(all)) = (notes.counties, notes.state_people) else {
         return Ok(());
     };
     if u64::from(all) == people {
@@ -51,9 +52,9 @@ fn push_letters(out: &mut String, letters: [u8; 2]) -> Result<(), AllocError> {
 pub(crate) fn warn_of_two_states(
     out: &mut String,
     options: Options<'_>,
-    end: &End,
+    notes: &Notes,
 ) -> Result<(), AllocError> {
-    let (Some(geo), Some(segment)) = end.states else {
+    let (Some(geo), Some(segment)) = notes.states else {
         return Ok(());
     };
     if geo == segment || !are_letters(geo) || !are_letters(segment) {

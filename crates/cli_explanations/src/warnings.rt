@@ -1,7 +1,8 @@
 //! Warnings of what is odd about the files of a run, though no rule refuses it.
 
 use crate::options::Options;
-use cli::{End, Ending, FileOption, Warning};
+use cli::{EndedRun, Warning};
+use cli_answers::{FileOption, RunOutcome};
 use county_problem::ProblemFault;
 use std::alloc::AllocError;
 use std::fmt;
@@ -99,11 +100,11 @@ fn option_of(warning: Warning) -> FileOption {
 
 /// Returns whether the run was refused because a link adds a county that isn't listed, which is what a `warning` of it
 /// says.
-fn is_refusal(end: &End, warning: Warning) -> bool {
+fn is_refusal(outcome: &RunOutcome, warning: Warning) -> bool {
     matches!(warning, Warning::UnknownLink(_))
         && matches!(
-            &end.ending,
-            Ending::Problem(ProblemFault::UnknownPair(_, _))
+            outcome,
+            RunOutcome::Problem(ProblemFault::UnknownPair(_, _))
         )
 }
 
@@ -115,10 +116,10 @@ fn is_refusal(end: &End, warning: Warning) -> bool {
 pub(crate) fn push_warnings(
     out: &mut String,
     options: Options<'_>,
-    end: &End,
+    run: &EndedRun,
 ) -> Result<(), AllocError> {
-    for warning in &end.warnings {
-        if !is_refusal(end, *warning) {
+    for warning in &run.notes.warnings {
+        if !is_refusal(&run.outcome, *warning) {
             let (file, oddity) = (options.file(option_of(*warning)), Oddity(*warning));
             writeln!(out, "countygroups: warning: {file}: {oddity}")?;
         }

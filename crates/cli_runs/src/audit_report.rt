@@ -4,7 +4,7 @@ ghost use Rattle.std.specs.{Prelude.{◌≤◌, ◌<◌, All, IfOk, length, map,
 ghost use Rattle.cli_runs.specs.{JudgeCourse.{IsAudited, IsTableIfAsked}, Texts.audited_of};
 
 use baf_auditor::{Assignment, Findings, audit, districts};
-use cli_answers::RunAnswer;
+use cli_answers::{RunAnswer, RunOutcome};
 use county_codes::Grouping;
 use county_problem::Problem;
 use district_table::districts_table;
@@ -19,8 +19,6 @@ pub struct Audited {
     pub answer: RunAnswer,
     /// The table of the districts, or `None` if it isn't asked for.
     pub districts: Option<Vec<u8>>,
-    /// The findings, for whoever explains them to a person. No clause speaks of them.
-    pub findings: Findings,
 }
 
 /// Returns the table of the districts of a plan, or `None` if it isn't `asked` for.
@@ -43,6 +41,15 @@ fn table_if_asked(
     let list = districts(alloc, problem, grouping, blocks, lines)?;
     let table = districts_table(alloc, problem, &list)?;
     Ok(Some(table))
+}
+
+/// Returns what an audit with these `findings` comes to.
+fn audit_outcome(findings: Findings) -> RunOutcome {
+    if findings.list.is_empty() {
+        RunOutcome::Done
+    } else {
+        RunOutcome::Found(findings)
+    }
 }
 
 /// Returns what `audit` says of the assignments of a plan: all findings of `blocks` and `lines` against `grouping`. The
@@ -72,8 +79,12 @@ pub fn audit_and_report(
     let text = findings_text(alloc, &findings)?;
     let status = if findings.list.is_empty() { 0 } else { 1 };
     Ok(Audited {
-        answer: RunAnswer { text, status },
+        answer: RunAnswer {
+            text,
+            status,
+            outcome: audit_outcome(findings),
+            subject: None,
+        },
         districts: table,
-        findings,
     })
 }

@@ -14,33 +14,12 @@ ghost use Rattle.branch_bound.specs.Resuming.{longest as longest_of};
 use board_report::{BoardShape, Shared, piece_text, prove_waiting, share};
 use branch_bound::Piece;
 use certificate_data::Format;
-use cli_answers::RunAnswer;
+use cli_answers::{RunAnswer, RunOutcome};
 use cli_words::{PieceWords, RoundWords};
 use county_codes::{Group, Grouping};
 use county_problem::Problem;
 use share_board::{BoardFault, Event};
 use std::alloc::{AllocError, Global};
-
-/// How a piece ended, for whoever explains it to a person. No clause speaks of it.
-#[derive(Clone, Copy, Debug, PartialEq, Eq)]
-pub enum PieceEnd {
-    /// The answer is an event that `share` takes.
-    Answered,
-    /// The steps ran out. The value tells whether the answer gives a part of the proof.
-    Open(bool),
-    /// No piece with the given number waits.
-    NoSuchPiece,
-}
-
-/// What `piece` says.
-#[derive(Drop)]
-pub struct PieceSaid {
-    /// The text of the piece, with status 0, or 3 if the steps ran out. If no such piece waits, it says that, with
-    /// status 4.
-    pub answer: RunAnswer,
-    /// How the piece ended.
-    pub end: PieceEnd,
-}
 
 /// Returns the format of the rounds that `words` give.
 pub fn format_for(words: RoundWords) -> Format
@@ -108,11 +87,11 @@ pub fn share_events(
     share(alloc, problem, grouping, shape, events, budget)
 }
 
-/// Returns how `piece` ended.
-fn end_of(piece: &Piece) -> PieceEnd {
+/// Returns what a run comes to that gives `piece`.
+fn piece_outcome(piece: &Piece) -> RunOutcome {
     match piece {
-        Piece::Proved(_) | Piece::Better(_) | Piece::Wider(_) => PieceEnd::Answered,
-        Piece::Open(part) => PieceEnd::Open(part.is_some()),
+        Piece::Proved(_) | Piece::Better(_) | Piece::Wider(_) => RunOutcome::Done,
+        Piece::Open(part) => RunOutcome::PieceOpen(part.is_some()),
     }
 }
 
@@ -132,29 +111,28 @@ fn report_piece(
     words: PieceWords<'_>,
     counties: u16,
     piece: Piece,
-) -> Result<PieceSaid, AllocError>
+) -> Result<RunAnswer, AllocError>
     requires few { counties ≤ most }
     requires text { HasText (format_of words.board.round) counties words.number piece }
-    ensures { IfOk result (λ s. answer_of s.answer ≡ piece_said words.entry.round words.entry.number (Some piece)) }
+    ensures { IfOk result (λ a. answer_of a ≡ piece_said words.entry.round words.entry.number (Some piece)) }
 {
     let format = format_for(words.board.round);
-    let end = end_of(&piece);
+    let outcome = piece_outcome(&piece);
     let status = status_of(&piece);
     let text = piece_text(alloc, piece, words.round, words.number, format, counties)?;
-    Ok(PieceSaid {
-        answer: RunAnswer { text, status },
-        end,
+    Ok(RunAnswer {
+        text,
+        status,
+        outcome,
+        subject: None,
     })
 }
 
 /// Returns what is said if no piece of the number waits.
-fn report_none(alloc: Global) -> Result<PieceSaid, AllocError>
-    ensures { IfOk result (λ s. answer_of s.answer ≡ no_such_piece) }
+fn report_none(alloc: Global) -> Result<RunAnswer, AllocError>
+    ensures { IfOk result (λ a. answer_of a ≡ no_such_piece) }
 {
-    Ok(PieceSaid {
-        answer: RunAnswer::new(alloc, b"no such piece\n", 4)?,
-        end: PieceEnd::NoSuchPiece,
-    })
+    RunAnswer::new(alloc, b"no such piece\n", 4, RunOutcome::NoSuchPiece)
 }
 
 /// Returns what is said of the piece whose number `words` give. `answer` is `None` if that piece doesn't wait.
@@ -163,10 +141,10 @@ fn report_answer(
     words: PieceWords<'_>,
     counties: u16,
     answer: Option<Piece>,
-) -> Result<PieceSaid, AllocError>
+) -> Result<RunAnswer, AllocError>
     requires few { counties ≤ most }
     requires text { IfSome answer (HasText (format_of words.board.round) counties words.number) }
-    ensures { IfOk result (λ s. answer_of s.answer ≡ piece_said words.entry.round words.entry.number answer) }
+    ensures { IfOk result (λ a. answer_of a ≡ piece_said words.entry.round words.entry.number answer) }
 {
     match answer {
         Some(piece) => report_piece(alloc, words, counties, piece),
@@ -187,12 +165,12 @@ pub fn piece_and_report(
     grouping: &Grouping,
     words: PieceWords<'_>,
     events: Vec<Event>,
-) -> Result<PieceSaid, BoardFault>
+) -> Result<RunAnswer, BoardFault>
     ensures said { IfOk
         result
-        (λ s. (piece : Option PieceValue)
+        (λ a. (piece : Option PieceValue)
         × AnswersOnBoard problem.now grouping.now.groups.items words.entry.board.round piece_budget (λ round. IsAnswered (problem_of problem.now) (depth_of words.entry.board.round) round (map event_of events.items) words.entry.number) (Ok piece)
-        × (answer_of s.answer ≡ piece_said words.entry.round words.entry.number piece)) }
+        × (answer_of a ≡ piece_said words.entry.round words.entry.number piece)) }
     ensures fault { IfErr
         result
         (λ fault. AnswersOnBoard problem.now grouping.now.groups.items words.entry.board.round piece_budget (λ round. IsAnswered (problem_of problem.now) (depth_of words.entry.board.round) round (map event_of events.items) words.entry.number) (Err fault)) }

@@ -10,71 +10,63 @@ ghost use Rattle.cli_runs.specs.Texts.{reported_of, tabled_of};
 
 use crate::table_runs::{Reported, Tabled, table_of};
 use certificate_checker::{CheckStop, Verdict, check_from_keeping};
-use cli_answers::{RunAnswer, budget_answer, no_answer};
+use cli_answers::{RunAnswer, RunOutcome, budget_answer, no_answer};
 use county_codes::Grouping;
 use field_lines::Source;
 use grouping_report::{Outcome, report};
-use state_judge::CheckFault;
 use std::alloc::{AllocError, Global};
 
-/// What `check` says, and the fault of a text that is no certificate.
-#[derive(Drop)]
-pub struct Checked {
-    /// The report, with status 0 or 1, or the line that stands in its place, with status 1 or 3. The table is that of a
-    /// grouping that is best.
-    pub reported: Reported,
-    /// The first fault of a text that is no certificate, and its line, which counts from 1. `None` for every other
-    /// verdict.
-    pub fault: Option<(CheckFault, u64)>,
-}
-
-/// Returns `answer` without a table, and the `fault` of a text that is no certificate.
-fn without_table(answer: RunAnswer, fault: Option<(CheckFault, u64)>) -> Checked
-    ensures { reported_of result.reported ≡ record { answer = answer_of answer; table = None } }
+/// Returns `answer` without a table.
+fn without_table(answer: RunAnswer) -> Reported
+    ensures { reported_of result ≡ record { answer = answer_of answer; table = None } }
 {
-    Checked {
-        reported: Reported {
-            answer,
-            table: None,
-        },
-        fault,
+    Reported {
+        answer,
+        table: None,
     }
 }
 
 /// Returns what is said of a `grouping` that is best, with its table if a table is asked for.
-fn report_best(alloc: Global, tabled: &Tabled, grouping: Grouping) -> Result<Checked, AllocError>
+fn report_best(alloc: Global, tabled: &Tabled, grouping: Grouping) -> Result<Reported, AllocError>
     requires { CheckIsRight (problem_of tabled.now.problem) (verdict.Best grouping) }
-    ensures { IfOk result (λ c. reported_of c.reported
+    ensures { IfOk result (λ r. reported_of r
         ≡ record { answer = verdict_said tabled.now.problem (verdict.Best grouping); table = verdict_table (tabled_of tabled.now) (verdict.Best grouping) }) }
 {
     let table = table_of(alloc, tabled, &grouping)?;
     let text = report(alloc, &tabled.problem, &Outcome::Best(grouping))?;
-    Ok(Checked {
-        reported: Reported {
-            answer: RunAnswer { text, status: 0 },
-            table,
+    Ok(Reported {
+        answer: RunAnswer {
+            text,
+            status: 0,
+            outcome: RunOutcome::Done,
+            subject: None,
         },
-        fault: None,
+        table,
     })
 }
 
 /// Returns what is said of `verdict`.
-fn report_verdict(alloc: Global, tabled: &Tabled, verdict: Verdict) -> Result<Checked, AllocError>
+fn report_verdict(alloc: Global, tabled: &Tabled, verdict: Verdict) -> Result<Reported, AllocError>
     requires { CheckIsRight (problem_of tabled.now.problem) verdict }
-    ensures { IfOk result (λ c. reported_of c.reported
+    ensures { IfOk result (λ r. reported_of r
         ≡ record { answer = verdict_said tabled.now.problem verdict; table = verdict_table (tabled_of tabled.now) verdict }) }
 {
     match verdict {
         Verdict::Best(grouping) => report_best(alloc, tabled, grouping),
         Verdict::Impossible => {
             let text = report(alloc, &tabled.problem, &Outcome::Impossible)?;
-            Ok(without_table(RunAnswer { text, status: 1 }, None))
+            Ok(without_table(RunAnswer {
+                text,
+                status: 1,
+                outcome: RunOutcome::Impossible,
+                subject: None,
+            }))
         }
         Verdict::No(fault, line) => {
             let answer = no_answer(alloc, fault, line)?;
-            Ok(without_table(answer, Some((fault, line))))
+            Ok(without_table(answer))
         }
-        Verdict::Budget => Ok(without_table(budget_answer(alloc)?, None)),
+        Verdict::Budget => Ok(without_table(budget_answer(alloc)?)),
     }
 }
 
@@ -91,9 +83,9 @@ pub fn check_from_and_report<S: Source>(
     source: &mut S,
     budget: u64,
     line: &mut Vec<u8>,
-) -> Result<Checked, CheckStop>
+) -> Result<Reported, CheckStop>
     requires { S.is_failed source.old ≡ false }
-    ensures checked { IfOk result (λ c. ChecksGiven (tabled_of tabled.now) budget (S.given source.old) (S.given source.new) (reported_of c.reported)) }
+    ensures checked { IfOk result (λ r. ChecksGiven (tabled_of tabled.now) budget (S.given source.old) (S.given source.new) (reported_of r)) }
     ensures failed { S.is_failed source.new ≡ is_read_fault result }
 {
     let verdict = match check_from_keeping(alloc, &tabled.problem, source, budget, line) {
@@ -101,7 +93,7 @@ pub fn check_from_and_report<S: Source>(
         Err(stop) => return Err(stop),
     };
     match report_verdict(alloc, tabled, verdict) {
-        Ok(checked) => Ok(checked),
+        Ok(reported) => Ok(reported),
         Err(AllocError) => Err(CheckStop::Memory),
     }
 }

@@ -10,47 +10,33 @@ ghost use Rattle.cli_runs.specs.{JudgeCourse.HasTable, Texts.{reported_of, table
 
 use crate::table_runs::{Reported, Tabled, table_of};
 use certificate_checker::{Verdict, check};
-use cli_answers::RunAnswer;
+use cli_answers::{BestNotShown, RunAnswer, RunOutcome};
 use county_codes::Grouping;
 use county_problem::{Counts, Problem, compare, judge};
 use grouping_report::{Outcome, report};
-use state_judge::CheckFault;
 use std::alloc::{AllocError, Global};
 use std::cmp::Ordering;
 
-/// Why a certificate doesn't show that a lawful grouping is best, for whoever explains it to a person. No clause speaks
-/// of it.
-#[derive(Drop)]
-pub enum BestNotShown {
-    /// The text is no certificate: its first fault, and the line, which counts from 1.
-    NoCertificate(CheckFault, u64),
-    /// The text shows that no grouping is lawful. There is a lawful one, so this can't be.
-    Impossible,
-    /// The budget was too small.
-    Budget,
-    /// The certificate's grouping is best and has greater counts. The counts of the judged grouping stand first, and
-    /// then those of the certificate's grouping.
-    Lesser(Counts, Counts),
-}
-
-/// What `judge` says of a lawful grouping, and why a certificate doesn't show that it is best.
-#[derive(Drop)]
-pub struct Judged {
-    /// The report, with status 0, and the grouping's table.
-    pub reported: Reported,
-    /// Why the report doesn't say `best`. `None` if it does, and if no certificate was given.
-    pub best_not_shown: Option<BestNotShown>,
-}
-
-/// Returns the report of a lawful `grouping`, with status 0, and its table if a table is asked for.
-fn lawful_report(alloc: Global, tabled: &Tabled, grouping: Grouping) -> Result<Reported, AllocError>
+/// Returns the report of a lawful `grouping`, with status 0, and its table if a table is asked for. `outcome` tells why
+/// the grouping isn't shown to be best, if a certificate was given.
+fn lawful_report(
+    alloc: Global,
+    tabled: &Tabled,
+    grouping: Grouping,
+    outcome: RunOutcome,
+) -> Result<Reported, AllocError>
     requires { Lawful (problem_of tabled.now.problem) grouping.groups.items }
     ensures said { IfOk result (λ r. answer_of r.answer ≡ lawful_answer tabled.now.problem grouping.groups.items) }
     ensures table { IfOk result (λ r. HasTable (tabled_of tabled.now) grouping.groups.items (reported_of r)) }
 {
     let table = table_of(alloc, tabled, &grouping)?;
     let text = report(alloc, &tabled.problem, &Outcome::Lawful(grouping))?;
-    let answer = RunAnswer { text, status: 0 };
+    let answer = RunAnswer {
+        text,
+        status: 0,
+        outcome,
+        subject: None,
+    };
     Ok(Reported { answer, table })
 }
 
@@ -62,27 +48,33 @@ fn best_report(alloc: Global, tabled: &Tabled, grouping: Grouping) -> Result<Rep
 {
     let table = table_of(alloc, tabled, &grouping)?;
     let text = report(alloc, &tabled.problem, &Outcome::Best(grouping))?;
-    let answer = RunAnswer { text, status: 0 };
+    let answer = RunAnswer {
+        text,
+        status: 0,
+        outcome: RunOutcome::Done,
+        subject: None,
+    };
     Ok(Reported { answer, table })
 }
 
-/// Returns what is said of a lawful `grouping` that isn't shown to be best. `best_not_shown` tells why it isn't.
+/// Returns what is said of a lawful `grouping` whose certificate doesn't show that it is best. `best_not_shown` tells
+/// why it doesn't.
 fn left_lawful(
     alloc: Global,
     tabled: &Tabled,
     grouping: Grouping,
-    best_not_shown: Option<BestNotShown>,
-) -> Result<Judged, AllocError>
+    best_not_shown: BestNotShown,
+) -> Result<Reported, AllocError>
     requires { Lawful (problem_of tabled.now.problem) grouping.groups.items }
-    ensures said { IfOk result (λ j. answer_of j.reported.answer
-        ≡ lawful_answer tabled.now.problem grouping.groups.items) }
-    ensures table { IfOk result (λ j. HasTable (tabled_of tabled.now) grouping.groups.items (reported_of j.reported)) }
+    ensures said { IfOk result (λ r. answer_of r.answer ≡ lawful_answer tabled.now.problem grouping.groups.items) }
+    ensures table { IfOk result (λ r. HasTable (tabled_of tabled.now) grouping.groups.items (reported_of r)) }
 {
-    let reported = lawful_report(alloc, tabled, grouping)?;
-    Ok(Judged {
-        reported,
-        best_not_shown,
-    })
+    lawful_report(
+        alloc,
+        tabled,
+        grouping,
+        RunOutcome::NotShownBest(best_not_shown),
+    )
 }
 
 /// Returns the counts of a lawful `grouping`. Judging it can fail only for want of memory.
@@ -104,25 +96,17 @@ fn report_beside_best(
     grouping: Grouping,
     own: Counts,
     target: Grouping,
-) -> Result<Judged, AllocError>
+) -> Result<Reported, AllocError>
     requires lawful { Lawful (problem_of tabled.now.problem) grouping.groups.items }
     requires own { (size : ℕ) → count_at own size ≡ counts (sets_of grouping.groups.items) size }
     requires best { CheckIsRight (problem_of tabled.now.problem) (Verdict.Best target) }
-    ensures said { IfOk result (λ j. SaysBeside tabled.now.problem grouping.groups.items (Verdict.Best target) (answer_of j.reported.answer)) }
-    ensures table { IfOk result (λ j. HasTable (tabled_of tabled.now) grouping.groups.items (reported_of j.reported)) }
+    ensures said { IfOk result (λ r. SaysBeside tabled.now.problem grouping.groups.items (Verdict.Best target) (answer_of r.answer)) }
+    ensures table { IfOk result (λ r. HasTable (tabled_of tabled.now) grouping.groups.items (reported_of r)) }
 {
     let best = counts_of(alloc, &tabled.problem, &target)?;
     match compare(&own, &best) {
-        Ordering::Equal => Ok(Judged {
-            reported: best_report(alloc, tabled, grouping)?,
-            best_not_shown: None,
-        }),
-        _ => left_lawful(
-            alloc,
-            tabled,
-            grouping,
-            Some(BestNotShown::Lesser(own, best)),
-        ),
+        Ordering::Equal => best_report(alloc, tabled, grouping),
+        _ => left_lawful(alloc, tabled, grouping, BestNotShown::Lesser(own, best)),
     }
 }
 
@@ -133,21 +117,21 @@ fn report_beside(
     grouping: Grouping,
     own: Counts,
     verdict: Verdict,
-) -> Result<Judged, AllocError>
+) -> Result<Reported, AllocError>
     requires lawful { Lawful (problem_of tabled.now.problem) grouping.groups.items }
     requires own { (size : ℕ) → count_at own size ≡ counts (sets_of grouping.groups.items) size }
     requires best { CheckIsRight (problem_of tabled.now.problem) verdict }
-    ensures said { IfOk result (λ j. SaysBeside tabled.now.problem grouping.groups.items verdict (answer_of j.reported.answer)) }
-    ensures table { IfOk result (λ j. HasTable (tabled_of tabled.now) grouping.groups.items (reported_of j.reported)) }
+    ensures said { IfOk result (λ r. SaysBeside tabled.now.problem grouping.groups.items verdict (answer_of r.answer)) }
+    ensures table { IfOk result (λ r. HasTable (tabled_of tabled.now) grouping.groups.items (reported_of r)) }
 {
     match verdict {
         Verdict::Best(target) => report_beside_best(alloc, tabled, grouping, own, target),
-        Verdict::Impossible => left_lawful(alloc, tabled, grouping, Some(BestNotShown::Impossible)),
+        Verdict::Impossible => left_lawful(alloc, tabled, grouping, BestNotShown::Impossible),
         Verdict::No(fault, line) => {
             let best_not_shown = BestNotShown::NoCertificate(fault, line);
-            left_lawful(alloc, tabled, grouping, Some(best_not_shown))
+            left_lawful(alloc, tabled, grouping, best_not_shown)
         }
-        Verdict::Budget => left_lawful(alloc, tabled, grouping, Some(BestNotShown::Budget)),
+        Verdict::Budget => left_lawful(alloc, tabled, grouping, BestNotShown::Budget),
     }
 }
 
@@ -160,11 +144,11 @@ fn report_by(
     own: Counts,
     text: &[u8],
     budget: u64,
-) -> Result<Judged, AllocError>
+) -> Result<Reported, AllocError>
     requires lawful { Lawful (problem_of tabled.now.problem) grouping.groups.items }
     requires own { (size : ℕ) → count_at own size ≡ counts (sets_of grouping.groups.items) size }
-    ensures said { IfOk result (λ j. IsSaidBy tabled.now.problem grouping.groups.items budget text.now (answer_of j.reported.answer)) }
-    ensures table { IfOk result (λ j. HasTable (tabled_of tabled.now) grouping.groups.items (reported_of j.reported)) }
+    ensures said { IfOk result (λ r. IsSaidBy tabled.now.problem grouping.groups.items budget text.now (answer_of r.answer)) }
+    ensures table { IfOk result (λ r. HasTable (tabled_of tabled.now) grouping.groups.items (reported_of r)) }
 {
     let verdict = check(alloc, &tabled.problem, text, budget)?;
     report_beside(alloc, tabled, grouping, own, verdict)
@@ -183,14 +167,14 @@ pub fn judge_and_report(
     own: Counts,
     certificate: Option<&Vec<u8>>,
     budget: u64,
-) -> Result<Judged, AllocError>
+) -> Result<Reported, AllocError>
     requires lawful { Lawful (problem_of tabled.now.problem) grouping.groups.items }
     requires own { (size : ℕ) → count_at own size ≡ counts (sets_of grouping.groups.items) size }
-    ensures said { IfOk result (λ j. IsSaidOf tabled.now.problem grouping.groups.items budget (option_map (λ t. t.now.items) certificate.entry) (answer_of j.reported.answer)) }
-    ensures table { IfOk result (λ j. HasTable (tabled_of tabled.now) grouping.groups.items (reported_of j.reported)) }
+    ensures said { IfOk result (λ r. IsSaidOf tabled.now.problem grouping.groups.items budget (option_map (λ t. t.now.items) certificate.entry) (answer_of r.answer)) }
+    ensures table { IfOk result (λ r. HasTable (tabled_of tabled.now) grouping.groups.items (reported_of r)) }
 {
     match certificate {
         Some(text) => report_by(alloc, tabled, grouping, own, text, budget),
-        None => left_lawful(alloc, tabled, grouping, None),
+        None => lawful_report(alloc, tabled, grouping, RunOutcome::Done),
     }
 }

@@ -21,12 +21,10 @@ mod table_runs;
 mod which_grouping;
 
 pub use audit_report::{Audited, audit_and_report};
-pub use board_reports::{
-    PieceEnd, PieceSaid, format_for, piece_and_report, shape_for, share_events,
-};
-pub use checker_report::{Checked, check_from_and_report};
-pub use judge_report::{BestNotShown, Judged, judge_and_report};
+pub use board_reports::{format_for, piece_and_report, shape_for, share_events};
+pub use checker_report::check_from_and_report;
+pub use judge_report::judge_and_report;
 pub use laws::{runs_agree, runs_are_of_their_loads, runs_tell};
-pub use listing_report::{Asked, ListEnd, Listed, list_and_report};
+pub use listing_report::{Asked, Listed, list_and_report};
 pub use solver_report::{Solved, solve_and_report};
 pub use table_runs::{Reported, Tabled};

@@ -12,7 +12,7 @@ ghost use Rattle.cli_runs.specs.Texts.{asked_of, listed_of, tabled_of};
 
 use crate::table_runs::Tabled;
 use crate::which_grouping::{number_in_list, push_number_line};
-use cli_answers::{RunAnswer, budget_answer, no_answer};
+use cli_answers::{RunAnswer, RunOutcome, budget_answer, no_answer};
 use county_codes::Grouping;
 use county_problem::Problem;
 use field_lines::push_number;
@@ -20,27 +20,7 @@ use grouping_report::{Outcome, grouping_text, report};
 use grouping_table::groupings_table;
 use list_groupings::{Gap, Listing, all_best};
 use list_report::listing;
-use state_judge::CheckFault;
 use std::alloc::{AllocError, Global};
-
-/// How a list ended, for whoever explains it to a person. No clause speaks of it.
-#[derive(Clone, Copy, Debug, PartialEq, Eq)]
-pub enum ListEnd {
-    /// All best groupings are listed.
-    All,
-    /// All best groupings are listed, this number of them. The grouping whose number is asked for isn't one of them.
-    Unlisted(usize),
-    /// All best groupings are known, this number of them. None has the number that is to be stored.
-    NoSuchGrouping(usize),
-    /// The certificate doesn't show which other groupings are best: why not, and the line, which counts from 1.
-    Open(Gap, u64),
-    /// No grouping is lawful.
-    Impossible,
-    /// The text is no certificate: its first fault, and the line, which counts from 1.
-    NoCertificate(CheckFault, u64),
-    /// The budget was too small.
-    Budget,
-}
 
 /// What `list` is asked for beside the listing.
 #[derive(Drop)]
@@ -61,19 +41,16 @@ pub struct Listed {
     pub grouping: Option<Vec<u8>>,
     /// The table of all listed groupings, or `None` if it isn't asked for.
     pub table: Option<Vec<u8>>,
-    /// How the list ended.
-    pub end: ListEnd,
 }
 
-/// Returns `answer` and `end` with no texts for files.
-fn alone(answer: RunAnswer, end: ListEnd) -> Listed
+/// Returns `answer` with no texts for files.
+fn alone(answer: RunAnswer) -> Listed
     ensures { listed_of result ≡ said_alone (answer_of answer) }
 {
     Listed {
         answer,
         grouping: None,
         table: None,
-        end,
     }
 }
 
@@ -106,7 +83,12 @@ fn open_answer(alloc: Global, gap: Gap, line: u64) -> Result<RunAnswer, AllocErr
     ensures { IfOk result (λ a. answer_of a ≡ answer_of_gap gap line) }
 {
     let text = open_text(alloc, gap, line)?;
-    Ok(RunAnswer { text, status: 3 })
+    Ok(RunAnswer {
+        text,
+        status: 3,
+        outcome: RunOutcome::ListOpen(line),
+        subject: None,
+    })
 }
 
 /// Returns the grouping of this `number`, which counts from 1. `None` if no grouping has it.
@@ -117,6 +99,15 @@ fn numbered(groupings: &[Grouping], number: u32) -> Option<&Grouping>
         return None;
     }
     groupings.get(number as usize - 1)
+}
+
+/// Returns what a list of `count` groupings comes to whose answer has this `status`.
+fn listed_outcome(status: u8, count: usize) -> RunOutcome {
+    if status == 0 {
+        RunOutcome::Done
+    } else {
+        RunOutcome::Unlisted(count)
+    }
 }
 
 /// Returns the listing of `groupings`, with status 0. If the number of a grouping `which` is asked for, its line stands
@@ -133,12 +124,22 @@ fn listing_answer(
 {
     let mut text = listing(alloc, problem, groupings)?;
     match which {
-        None => Ok(RunAnswer { text, status: 0 }),
+        None => Ok(RunAnswer {
+            text,
+            status: 0,
+            outcome: RunOutcome::Done,
+            subject: None,
+        }),
         Some(grouping) => {
             let number = number_in_list(grouping, groupings);
             push_number_line(&mut text, number)?;
             let status = if number.is_some() { 0 } else { 1 };
-            Ok(RunAnswer { text, status })
+            Ok(RunAnswer {
+                text,
+                status,
+                outcome: listed_outcome(status, groupings.len()),
+                subject: None,
+            })
         }
     }
 }
@@ -161,15 +162,6 @@ fn table_of_all(
     }
 }
 
-/// Returns the end of a list of `count` groupings whose answer has this `status`.
-fn end_of(status: u8, count: usize) -> ListEnd {
-    if status == 0 {
-        ListEnd::All
-    } else {
-        ListEnd::Unlisted(count)
-    }
-}
-
 /// Returns the listing and the table, beside the `lines` of a grouping that is to be stored.
 fn report_listing(
     alloc: Global,
@@ -184,12 +176,10 @@ fn report_listing(
 {
     let answer = listing_answer(alloc, &tabled.problem, groupings, which)?;
     let table = table_of_all(alloc, tabled, groupings)?;
-    let end = end_of(answer.status, groupings.len());
     Ok(Listed {
         answer,
         grouping: lines,
         table,
-        end,
     })
 }
 
@@ -207,10 +197,11 @@ fn report_all(
     match asked.number {
         None => report_listing(alloc, tabled, groupings, &asked.which, None),
         Some(number) => match numbered(groupings, number) {
-            None => Ok(alone(
-                RunAnswer::new(alloc, b"no such grouping\n", 4)?,
-                ListEnd::NoSuchGrouping(groupings.len()),
-            )),
+            None => {
+                let outcome = RunOutcome::NoSuchGrouping(groupings.len());
+                let answer = RunAnswer::new(alloc, b"no such grouping\n", 4, outcome)?;
+                Ok(alone(answer))
+            }
             Some(grouping) => {
                 let lines = grouping_text(alloc, grouping)?;
                 report_listing(alloc, tabled, groupings, &asked.which, Some(lines))
@@ -234,17 +225,22 @@ fn report_list(
         Listing::All(groupings) => report_all(alloc, tabled, &groupings, asked),
         Listing::Open(gap, line) => {
             let answer = open_answer(alloc, gap, line)?;
-            Ok(alone(answer, ListEnd::Open(gap, line)))
+            Ok(alone(answer))
         }
         Listing::Impossible => {
             let text = report(alloc, &tabled.problem, &Outcome::Impossible)?;
-            Ok(alone(RunAnswer { text, status: 1 }, ListEnd::Impossible))
+            Ok(alone(RunAnswer {
+                text,
+                status: 1,
+                outcome: RunOutcome::Impossible,
+                subject: None,
+            }))
         }
         Listing::No(fault, line) => {
             let answer = no_answer(alloc, fault, line)?;
-            Ok(alone(answer, ListEnd::NoCertificate(fault, line)))
+            Ok(alone(answer))
         }
-        Listing::Budget => Ok(alone(budget_answer(alloc)?, ListEnd::Budget)),
+        Listing::Budget => Ok(alone(budget_answer(alloc)?)),
     }
 }
 

@@ -20,7 +20,7 @@ use branch_bound::{Answer as SolverAnswer, Watcher, solve_watched};
 use certificate_data::Certificate;
 use certificate_lines::WriteFault;
 use certificate_text::write;
-use cli_answers::RunAnswer;
+use cli_answers::{RunAnswer, RunOutcome};
 use county_codes::Grouping;
 use grouping_report::{Outcome, grouping_text, report};
 use partial_trees::PartialTree;
@@ -69,7 +69,12 @@ fn report_best(
     let table = table_of(alloc, tabled, &grouping)?;
     let text = report(alloc, &tabled.problem, &Outcome::Best(grouping))?;
     Ok(Solved {
-        answer: RunAnswer { text, status: 0 },
+        answer: RunAnswer {
+            text,
+            status: 0,
+            outcome: RunOutcome::Done,
+            subject: None,
+        },
         certificate: Some(lines),
         grouping: Some(groups),
         table,
@@ -89,7 +94,12 @@ fn report_impossible(
     let lines = certificate_lines(alloc, &certificate)?;
     let text = report(alloc, &tabled.problem, &Outcome::Impossible)?;
     Ok(Solved {
-        answer: RunAnswer { text, status: 1 },
+        answer: RunAnswer {
+            text,
+            status: 1,
+            outcome: RunOutcome::Impossible,
+            subject: None,
+        },
         certificate: Some(lines),
         grouping: None,
         table: None,
@@ -159,7 +169,12 @@ fn report_open(
     let events = events_of_found(alloc, tabled, &found, part)?;
     let text = report(alloc, &tabled.problem, &Outcome::Open(found, steps))?;
     Ok(Solved {
-        answer: RunAnswer { text, status: 3 },
+        answer: RunAnswer {
+            text,
+            status: 3,
+            outcome: RunOutcome::Open,
+            subject: None,
+        },
         certificate: None,
         grouping: groups,
         table,

@@ -5,7 +5,7 @@
 mod progress;
 
 use crate::progress::Progress;
-use cli::{End, run_program};
+use cli::{EndedRun, run_program};
 use cli_explanations::{Ended, explain, explain_before};
 use cli_file_stores::{DiskFileStore, Sink, Writing};
 use field_lines::Reading;
@@ -40,8 +40,8 @@ fn tell(rt: &HostRuntime, text: Result<String, AllocError>) {
 struct Ran {
     /// The exit status.
     status: u8,
-    /// How it ended.
-    end: End,
+    /// What it came to, and what it noted on its way.
+    ended: EndedRun,
     /// What sort of error the system gave at the last file that failed.
     reason: Option<ErrorKind>,
 }
@@ -51,7 +51,7 @@ fn run(rt: &HostRuntime, words: &[&str], out: &mut impl Sink) -> Ran {
     let mut file_store = DiskFileStore::new(rt);
     let mut input = Reading::new(rt.reader());
     let mut progress = Progress::new(rt);
-    let (status, end) = run_program(
+    let (status, ended) = run_program(
         rt.alloc(),
         words,
         &mut file_store,
@@ -62,7 +62,7 @@ fn run(rt: &HostRuntime, words: &[&str], out: &mut impl Sink) -> Ran {
     progress.clear();
     Ran {
         status,
-        end,
+        ended,
         reason: file_store.reason(),
     }
 }
@@ -76,7 +76,7 @@ fn run_and_tell(rt: &HostRuntime, words: &[&str]) -> u8 {
     let ran = run(rt, words, &mut out);
     let ended = Ended {
         words,
-        end: &ran.end,
+        run: &ran.ended,
         reason: ran.reason,
         is_unwritten: out.failed(),
         is_at_terminal: rt.stdout().is_terminal(),

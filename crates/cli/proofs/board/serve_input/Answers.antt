@@ -65,6 +65,6 @@ returns-in-Err-clause-served g c =
     let answer = (Err c.in-Err.fault) in
     let read = subst (λ (f : Option Files). IsRead f standard_input to.bytes answer) c.open.ensures.same c.in-Err.ensures.read in
     let back = read_back files before opened after to.bytes answer c.in_ok-reader.ensures.course read c.in-Err.ensures.logged in
-    let s = refused v words target run.1 in_words.0 from to c.in_ok-reader.ensures.given run.0 c.refuse_named.result in
-    let is = run_failed v words target run.1 in_words.0 from to c.in_ok-reader.ensures.given run.0 c.serve_events-served.result in_words.1 c.in-Err.fault c.refuse_named.result c.refuse_named.ensures in
+    let s = refused v words target run.1 in_words.0 from to c.in_ok-reader.ensures.given run.0 c.refuse_load.result in
+    let is = run_failed v words target run.1 in_words.0 from to c.in_ok-reader.ensures.given run.0 c.serve_events-served.result in_words.1 c.in-Err.fault c.refuse_load.result c.refuse_load.ensures in
     (run.0, run.3, inr (s, input_ran files v words target before after (record { bytes = to.bytes; answer = answer }) s back is, refl, refl, refl))

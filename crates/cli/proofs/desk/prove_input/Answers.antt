@@ -60,6 +60,6 @@ returns-in-Err-clause-proved g c =
     let read = subst (λ (f : Option Files). IsRead f standard_input to.bytes answer) c.open.ensures.same c.in-Err.ensures.read in
     let back = read_back files before opened after to.bytes answer c.in_ok-reader.ensures.course read c.in-Err.ensures.logged in
     let run = c.prove_pieces-proved.ensures in
-    let s = desked v from to fresh run.0 run.1 (said_by (Err c.refuse_named.result)) in
-    let is = desk_failed v from to fresh run.0 run.1 c.prove_pieces-proved.result run.3 c.in-Err.fault c.refuse_named.result c.refuse_named.ensures in
+    let s = desked v from to fresh run.0 run.1 (said_by (Err c.refuse_load.result)) in
+    let is = desk_failed v from to fresh run.0 run.1 c.prove_pieces-proved.result run.3 c.in-Err.fault c.refuse_load.result c.refuse_load.ensures in
     (run.0, run.2, inr (s, texts_ran files v before after (record { bytes = to.bytes; answer = answer }) s back is, refl, refl))

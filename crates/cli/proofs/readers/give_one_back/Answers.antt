@@ -9,4 +9,4 @@ returns-in-Ok-clause-back g c =
 pub returns-in-Err-clause-back : goal.returns-in-Err-clause-back
 returns-in-Err-clause-back g c =
     one_failed (g.H.FileStore.contents c.args.file_store.now) c.args.name.now (g.H.Reader.Source.given c.args.reader) c.give_back.result (g.H.FileStore.history c.args.file_store.now) (g.H.FileStore.history c.give_back.new.self)
-    c.give_back.ensures.read c.give_back.ensures.logged c.in-Err.fault c.refuse_named.result c.in-Err.is c.refuse_named.ensures
+    c.give_back.ensures.read c.give_back.ensures.logged c.in-Err.fault c.refuse_load.result c.in-Err.is c.refuse_load.ensures

@@ -6,5 +6,5 @@ use Rattle.cli_runs.proofs.judge_report.report_beside.Goals as goal
 
 pub returns-in-Best-clause-said : goal.returns-in-Best-clause-said
 returns-in-Best-clause-said c =
-    subst (λ (verdict : Verdict). IfOk c.report_beside_best.result (λ j. SaysBeside c.args.tabled.now.problem c.args.grouping.groups.items verdict (answer_of j.reported.answer)))
+    subst (λ (verdict : Verdict). IfOk c.report_beside_best.result (λ r. SaysBeside c.args.tabled.now.problem c.args.grouping.groups.items verdict (answer_of r.answer)))
     (sym c.in-Best.is) c.report_beside_best.ensures.said

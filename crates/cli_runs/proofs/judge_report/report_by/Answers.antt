@@ -4,9 +4,9 @@ use Rattle.cli_runs.proofs.Judgments.{said_best}
 use Rattle.cli_runs.proofs.judge_report.report_by.Goals as goal
 
 pub returns-clause-said : goal.returns-clause-said
-returns-clause-said c = IfOk-weaker c.report_beside.result _ _ (λ j said. record {
+returns-clause-said c = IfOk-weaker c.report_beside.result _ _ (λ r said. record {
   verdict = c.in_ok-verdict.verdict;
   is = c.in_ok-verdict.ensures.verdict;
   said = said;
-  best = said_best c.args.tabled.now.problem c.args.grouping.groups.items c.in_ok-verdict.verdict (answer_of j.reported.answer) c.requires.lawful c.in_ok-verdict.ensures.best said;
+  best = said_best c.args.tabled.now.problem c.args.grouping.groups.items c.in_ok-verdict.verdict (answer_of r.answer) c.requires.lawful c.in_ok-verdict.ensures.best said;
 }) c.report_beside.ensures.said

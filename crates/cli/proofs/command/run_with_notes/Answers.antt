@@ -3,7 +3,7 @@ use Rattle.cli_runs.proofs.Telling.{run_tells}
 use Rattle.cli.specs.Delivery.{texts}
 use Rattle.cli.specs.Ends.{said_of}
 use Rattle.cli.proofs.WrittenLemmas.{fresh_of}
-use Rattle.cli.proofs.command.run_with_end.Goals as goal
+use Rattle.cli.proofs.command.run_with_notes.Goals as goal
 
 pub words_answer-said-requires : goal.words_answer-said-requires
 words_answer-said-requires g c = fresh_of c.new-written.result c.new-written.ensures.kept c.new-written.ensures.whole

@@ -7,7 +7,7 @@ use Rattle.cli_answers.specs.Answer.{Answered, memory_answer}
 use Rattle.cli_answers.specs.Answers.{answer_of}
 use Rattle.cli.specs.Delivery.{Delivers}
 use Rattle.cli.specs.CaseRun.{IsCaseAnswer}
-use Rattle.cli.proofs.case.run_case_with_end.Goals as goal
+use Rattle.cli.proofs.case.run_case_with_notes.Goals as goal
 
 pub returns-in-Ok-Some : goal.returns-in-Ok-Some
 returns-in-Ok-Some g c =
