@@ -14,6 +14,7 @@ use Rattle.cli_answers.specs.Answer.{Answered}
 use Rattle.cli_answers.specs.Answers.{answer_of, said_by, Comes}
 use Rattle.cli_runs.specs.Course.{Course, CourseEndsIn}
 use Rattle.cli_runs.specs.Spoken.{behind}
+use Rattle.cli_runs.proofs.StoreLemmas.{none_stored}
 use Rattle.cli_runs.specs.Storing.{HasStored}
 use Rattle.written_output.specs.declared.written.Written.{Written}
 use Rattle.written_output.specs.Writing.{IsWritten}
@@ -34,6 +35,11 @@ quiet_run files command steps before after (Err Memory) k h = inl (refl, refl)
 module _ (files later : Option Files) (listed last : Option (List NamedFile)) (before after : History) where
   abbrev pub Ran : CommandWords → Answered → Type 0
   Ran command a = (stored : List NamedFile) × HasStored files later listed last stored × CommandRun files command before after stored a
+
+  -- a command that stores no file, and left the file store as it was
+  pub quiet_ran : (command : CommandWords) (steps : Course Answered) (end : Result RunAnswer Refusal) → later ≡ files → last ≡ listed
+      → ((a : Answered) → CourseEndsIn steps before after a → CommandEnds files command before after [] a) → Comes answer_of end (steps before after) → Ran command (said_by end)
+  quiet_ran command steps end same kept k h = ([], none_stored files later listed last same kept, quiet_run files command steps before after end k h)
 
   module _ (held holds : Option (List ℕ)) (was_failed is_failed : Bool) (begun written : Written) where
     abbrev pub RanWriting : CommandWords → Answered → Type 0
@@ -62,3 +68,26 @@ ended_words files list n end (Err e) by taken h = inl (refl, refl)
 pub meant_run : (files : Option Files) (list : List (List ℕ)) (before after : History) (stored : List NamedFile) (a : Answered) (command : CommandWords)
     → Means list command → faults_of list ≡ [] → RunsAsAsked files list command (record_name_of command) before after stored a → IsRunAnswer files list before after stored a
 meant_run files list before after stored a command meant taken run = inr (inr (record { command = command; meant = meant; taken = taken; run = run }))
+
+-- ---- commands over the states of a file store and of a sink
+
+module _ {H W : Type 0} (contents : H → Option Files) (history : H → History) (stored_in : H → Option (List NamedFile)) (kept : W → Option (List ℕ)) (failed : W → Bool) (s t : H) where
+  -- a command that writes nothing before its answer
+  pub silent_end : (out : W) (written : Written) (command meant : CommandWords) (a : Answered) → command ≡ meant → Ran (contents s) (contents t) (stored_in s) (stored_in t) (history s) (history t) meant a
+      → RanWriting (contents s) (contents t) (stored_in s) (stored_in t) (history s) (history t) (kept out) (kept out) (failed out) (failed out) written written command a
+  silent_end out written command meant a is run =
+      silent_run (contents s) (contents t) (stored_in s) (stored_in t) (history s) (history t) (kept out) (failed out) written command meant a is run
+
+  -- and one that stores no file either
+  pub quiet_end : (out : W) (written : Written) (command meant : CommandWords) (steps : Course Answered) (end : Result RunAnswer Refusal) → command ≡ meant → contents t ≡ contents s → stored_in t ≡ stored_in s
+      → ((a : Answered) → CourseEndsIn steps (history s) (history t) a → CommandEnds (contents s) meant (history s) (history t) [] a) → Comes answer_of end (steps (history s) (history t))
+      → RanWriting (contents s) (contents t) (stored_in s) (stored_in t) (history s) (history t) (kept out) (kept out) (failed out) (failed out) written written command (said_by end)
+  quiet_end out written command meant steps end is same still k h =
+      silent_end out written command meant (said_by end) is (quiet_ran (contents s) (contents t) (stored_in s) (stored_in t) (history s) (history t) meant steps end same still k h)
+
+  -- and one that writes as it goes on
+  pub writing_end : (out new : W) (written last : Written) (command meant : CommandWords) (a : Answered) → command ≡ meant
+      → RanWriting (contents s) (contents t) (stored_in s) (stored_in t) (history s) (history t) (kept out) (kept new) (failed out) (failed new) written last meant a
+      → RanWriting (contents s) (contents t) (stored_in s) (stored_in t) (history s) (history t) (kept out) (kept new) (failed out) (failed new) written last command a
+  writing_end out new written last command meant a is run =
+      writing_run (contents s) (contents t) (stored_in s) (stored_in t) (history s) (history t) (kept out) (kept new) (failed out) (failed new) written last command meant a is run

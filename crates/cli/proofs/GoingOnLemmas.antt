@@ -17,6 +17,7 @@ use Rattle.board_texts.specs.Coming as texts
 use Rattle.desk_server.specs.Runs as desk
 use Rattle.board_report.specs.Rounds.{IsFirstRound}
 use Rattle.board_report.specs.declared.board_outcome.Shared.{Shared}
+use Rattle.board_report.specs.declared.shape.BoardShape.{BoardShape}
 use Rattle.board_server.specs.Serving.{ServesFrom}
 use Rattle.board_server.specs.Runs.{RunsFrom, HasNoBoard as NoBoard, IsBoardRun}
 use Rattle.board_server.specs.declared.runs.ServeStop.{ServeStop}
@@ -45,7 +46,9 @@ use Rattle.cli_runs.specs.ShareCourse.{share_answer}
 use Rattle.cli_runs.specs.ServeCourse.{ServedRun, HasServed, HasFailed, RanOutOfMemory, IsServedRun, input_course, serve_course}
 use Rattle.cli_runs.specs.DeskCourse.{DeskRun, HasProved, IsDeskRun, texts_course, desk_course}
 use Rattle.cli_runs.specs.Spoken.{behind}
-use Rattle.cli_runs.specs.Storing.{named_file, said_after, store_steps}
+use Rattle.cli_runs.specs.Storing.{HasStored, named_file, said_after, store_steps}
+use Rattle.cli_runs.proofs.StoreLemmas.{none_stored}
+use Rattle.cli.proofs.StoringLemmas.{Stores, from_start}
 use Rattle.cli_runs.specs.Run.{CommandRun}
 use Rattle.cli.specs.Ends.{refusal_by}
 use Rattle.cli.specs.GoingOn.{StopsSilently, ServesBy, IsStopRefusal, DeskDone, ProvesBy}
@@ -211,6 +214,57 @@ pub input_ran : (files : Option Files) (v : ProblemValue) (words : ServeWords) (
     → input_course files v words g before after (Ok s)
 input_ran files v words g before after given s read is = went_with (read_one files standard_input) (λ x. value_step (IsServedRun v words g x)) given before after after read (Ok s) (refl, is)
 
+-- the same over the states of a file store: the reader was opened and given back
+module _ {H : Type 0} (contents : H → Option Files) (history : H → History) (s t u : H) (same : contents t ≡ contents s) (opens : open_step (contents s) standard_input (history s) (history t) (Ok tt)) where
+  input_read : (bytes : List ℕ) (answer : Result ReadEnd FileStoreFault) → IsRead (contents t) standard_input bytes answer → HasRead (history t) (history u) standard_input bytes answer
+      → read_one (contents s) standard_input (history s) (history u) (Ok (record { bytes = bytes; answer = answer }))
+  input_read bytes answer is has =
+      read_back (contents s) (history s) (history t) (history u) bytes answer opens (subst (λ (f : Option Files). IsRead f standard_input bytes answer) same is) has
+
+  module _ (v : ProblemValue) (words : ServeWords) (g : Grouping) (shape : BoardShape) (f : shape.format ≡ format_of words.board.round) (l : shape.limit ≡ limit_of_words g words.board.round) (d : shape.depth ≡ depth_of words.board.round)
+      (from to : Given) (fresh : from ≡ nothing_given) (text : List ℕ) (round : rounds.Round) (first : IsFirstRound (problem_of v) g shape.limit shape.format round) where
+    abbrev Ran : Result Shared ServeStop → Type 0
+    Ran result = IsBoardRun (problem_of v) shape.depth words.budget shape.format (length v.counties) g round from to text result
+
+    abbrev Serves : Result Shared Refusal → Type 0
+    Serves result = ServesBy (input_course (contents s) v words g) (history s) (history u) text result
+
+    in_words : (result : Result Shared ServeStop) → Ran result → IsFirstRound (problem_of v) g (limit_of_words g words.board.round) (format_of words.board.round) round
+        × IsBoardRun (problem_of v) (depth_of words.board.round) words.budget (format_of words.board.round) (length v.counties) g round from to text result
+    in_words result run = shaped v words g shape.format shape.limit shape.depth f l d from to text result round first run
+
+    came_of : (answer : Result ReadEnd FileStoreFault) → IsRead (contents t) standard_input to.bytes answer → HasRead (history t) (history u) standard_input to.bytes answer
+        → (run : ServedRun) → IsServedRun v words g (record { bytes = to.bytes; answer = answer }) run → input_course (contents s) v words g (history s) (history u) (Ok run)
+    came_of answer is has run served = input_ran (contents s) v words g (history s) (history u) (record { bytes = to.bytes; answer = answer }) run (input_read to.bytes answer is has) served
+
+    pub input_stood : (end : ReadEnd) → end ≡ read_end to.ended → IsRead (contents t) standard_input to.bytes (Ok end) → HasRead (history t) (history u) standard_input to.bytes (Ok end)
+        → (shared : Shared) → Ran (Ok shared) → Serves (Ok shared)
+    input_stood end back is has shared run =
+        let given = in_words (Ok shared) run in (
+          stood v words g round given.0 from to fresh text shared,
+          came_of (Ok end) is has (stood v words g round given.0 from to fresh text shared) (run_stood v words g round given.0 from to fresh text shared given.1 (Ok end) (ap (λ (e : ReadEnd). Ok e) back)),
+          refl,
+          refl,
+          refl,
+        )
+
+    served_refusal : (answer : Result ReadEnd FileStoreFault) → IsRead (contents t) standard_input to.bytes answer → HasRead (history t) (history u) standard_input to.bytes answer
+        → (refusal : Refusal) → IsServedRun v words g (record { bytes = to.bytes; answer = answer }) (record { text = text; certificate = None; end = said_by (Err refusal) }) → Serves (Err refusal)
+    served_refusal answer is has refusal served =
+        inr (record { text = text; certificate = None; end = said_by (Err refusal) }, came_of answer is has (record { text = text; certificate = None; end = said_by (Err refusal) }) served, refl, refl, refl)
+
+    pub input_stopped : (end : ReadEnd) → end ≡ read_end to.ended → IsRead (contents t) standard_input to.bytes (Ok end) → HasRead (history t) (history u) standard_input to.bytes (Ok end)
+        → (stop : ServeStop) → Ran (Err stop) → (refusal : Refusal) → IsStopRefusal stop refusal → Serves (Err refusal)
+    input_stopped end back is has stop run refusal shows =
+        let given = in_words (Err stop) run in
+        served_refusal (Ok end) is has refusal (run_stopped v words g round given.0 from to fresh text stop given.1 (Ok end) (ap (λ (e : ReadEnd). Ok e) back) refusal shows)
+
+    pub input_failed : (fault : FileStoreFault) → IsRead (contents t) standard_input to.bytes (Err fault) → HasRead (history t) (history u) standard_input to.bytes (Err fault)
+        → (result : Result Shared ServeStop) → Ran result → (refusal : Refusal) → RefusalShows (file_store_answer standard_input fault) refusal → Serves (Err refusal)
+    input_failed fault is has result run refusal shows =
+        let given = in_words result run in
+        served_refusal (Err fault) is has refusal (run_failed v words g round given.0 from to fresh text result given.1 fault refusal shows)
+
 -- steps meet a fault that is handed on, before anything was written
 pub serves_handed : {X : Type 0} (refusal : Refusal) (end : Result Shared Refusal) (first : Course X) (next : X → Course ServedRun) (before after : History) → IsErrAnd end (λ e. e ≡ refusal)
     → AnswerMeets refusal (λ a. first before after (Err a)) → ServesBy (first >>= next) before after [] end
@@ -223,6 +277,26 @@ pub proves_handed : {X : Type 0} (refusal : Refusal) (end : Result RunAnswer Ref
 proves_handed refusal (Ok s) first next before after i h = absurd i
 proves_handed refusal (Err e) first next before after i h =
     subst (λ (r : Refusal). ProvesBy (first >>= next) before after [] (Err r)) (sym i) (inl (silent_stop first next before after refusal h))
+
+-- calls that load files, over the states of a file store: one was refused, or it gave a value and left the files as they were
+module _ {H X : Type 0} (contents : H → Option Files) (history : H → History) (first : Option Files → Course X) where
+  pub serves_stopped : (next : Option Files → X → Course ServedRun) (end : Result Shared Refusal) (refusal : Refusal) (s t : H) → IsErrAnd end (λ e. e ≡ refusal)
+      → AnswerMeets refusal (λ a. first (contents s) (history s) (history t) (Err a)) → ServesBy (first (contents s) >>= next (contents s)) (history s) (history t) [] end
+  serves_stopped next end refusal s t is met = serves_handed refusal end (first (contents s)) (next (contents s)) (history s) (history t) is met
+
+  pub proves_stopped : (next : Option Files → X → Course DeskRun) (end : Result RunAnswer Refusal) (refusal : Refusal) (s t : H) → IsErrAnd end (λ e. e ≡ refusal)
+      → AnswerMeets refusal (λ a. first (contents s) (history s) (history t) (Err a)) → ProvesBy (first (contents s) >>= next (contents s)) (history s) (history t) [] end
+  proves_stopped next end refusal s t is met = proves_handed refusal end (first (contents s)) (next (contents s)) (history s) (history t) is met
+
+  pub serves_stepped : (next : Option Files → X → Course ServedRun) (x : X) (s t u : H) → first (contents s) (history s) (history t) (Ok x) → contents t ≡ contents s → (text : List ℕ) (end : Result Shared Refusal)
+      → ServesBy (next (contents t) x) (history t) (history u) text end → ServesBy (first (contents s) >>= next (contents s)) (history s) (history u) text end
+  serves_stepped next x s t u given same text end by =
+      serves_on (first (contents s)) (next (contents s)) x (history s) (history t) (history u) given text end (subst (λ (f : Option Files). ServesBy (next f x) (history t) (history u) text end) same by)
+
+  pub proves_stepped : (next : Option Files → X → Course DeskRun) (x : X) (s t u : H) → first (contents s) (history s) (history t) (Ok x) → contents t ≡ contents s → (text : List ℕ) (end : Result RunAnswer Refusal)
+      → ProvesBy (next (contents t) x) (history t) (history u) text end → ProvesBy (first (contents s) >>= next (contents s)) (history s) (history u) text end
+  proves_stepped next x s t u given same text end by =
+      proves_on (first (contents s)) (next (contents s)) x (history s) (history t) (history u) given text end (subst (λ (f : Option Files). ProvesBy (next f x) (history t) (history u) text end) same by)
 
 -- ---- the run of `board`
 
@@ -276,6 +350,28 @@ pub said_refused : (refusal : Refusal) (a : Answered) → said_by (Err refusal) 
 said_refused (Shown b) a = refl
 said_refused Memory a = refl
 
+-- what a run of `board` came to over the states of a file store, where it wrote a text of which this holds
+module _ {H : Type 0} (contents : H → Option Files) (history : H → History) (stored_in : H → Option (List NamedFile)) (words : ServeWords) (s t : H) (same : contents t ≡ contents s) (kept : stored_in t ≡ stored_in s) (Wrote : List ℕ → Type 0) where
+  abbrev pub BoardRan : H → Answered → Type 0
+  BoardRan u a = (stored : List NamedFile) × (text : List ℕ) × HasStored (contents s) (contents u) (stored_in s) (stored_in u) stored × Wrote text × CommandRun (contents s) (BoardCommand words) (history s) (history u) stored (behind text a)
+
+  abbrev pub Served : Result Shared Refusal → Type 0
+  Served end = (text : List ℕ) × Wrote text × ServesBy (serve_course (contents s) words) (history s) (history t) text end
+
+  pub board_refused : (refusal : Refusal) (end : Result RunAnswer Refusal) → IsErrAnd end (λ e. e ≡ refusal) → Served (Err refusal) → BoardRan t (said_by end)
+  board_refused refusal end is served =
+      ([], served.0, none_stored (contents s) (contents t) (stored_in s) (stored_in t) same kept, served.1, board_stopped (contents s) words (history s) (history t) (history t) served.0 refusal end is served.2)
+
+  pub board_stored : (u : H) (shared : Shared) → Served (Ok shared) → (refusal : Option Answered) (a : Answered) → a ≡ said_after refusal (share_answer shared)
+      → Stores contents history stored_in (named_file words.certificate (option_map (λ t. t.items) shared.certificate)) t u refusal → BoardRan u a
+  board_stored u shared served refusal a is end = (
+    end.0,
+    served.0,
+    from_start (contents s) (contents t) (contents u) (stored_in s) (stored_in t) (stored_in u) end.0 same kept end.1,
+    served.1,
+    board_ended (contents s) words (history s) (history t) (history u) served.0 shared served.2 end.0 refusal end.2 a is,
+  )
+
 -- ---- the run of `desk`
 
 module _ (v : ProblemValue) (from to : Given) (fresh : from ≡ nothing_given) (text : List ℕ) (left : texts.Held) where
@@ -318,6 +414,33 @@ module _ (v : ProblemValue) (from to : Given) (fresh : from ≡ nothing_given) (
 pub texts_ran : (files : Option Files) (v : ProblemValue) (before after : History) (given : GivenBack) (s : DeskRun) → read_one files standard_input before after (Ok given) → IsDeskRun v given s
     → texts_course files v before after (Ok s)
 texts_ran files v before after given s read is = went_with (read_one files standard_input) (λ x. value_step (IsDeskRun v x)) given before after after read (Ok s) (refl, is)
+
+-- the same over the states of a file store
+module _ {H : Type 0} (contents : H → Option Files) (history : H → History) (s t u : H) (same : contents t ≡ contents s) (opens : open_step (contents s) standard_input (history s) (history t) (Ok tt))
+    (v : ProblemValue) (from to : Given) (fresh : from ≡ nothing_given) (text : List ℕ) (left : texts.Held) where
+  abbrev Proves : Result RunAnswer Refusal → Type 0
+  Proves result = ProvesBy (texts_course (contents s) v) (history s) (history u) text result
+
+  desk_came : (answer : Result ReadEnd FileStoreFault) → IsRead (contents t) standard_input to.bytes answer → HasRead (history t) (history u) standard_input to.bytes answer
+      → (end : Answered) → IsDeskRun v (record { bytes = to.bytes; answer = answer }) (record { text = text; end = end }) → texts_course (contents s) v (history s) (history u) (Ok (record { text = text; end = end }))
+  desk_came answer is has end run =
+      texts_ran (contents s) v (history s) (history u) (record { bytes = to.bytes; answer = answer }) (record { text = text; end = end }) (input_read contents history s t u same opens to.bytes answer is has) run
+
+  pub texts_done : (end : ReadEnd) → end ≡ read_end to.ended → IsRead (contents t) standard_input to.bytes (Ok end) → HasRead (history t) (history u) standard_input to.bytes (Ok end)
+      → desk.IsDeskRun (problem_of v) from to text left (Ok tt) → (answer : RunAnswer) → answer.text.items ≡ [] → answer.status ≡ 0 → Proves (Ok answer)
+  texts_done end back is has run answer empty zero =
+      let said : answer_of answer ≡ success [] = ap (λ (w : List ℕ). record { text = w; status = answer.status }) empty ∙ ap (λ (n : ℕ). record { text = []; status = n }) zero in
+      (record { text = text; end = answer_of answer }, desk_came (Ok end) is has (answer_of answer) (desk_done v from to fresh text left run end back (answer_of answer) said), refl, refl)
+
+  pub texts_stopped : (end : ReadEnd) → end ≡ read_end to.ended → IsRead (contents t) standard_input to.bytes (Ok end) → HasRead (history t) (history u) standard_input to.bytes (Ok end)
+      → (fault : TextFault) → desk.IsDeskRun (problem_of v) from to text left (Err fault) → (refusal : Refusal) → RefusalShows (pieces_answer fault) refusal → (IsShown refusal → fault.kind ≢ text_kind.Memory) → Proves (Err refusal)
+  texts_stopped end back is has fault run refusal shows shown =
+      inr (record { text = text; end = said_by (Err refusal) }, desk_came (Ok end) is has (said_by (Err refusal)) (desk_stopped v from to fresh text left fault run end back refusal shows shown), refl, refl)
+
+  pub texts_failed : (fault : FileStoreFault) → IsRead (contents t) standard_input to.bytes (Err fault) → HasRead (history t) (history u) standard_input to.bytes (Err fault)
+      → (result : Result (Unit {0}) TextFault) → desk.IsDeskRun (problem_of v) from to text left result → (refusal : Refusal) → RefusalShows (file_store_answer standard_input fault) refusal → Proves (Err refusal)
+  texts_failed fault is has result run refusal shows =
+      inr (record { text = text; end = said_by (Err refusal) }, desk_came (Err fault) is has (said_by (Err refusal)) (desk_failed v from to fresh text left result run fault refusal shows), refl, refl)
 
 module _ (files : Option Files) (words : DeskWords) (before after : History) (text : List ℕ) where
   desk_of : (result : Result RunAnswer Refusal) → DeskDone (desk_course files words) before after text result → CommandRun files (DeskCommand words) before after [] (behind text (said_by result))

@@ -6,3 +6,4 @@ pub mod RecordLemmas
 pub mod TableLemmas
 pub mod GoingOnLemmas
 pub mod WrittenLemmas
+pub mod StepLemmas

@@ -12,7 +12,7 @@ use Rattle.pl94_counties.specs.declared.county_names.NamedFault.{NamedFault}
 use Rattle.pl94_counties.specs.declared.county_names.NamedFault.TheVariants as names
 use Rattle.pl94_counties.specs.PeopleByCode.{IsPl94Memory}
 use Rattle.pl94_counties.specs.CountyNames.{IsNoMemory}
-use Rattle.pl94_counties.specs.Readers.{IsPl94Refused, is_pl94_read_fault, same_file, read_failed, ReadsTexts}
+use Rattle.pl94_counties.specs.Readers.{IsPl94Refused, is_pl94_read_fault, same_file, read_failed, ReadsBoth, ReadsTexts}
 use Rattle.pl94_counties.specs.NamedReaders.{IsNamedRefused, named_read_failed}
 use Rattle.cli_file_stores.specs.declared.file_store.ReadEnd.{ReadEnd}
 use Rattle.cli_file_stores.specs.declared.file_store.FileStoreFault.{FileStoreFault}
@@ -171,6 +171,22 @@ module _ (files : Option Files) (first second : List ℕ) where
     both_came before between after pair end same h ends =
         went_on view end (given_of_both files first second) next pair before after after (pair_given before between after (Ok pair) same h) ends
 
+-- and over the states of a file store
+module _ {H S X : Type 0} (contents : H → Option Files) (history : H → History) (first second : List ℕ) (view : S → X) (next : Given × Given → Course X) (s t u : H) (same : contents t ≡ contents s) (opened : history t ≡ history s) where
+  abbrev BothThen : Result X Answered → Type 0
+  BothThen = (given_of_both (contents s) first second >>= next) (history s) (history u)
+
+  pub back_refused : (end : Result S Refusal) (refusal : Refusal) → IsErrAnd end (λ e. e ≡ refusal) → AnswerMeets refusal (λ a. both_given_back (contents t) first second (history t) (history u) (Err a)) → Comes view end BothThen
+  back_refused end refusal is met =
+      came_to_end view BothThen end refusal is
+      (both_failed (contents s) first second view next (history s) (history t) (history u) refusal opened
+      (subst (λ (f : Option Files). AnswerMeets refusal (λ a. both_given_back f first second (history t) (history u) (Err a))) same met))
+
+  pub back_sound : (pair : Given × Given) (end : Result S Refusal) → both_given_back (contents t) first second (history t) (history u) (Ok pair) → Comes view end (next pair (history u) (history u)) → Comes view end BothThen
+  back_sound pair end back ends =
+      both_came (contents s) first second view next (history s) (history t) (history u) pair end opened
+      (subst (λ (f : Option Files). both_given_back f first second (history t) (history u) (Ok pair)) same back) ends
+
 -- what holds of each two texts that begin with what was read
 pub texts_read : (P : List ℕ → List ℕ → Type 0) (g x s y : Given) → g ≡ nothing_given → s ≡ nothing_given → ReadsTexts g x s y P → OfTexts P x y
 texts_read P g x s y none none_too reads = λ geo segment sees sees_too.
@@ -178,6 +194,14 @@ texts_read P g x s y none none_too reads = λ geo segment sees sees_too.
     let begun_too : y.bytes ≡ reads.segment1 = reads.segment1_given ∙ ap (λ (z : Given). z.bytes ++ reads.segment1) none_too in
     subst₂ P (sym (sees.text ∙ ap (λ (b : List ℕ). b ++ sees.later) begun)) (sym (sees_too.text ∙ ap (λ (b : List ℕ). b ++ sees_too.later) begun_too))
     (reads.holds sees.later sees_too.later sees.may sees_too.may)
+
+-- and with what the readers of them gave
+pub texts_given : (P : List ℕ → List ℕ → Type 0) (g x s y a b : Given) → g ≡ nothing_given → s ≡ nothing_given → ReadsTexts g x s y P → a ≡ x → b ≡ y → OfTexts P a b
+texts_given P g x s y a b none none_too reads is is_too = subst₂ (OfTexts P) (sym is) (sym is_too) (texts_read P g x s y none none_too reads)
+
+-- a reading was sound if its reader was when it was given back
+pub sound_read : {source failed back : Bool} → source ≡ failed → back ≡ source → back ≡ false → failed ≡ false
+sound_read is same sound = sym is ∙ (sym same ∙ sound)
 
 -- a fault that isn't that a file could not be read
 no_read_fault : (fault : Pl94Fault) (file : File) → file ≡ fault.file → read_failed {X = Unit {0}} Geo (Err fault) ≡ false → read_failed {X = Unit {0}} Segment1 (Err fault) ≡ false → is_pl94_read_fault fault.kind ≡ true → ⊥
@@ -200,6 +224,25 @@ pub only_memory_of_names : {X Y : Type 0} (view : X → Y) (read : Result X Name
 only_memory_of_names view (Ok value) list x y one other of = of
 only_memory_of_names view (Err (names.BadName line)) list x y one other of = of
 only_memory_of_names view (Err (names.Files fault)) list x y one other of = λ g s sees sees_too not. of g s sees sees_too (λ refused. ⊎_elim not (no_read_fault fault fault.file refl one other) refused)
+
+-- both census files were read as they came, and their readers were given back
+module _ {H S X : Type 0} (contents : H → Option Files) (history : H → History) (first second : List ℕ) (view : S → X) (next : Given × Given → Course X) (s t u : H) (same : contents t ≡ contents s) (opened : history t ≡ history s)
+    (a b : Given) (end : Result S Refusal) (back : both_given_back (contents t) first second (history t) (history u) (Ok (a, b))) where
+  pub census_came : (list : List ℕ → List ℕ → Result X Pl94Fault) (g x h y : Given) (read : Result S Pl94Fault) → g ≡ nothing_given → h ≡ nothing_given → ReadsBoth view g x h y read list → a ≡ x → b ≡ y
+      → read_failed Geo read ≡ false → read_failed Segment1 read ≡ false → (OfTexts (λ p q. GivesUnless IsPl94Memory view read (list p q)) a b → Comes view end (next (a, b) (history u) (history u)))
+      → Comes view end ((given_of_both (contents s) first second >>= next) (history s) (history u))
+  census_came list g x h y read none none_too reads is is_too sound sound_too ends =
+      let texts = texts_given (λ p q. GivesUnless IsPl94Refused view read (list p q)) g x h y a b none none_too
+      (record { geo = reads.geo; segment1 = reads.segment1; geo_given = reads.geo_given; segment1_given = reads.segment1_given; holds = reads.value }) is is_too in
+      back_sound contents history first second view next s t u same opened (a, b) end back (ends (only_memory view read list a b sound sound_too texts))
+
+  pub named_census_came : (list : List ℕ → List ℕ → Result X NamedFault) (g x h y : Given) (read : Result S NamedFault) → g ≡ nothing_given → h ≡ nothing_given
+      → ReadsTexts g x h y (λ p q. GivesUnless IsNamedRefused view read (list p q)) → a ≡ x → b ≡ y
+      → named_read_failed Geo read ≡ false → named_read_failed Segment1 read ≡ false → (OfTexts (λ p q. GivesUnless IsNoMemory view read (list p q)) a b → Comes view end (next (a, b) (history u) (history u)))
+      → Comes view end ((given_of_both (contents s) first second >>= next) (history s) (history u))
+  named_census_came list g x h y read none none_too reads is is_too sound sound_too ends =
+      back_sound contents history first second view next s t u same opened (a, b) end back
+      (ends (only_memory_of_names view read list a b sound sound_too (texts_given (λ p q. GivesUnless IsNamedRefused view read (list p q)) g x h y a b none none_too reads is is_too)))
 
 -- what was said of a certificate whose reader was given back
 pub said_checked : (t : Tabled) (budget : ℕ) (g x given : Given) (checked : Result held.Reported CheckStop) (end : Result held.Reported Refusal) → g ≡ nothing_given → given ≡ x

@@ -1,45 +1,19 @@
-use Rattle.std.proofs.Common.{ℕ, List, Option, Vec, Global, map, sym, ◌∙◌, subst, subst₂}
-use Rattle.std.specs.Prelude.{Ok, Err}
+use Rattle.std.proofs.Common.{Vec, Global, map, ◌∙◌}
 use Rattle.field_lines.specs.Source.{Given}
-use Rattle.field_lines.specs.Values.{GivesUnless}
 use Rattle.pl94_counties.specs.declared.county_names.NamedCounty.{NamedCounty}
 use Rattle.pl94_counties.specs.CountyNames.{county_name, named_list}
-use Rattle.cli_runs.specs.TableCourse.{named_counties_in, named_counties_of}
-use Rattle.pl94_counties.specs.NamedReaders.{IsNamedRefused}
-use Rattle.cli_file_stores.specs.Files.{Files}
-use Rattle.cli_answers.specs.Answers.{AnswerMeets}
-use Rattle.cli_runs.specs.Reading.{OfTexts}
-use Rattle.cli.specs.Streams.{both_given_back}
-use Rattle.cli.proofs.ReaderLemmas.{came_to_end, both_failed, both_came, texts_read, only_memory_of_names}
+use Rattle.cli_runs.specs.TableCourse.{named_counties_in}
+use Rattle.cli.proofs.ReaderLemmas.{back_refused, named_census_came, sound_read}
 use Rattle.cli.proofs.census_files.load_named_counties.Goals as goal
 
 pub returns-in_err-give_both_back-clause-course : goal.returns-in_err-give_both_back-clause-course
 returns-in_err-give_both_back-clause-course g c =
-    let files = g.H.FileStore.contents c.args.file_store.now in
-    let words = c.args.words in
-    let before = g.H.FileStore.history c.args.file_store.now in
-    let between = g.H.FileStore.history c.open_both.new.file_store in
-    let after = g.H.FileStore.history c.give_both_back.new.file_store in
-    let refusal = c.in_err-give_both_back.field-0.0 in
-    let back = subst (λ (known : Option Files). AnswerMeets refusal (λ a. both_given_back known words.geo.now words.segment.now between after (Err a))) c.open_both.ensures.same c.in_err-give_both_back.ensures.back in
-    came_to_end (λ (v : Vec NamedCounty Global). map county_name v.items) (named_counties_of files words before after) c.from_residual-in_err-give_both_back.result refusal c.from_residual-in_err-give_both_back.ensures.1
-    (both_failed files words.geo.now words.segment.now (λ (v : Vec NamedCounty Global). map county_name v.items) (λ (given : Given × Given). named_counties_in words.state given.0 given.1) before between after refusal c.in_ok-geo.ensures.opened back)
+    back_refused g.H.FileStore.contents g.H.FileStore.history c.args.words.geo.now c.args.words.segment.now (λ (v : Vec NamedCounty Global). map county_name v.items) (λ (given : Given × Given). named_counties_in c.args.words.state given.0 given.1) _ _ _
+    c.open_both.ensures.same c.in_ok-geo.ensures.opened c.from_residual-in_err-give_both_back.result c.in_err-give_both_back.field-0.0 c.from_residual-in_err-give_both_back.ensures.1 c.in_err-give_both_back.ensures.back
 
 pub returns-clause-course : goal.returns-clause-course
 returns-clause-course g c =
-    let files = g.H.FileStore.contents c.args.file_store.now in
-    let words = c.args.words in
-    let before = g.H.FileStore.history c.args.file_store.now in
-    let between = g.H.FileStore.history c.open_both.new.file_store in
-    let after = g.H.FileStore.history c.give_both_back.new.file_store in
-    let read = c.read_named_counties_from-read.result in
-    let x = g.H.Reader.Source.given c.into_parts-geo_reader.result.0 in
-    let y = g.H.Reader.Source.given c.into_parts-segment_reader.result.0 in
-    let back = subst (λ (known : Option Files). both_given_back known words.geo.now words.segment.now between after (Ok (x, y))) c.open_both.ensures.same c.in_ok-give_both_back.ensures.back in
-    let texts = subst₂ (λ (a b : Given). OfTexts (λ u v. GivesUnless IsNamedRefused (λ (v : Vec NamedCounty Global). map county_name v.items) read (named_list u v words.state)) a b) (sym c.into_parts-geo_reader.ensures.given) (sym c.into_parts-segment_reader.ensures.given)
-    (texts_read (λ u v. GivesUnless IsNamedRefused (λ (v : Vec NamedCounty Global). map county_name v.items) read (named_list u v words.state)) _ _ _ _
-    (c.new-geo.ensures.given ∙ c.in_ok-geo.ensures.given.0) (c.new-segment.ensures.given ∙ c.in_ok-geo.ensures.given.1) c.read_named_counties_from-read.ensures.reads) in
-    let sound = sym c.read_named_counties_from-read.ensures.geo_failed ∙ (sym c.into_parts-geo_reader.ensures.failed ∙ c.in_ok-give_both_back.ensures.geo_sound) in
-    let sound_too = sym c.read_named_counties_from-read.ensures.segment1_failed ∙ (sym c.into_parts-segment_reader.ensures.failed ∙ c.in_ok-give_both_back.ensures.segment_sound) in
-    both_came files words.geo.now words.segment.now (λ (v : Vec NamedCounty Global). map county_name v.items) (λ (given : Given × Given). named_counties_in words.state given.0 given.1) before between after (x, y) c.named_read.result c.in_ok-geo.ensures.opened back
-    (c.named_read.ensures words.state x y after (only_memory_of_names (λ (v : Vec NamedCounty Global). map county_name v.items) read (λ (u v : List ℕ). named_list u v words.state) x y sound sound_too texts))
+    named_census_came g.H.FileStore.contents g.H.FileStore.history c.args.words.geo.now c.args.words.segment.now (λ (v : Vec NamedCounty Global). map county_name v.items) (λ (given : Given × Given). named_counties_in c.args.words.state given.0 given.1) _ _ _
+    c.open_both.ensures.same c.in_ok-geo.ensures.opened _ _ c.named_read.result c.in_ok-give_both_back.ensures.back (λ u v. named_list u v c.args.words.state) _ _ _ _ c.read_named_counties_from-read.result (c.new-geo.ensures.given ∙ c.in_ok-geo.ensures.given.0) (c.new-segment.ensures.given ∙ c.in_ok-geo.ensures.given.1)
+    c.read_named_counties_from-read.ensures.reads c.into_parts-geo_reader.ensures.given c.into_parts-segment_reader.ensures.given (sound_read c.read_named_counties_from-read.ensures.geo_failed c.into_parts-geo_reader.ensures.failed c.in_ok-give_both_back.ensures.geo_sound)
+    (sound_read c.read_named_counties_from-read.ensures.segment1_failed c.into_parts-segment_reader.ensures.failed c.in_ok-give_both_back.ensures.segment_sound) (c.named_read.ensures c.args.words.state _ _ _)

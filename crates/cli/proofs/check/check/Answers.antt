@@ -1,27 +1,15 @@
-use Rattle.std.proofs.Common.{[]}
-use Rattle.cli_answers.specs.Answers.{said_by}
 use Rattle.cli_runs.specs.CheckCourse.{check_course}
 use Rattle.cli_runs.specs.Storing.{named_file}
-use Rattle.cli_runs.specs.Texts.{reported_of}
-use Rattle.cli_runs.proofs.StoreLemmas.{none_stored}
-use Rattle.cli.proofs.StoringLemmas.{from_start, refused_run, said_run}
+use Rattle.cli.proofs.StoringLemmas.{refused_first, stored_or_not}
 use Rattle.cli.proofs.check.check.Goals as goal
-
-pub returns-in_err-reported : goal.returns-in_err-reported
-returns-in_err-reported g c = (
-  [],
-  none_stored (g.H.FileStore.contents c.args.file_store.now) (g.H.FileStore.contents c.check_files.new.file_store) (g.H.FileStore.stored c.args.file_store.now) (g.H.FileStore.stored c.check_files.new.file_store) c.check_files.ensures.same c.check_files.ensures.kept,
-  refused_run (check_course (g.H.FileStore.contents c.args.file_store.now) c.args.words) (λ r. named_file c.args.words.table r.table) (λ r. r.answer) (g.H.FileStore.history c.args.file_store.now) (g.H.FileStore.history c.check_files.new.file_store) c.in_err-reported.field-0.0 c.from_residual.result c.from_residual.ensures.1 c.in_err-reported.ensures.course,
-)
 
 pub returns : goal.returns
 returns g c =
-    let files = g.H.FileStore.contents c.args.file_store.now in
-    let before = g.H.FileStore.history c.args.file_store.now in
-    let between = g.H.FileStore.history c.check_files.new.file_store in
-    let after = g.H.FileStore.history c.store_reported.new.file_store in
-    let end = c.store_reported.ensures in (
-      end.0,
-      from_start files (g.H.FileStore.contents c.check_files.new.file_store) (g.H.FileStore.contents c.store_reported.new.file_store) (g.H.FileStore.stored c.args.file_store.now) (g.H.FileStore.stored c.check_files.new.file_store) (g.H.FileStore.stored c.store_reported.new.file_store) end.0 c.check_files.ensures.same c.check_files.ensures.kept end.2,
-      said_run (check_course files c.args.words) (λ r. named_file c.args.words.table r.table) (λ r. r.answer) (reported_of c.in_ok-reported.reported) before between after end.0 end.1 (said_by c.store_reported.result) c.in_ok-reported.ensures.course end.3 end.4,
-    )
+    let end = c.store_reported.ensures in
+    stored_or_not g.H.FileStore.contents g.H.FileStore.history g.H.FileStore.stored (λ f. check_course f c.args.words) (λ r. named_file c.args.words.table r.table) (λ r. r.answer) _ _ _ _
+    c.check_files.ensures.same c.check_files.ensures.kept c.in_ok-reported.ensures.course end.1 _ end.4 (end.0, end.2, end.3)
+
+pub returns-in_err-reported : goal.returns-in_err-reported
+returns-in_err-reported g c =
+    refused_first g.H.FileStore.contents g.H.FileStore.history g.H.FileStore.stored (λ f. check_course f c.args.words) (λ r. named_file c.args.words.table r.table) (λ r. r.answer) _ _ c.in_err-reported.field-0.0 c.from_residual.result
+    c.check_files.ensures.same c.check_files.ensures.kept c.from_residual.ensures.1 c.in_err-reported.ensures.course

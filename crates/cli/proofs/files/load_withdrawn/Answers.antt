@@ -1,13 +1,10 @@
-use Rattle.std.proofs.Common.{refl, ℕ, List, Option, Bor, subst, sym}
-use Rattle.cli_answers.specs.Answers.{Comes}
-use Rattle.cli_runs.specs.ProblemCourse.{withdrawn_in, withdrawn_of}
-use Rattle.cli_runs.proofs.RunLemmas.{read_file}
+use Rattle.std.proofs.Common.{[]}
+use Rattle.cli_runs.specs.Course.{◌>>=◌, load_step}
+use Rattle.cli_runs.specs.ProblemCourse.{withdrawn_in}
+use Rattle.cli.proofs.StepLemmas.{stepped, when_named}
 use Rattle.cli.proofs.files.load_withdrawn.Goals as goal
 
 pub returns-in_ok-text-in-Some-clause-course : goal.returns-in_ok-text-in-Some-clause-course
 returns-in_ok-text-in-Some-clause-course g c =
-    let files = g.H.FileStore.contents c.args.file_store.now in
-    let before = g.H.FileStore.history c.args.file_store.now in
-    let after = g.H.FileStore.history c.load.new.file_store in
-    subst (λ (name : Option (Bor (List ℕ))). Comes (λ v. v.items) c.withdrawn_from.result (withdrawn_of files name before after)) (sym c.in-Some.is)
-    (read_file (λ v. v.items) c.withdrawn_from.result files c.in-Some.name.now c.in_ok-text-in-Some.text.items c.in_ok-text-in-Some.text.items withdrawn_in before after c.in_ok-text-in-Some.ensures.course refl (c.withdrawn_from.ensures after))
+    when_named g.H.FileStore.contents g.H.FileStore.history (λ v. v.items) c.withdrawn_from.result [] (λ n. load_step (g.H.FileStore.contents c.args.file_store.now) n >>= withdrawn_in) _ _ c.args.file_store.now c.load.new.file_store c.in-Some.is
+    (stepped g.H.FileStore.contents g.H.FileStore.history (λ v. v.items) _ (λ f. load_step f c.in-Some.name.now) (λ _. withdrawn_in) c.in_ok-text-in-Some.text.items _ _ _ c.in_ok-text-in-Some.ensures.course c.load.ensures.same (c.withdrawn_from.ensures _))

@@ -1,42 +1,23 @@
-use Rattle.std.proofs.Common.{◌++◌, List, ℕ, Option, None, ap, subst, subst₂, sym, ◌∙◌}
+use Rattle.std.proofs.Common.{ℕ, List, Option, subst}
 use Rattle.std.specs.Borrow.{Bor}
-use Rattle.std.specs.Prelude.{Err, option_map}
-use Rattle.cli_runs.specs.Storing.{named_file, store_steps}
-use Rattle.cli_runs.proofs.StoreLemmas.{stored_after, stores_on}
+use Rattle.std.specs.Prelude.{Err, None, option_map}
+use Rattle.cli_runs.specs.Storing.{named_file}
 use Rattle.cli.specs.Ends.{refusal_by}
-use Rattle.cli.proofs.StoringLemmas.{seen_lent, stops_with}
+use Rattle.cli.proofs.StoringLemmas.{Stores, lent_stored, stores_both, stores_stopped}
 use Rattle.cli.proofs.list.store_listed.Goals as goal
 
 pub returns : goal.returns
 returns g c =
-    let before = g.H.FileStore.history c.args.file_store.now in
-    let between = g.H.FileStore.history c.store_named.new.file_store in
-    let after = g.H.FileStore.history c.store_named-2.new.file_store in
-    let words = c.args.words in
-    let listed = c.args.listed.now in
-    let first = c.in_ok-store_named.ensures in
-    let last = c.store_named-2.ensures in
-    let out = option_map (λ w. w.out) words.stored in
-    let grouping = sym (seen_lent (λ t. t.items) c.as_ref.result) ∙ ap (option_map (λ t. t.items)) c.as_ref.ensures.value in
-    let table = sym (seen_lent (λ t. t.items) c.as_ref-2.result) ∙ ap (option_map (λ t. t.items)) c.as_ref-2.ensures.value in
-    let steps = subst₂ (λ (name : Option (Bor (List ℕ))) (o : Option (List ℕ)). store_steps (named_file name o) before between first.0 None) c.out_in-out.ensures grouping first.2 in
-    let end = subst (λ (o : Option (List ℕ)). store_steps (named_file words.groupings o) between after last.0 (refusal_by c.store_named-2.result)) table last.2 in (
-      first.0 ++ last.0,
-      stored_after (g.H.FileStore.contents c.args.file_store.now) (g.H.FileStore.contents c.store_named.new.file_store) (g.H.FileStore.contents c.store_named-2.new.file_store) (g.H.FileStore.stored c.args.file_store.now) (g.H.FileStore.stored c.store_named.new.file_store) (g.H.FileStore.stored c.store_named-2.new.file_store) first.0 last.0 first.1 last.1,
-      stores_on (named_file out (option_map (λ t. t.items) listed.grouping)) (named_file words.groupings (option_map (λ t. t.items) listed.table)) before between after first.0 last.0 (refusal_by c.store_named-2.result) steps end,
-    )
+    let text = option_map (λ t. t.items) c.args.listed.now.grouping in
+    let first = lent_stored g.H.FileStore.contents g.H.FileStore.history g.H.FileStore.stored (λ t. t.items) c.out_in-out.result c.as_ref.result _ _ _ None c.as_ref.ensures.value c.in_ok-store_named.ensures in
+    stores_both g.H.FileStore.contents g.H.FileStore.history g.H.FileStore.stored (named_file (option_map (λ w. w.out) c.args.words.stored) text) (named_file c.args.words.groupings (option_map (λ t. t.items) c.args.listed.now.table)) _ _ _ (refusal_by c.store_named-2.result)
+    (subst (λ (name : Option (Bor (List ℕ))). Stores g.H.FileStore.contents g.H.FileStore.history g.H.FileStore.stored (named_file name text) c.args.file_store.now c.store_named.new.file_store None) c.out_in-out.ensures first)
+    (lent_stored g.H.FileStore.contents g.H.FileStore.history g.H.FileStore.stored (λ t. t.items) c.args.words.groupings c.as_ref-2.result _ _ _ (refusal_by c.store_named-2.result) c.as_ref-2.ensures.value c.store_named-2.ensures)
 
 pub returns-in_err-store_named : goal.returns-in_err-store_named
 returns-in_err-store_named g c =
-    let before = g.H.FileStore.history c.args.file_store.now in
-    let after = g.H.FileStore.history c.store_named.new.file_store in
-    let words = c.args.words in
-    let listed = c.args.listed.now in
-    let first = c.in_err-store_named.ensures in
-    let out = option_map (λ w. w.out) words.stored in
-    let grouping = sym (seen_lent (λ t. t.items) c.as_ref.result) ∙ ap (option_map (λ t. t.items)) c.as_ref.ensures.value in
-    let steps = subst₂ (λ (name : Option (Bor (List ℕ))) (o : Option (List ℕ)). store_steps (named_file name o) before after first.0 (refusal_by (Err c.in_err-store_named.field-0.0))) c.out_in-out.ensures grouping first.2 in (
-      first.0,
-      first.1,
-      stops_with (named_file out (option_map (λ t. t.items) listed.grouping)) (named_file words.groupings (option_map (λ t. t.items) listed.table)) before after first.0 c.in_err-store_named.field-0.0 c.from_residual.result c.from_residual.ensures.1 steps,
-    )
+    let text = option_map (λ t. t.items) c.args.listed.now.grouping in
+    let refusal = c.in_err-store_named.field-0.0 in
+    let first = lent_stored g.H.FileStore.contents g.H.FileStore.history g.H.FileStore.stored (λ t. t.items) c.out_in-out.result c.as_ref.result _ _ _ (refusal_by (Err refusal)) c.as_ref.ensures.value c.in_err-store_named.ensures in
+    stores_stopped g.H.FileStore.contents g.H.FileStore.history g.H.FileStore.stored (named_file (option_map (λ w. w.out) c.args.words.stored) text) (named_file c.args.words.groupings (option_map (λ t. t.items) c.args.listed.now.table)) _ _ refusal c.from_residual.result c.from_residual.ensures.1
+    (subst (λ (name : Option (Bor (List ℕ))). Stores g.H.FileStore.contents g.H.FileStore.history g.H.FileStore.stored (named_file name text) c.args.file_store.now c.store_named.new.file_store (refusal_by (Err refusal))) c.out_in-out.ensures first)

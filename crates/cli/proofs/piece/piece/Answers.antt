@@ -1,74 +1,41 @@
-use Rattle.std.proofs.Common.{◌≡◌, Option, map, subst, length}
-use Rattle.std.specs.Prelude.{Ok, Err}
+use Rattle.std.proofs.Common.{length}
+use Rattle.std.specs.Prelude.{Option}
 use Rattle.county_problem.specs.ProblemValue.{ProblemValue}
 use Rattle.grouping_laws.specs.Grouping.{Grouping}
-use Rattle.share_board.specs.Events.{event_of}
 use Rattle.cli_words.specs.declared.words.PieceWords.{PieceWords}
 use Rattle.cli_file_stores.specs.Files.{Files}
 use Rattle.cli_answers.specs.Answer.{Answered}
-use Rattle.cli_answers.specs.Answers.{answer_of, AnswerMeets}
+use Rattle.cli_answers.specs.Answers.{answer_of}
 use Rattle.cli_runs.specs.Course.{Course, ◌>>=◌}
 use Rattle.cli_runs.specs.ProblemCourse.{problem_course, grouping_of}
 use Rattle.cli_runs.specs.BoardCourse.{format_of, named_events_of}
 use Rattle.cli_runs.specs.PieceCourse.{said_step}
-use Rattle.cli_runs.proofs.RunLemmas.{handed_on, went_on}
+use Rattle.cli.proofs.StepLemmas.{stepped, stopped}
 use Rattle.cli.proofs.piece.piece.Goals as goal
 
 -- the piece where the problem and the grouping are known
-with_grouping : Option Files → PieceWords → ProblemValue → Grouping → Course Answered
-with_grouping files words v target = named_events_of files (format_of words.board.round) (length v.counties) words.events >>= said_step v target words
+abbrev with_grouping : PieceWords → ProblemValue → Option Files → Grouping → Course Answered
+with_grouping words v files target = named_events_of files (format_of words.board.round) (length v.counties) words.events >>= said_step v target words
 
 -- and where the problem is
-with_problem : Option Files → PieceWords → ProblemValue → Course Answered
-unfolding with_grouping
-with_problem files words v = grouping_of files words.board.grouping.now >>= with_grouping files words v
+abbrev with_problem : PieceWords → Option Files → ProblemValue → Course Answered
+with_problem words files v = grouping_of files words.board.grouping.now >>= with_grouping words v files
 
 pub returns-in_err-grouping-clause-course : goal.returns-in_err-grouping-clause-course
-unfolding with_grouping with_problem
 returns-in_err-grouping-clause-course g c =
-    let files = g.H.FileStore.contents c.args.file_store.now in
-    let words = c.args.words in
-    let before = g.H.FileStore.history c.args.file_store.now in
-    let built = g.H.FileStore.history c.load_problem.new.file_store in
-    let after = g.H.FileStore.history c.load_grouping.new.file_store in
-    let v = c.in_ok-problem.problem in
-    let met = subst (λ (f : Option Files). AnswerMeets c.in_err-grouping.field-0.0 (λ a. grouping_of f words.board.grouping.now built after (Err a))) c.load_problem.ensures.same c.in_err-grouping.ensures.course in
-    went_on answer_of c.from_residual-in_err-grouping.result (problem_course files words.board.problem) (with_problem files words) v before built after c.in_ok-problem.ensures.course
-    (handed_on answer_of c.in_err-grouping.field-0.0 c.from_residual-in_err-grouping.result (grouping_of files words.board.grouping.now) (with_grouping files words v) built after c.from_residual-in_err-grouping.ensures.1 met)
+    stepped g.H.FileStore.contents g.H.FileStore.history answer_of _ (λ f. problem_course f c.args.words.board.problem) (with_problem c.args.words) _ _ _ _ c.in_ok-problem.ensures.course c.load_problem.ensures.same
+    (stopped g.H.FileStore.contents g.H.FileStore.history answer_of _ (λ f. grouping_of f c.args.words.board.grouping.now) (with_grouping c.args.words c.in_ok-problem.problem) _ _ _ c.from_residual-in_err-grouping.ensures.1 c.in_err-grouping.ensures.course)
 
 pub returns-in_err-events-clause-course : goal.returns-in_err-events-clause-course
-unfolding with_grouping with_problem
 returns-in_err-events-clause-course g c =
-    let files = g.H.FileStore.contents c.args.file_store.now in
-    let words = c.args.words in
-    let before = g.H.FileStore.history c.args.file_store.now in
-    let built = g.H.FileStore.history c.load_problem.new.file_store in
-    let read = g.H.FileStore.history c.load_grouping.new.file_store in
-    let after = g.H.FileStore.history c.load_named_events.new.file_store in
     let v = c.in_ok-problem.problem in
-    let target = c.in_ok-grouping.grouping.groups.items in
-    let grouped = subst (λ (f : Option Files). grouping_of f words.board.grouping.now built read (Ok target)) c.load_problem.ensures.same c.in_ok-grouping.ensures.course in
-    let same = subst (λ (f : Option Files). g.H.FileStore.contents c.load_grouping.new.file_store ≡ f) c.load_problem.ensures.same c.load_grouping.ensures.same in
-    let met = subst (λ (f : Option Files). AnswerMeets c.in_err-events.field-0.0 (λ a. named_events_of f (format_of words.board.round) (length v.counties) words.events read after (Err a))) same c.in_err-events.ensures.course in
-    went_on answer_of c.from_residual-in_err-events.result (problem_course files words.board.problem) (with_problem files words) v before built after c.in_ok-problem.ensures.course
-    (went_on answer_of c.from_residual-in_err-events.result (grouping_of files words.board.grouping.now) (with_grouping files words v) target built read after grouped
-    (handed_on answer_of c.in_err-events.field-0.0 c.from_residual-in_err-events.result (named_events_of files (format_of words.board.round) (length v.counties) words.events) (said_step v target words) read after c.from_residual-in_err-events.ensures.1 met))
+    stepped g.H.FileStore.contents g.H.FileStore.history answer_of _ (λ f. problem_course f c.args.words.board.problem) (with_problem c.args.words) _ _ _ _ c.in_ok-problem.ensures.course c.load_problem.ensures.same
+    (stepped g.H.FileStore.contents g.H.FileStore.history answer_of _ (λ f. grouping_of f c.args.words.board.grouping.now) (with_grouping c.args.words v) _ _ _ _ c.in_ok-grouping.ensures.course c.load_grouping.ensures.same
+    (stopped g.H.FileStore.contents g.H.FileStore.history answer_of _ (λ f. named_events_of f (format_of c.args.words.board.round) (length v.counties) c.args.words.events) (λ _. said_step v c.in_ok-grouping.grouping.groups.items c.args.words) _ _ _ c.from_residual-in_err-events.ensures.1 c.in_err-events.ensures.course))
 
 pub returns-clause-course : goal.returns-clause-course
-unfolding with_grouping with_problem
 returns-clause-course g c =
-    let files = g.H.FileStore.contents c.args.file_store.now in
-    let words = c.args.words in
-    let before = g.H.FileStore.history c.args.file_store.now in
-    let built = g.H.FileStore.history c.load_problem.new.file_store in
-    let read = g.H.FileStore.history c.load_grouping.new.file_store in
-    let after = g.H.FileStore.history c.load_named_events.new.file_store in
     let v = c.in_ok-problem.problem in
-    let target = c.in_ok-grouping.grouping.groups.items in
-    let events = map event_of c.in_ok-events.events.items in
-    let grouped = subst (λ (f : Option Files). grouping_of f words.board.grouping.now built read (Ok target)) c.load_problem.ensures.same c.in_ok-grouping.ensures.course in
-    let same = subst (λ (f : Option Files). g.H.FileStore.contents c.load_grouping.new.file_store ≡ f) c.load_problem.ensures.same c.load_grouping.ensures.same in
-    let taken = subst (λ (f : Option Files). named_events_of f (format_of words.board.round) (length v.counties) words.events read after (Ok events)) same c.in_ok-events.ensures.course in
-    went_on answer_of c.proved.result (problem_course files words.board.problem) (with_problem files words) v before built after c.in_ok-problem.ensures.course
-    (went_on answer_of c.proved.result (grouping_of files words.board.grouping.now) (with_grouping files words v) target built read after grouped
-    (went_on answer_of c.proved.result (named_events_of files (format_of words.board.round) (length v.counties) words.events) (said_step v target words) events read after after taken (c.proved.ensures after)))
+    stepped g.H.FileStore.contents g.H.FileStore.history answer_of _ (λ f. problem_course f c.args.words.board.problem) (with_problem c.args.words) _ _ _ _ c.in_ok-problem.ensures.course c.load_problem.ensures.same
+    (stepped g.H.FileStore.contents g.H.FileStore.history answer_of _ (λ f. grouping_of f c.args.words.board.grouping.now) (with_grouping c.args.words v) _ _ _ _ c.in_ok-grouping.ensures.course c.load_grouping.ensures.same
+    (stepped g.H.FileStore.contents g.H.FileStore.history answer_of _ (λ f. named_events_of f (format_of c.args.words.board.round) (length v.counties) c.args.words.events) (λ _. said_step v c.in_ok-grouping.grouping.groups.items c.args.words) _ _ _ _ c.in_ok-events.ensures.course c.load_named_events.ensures.same (c.proved.ensures _)))

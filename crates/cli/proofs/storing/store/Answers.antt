@@ -31,6 +31,6 @@ returns-in-Err g c = (
     is = c.in-Err.ensures.answer;
     logged = c.in-Err.ensures.logged;
     none_stored = refl;
-    answer = answered (file_store_answer c.args.name.now c.in-Err.fault) c.refuse_load.result c.refuse_load.ensures;
+    answer = answered (file_store_answer c.args.name.now c.in-Err.fault) c.refuse_store.result c.refuse_store.ensures;
   }),
 )
