@@ -10,7 +10,7 @@ use Rattle.cli_file_stores.specs.History.{FileStoreEvent, no_history}
 use Rattle.std.specs.List.{slice_split}
 use Rattle.field_lines.specs.RawPieces.{raw_lines}
 use Rattle.cli.specs.Case.{case_files, first_case_line, is_case}
-use Rattle.cli_runs.specs.Run.{IsRunAnswer}
+use Rattle.run_laws.specs.Run.{IsRunAnswer}
 use Rattle.cli.specs.CaseRun.{WordsOver, stored_text, IsCaseAnswer}
 use Rattle.cli_file_stores.specs.Memory.{files_of}
 use Rattle.cli_file_stores.specs.declared.memory.MemoryFile.{MemoryFile}

@@ -12,20 +12,20 @@ use Rattle.cli_answers.specs.declared.answer.Refusal.{Refusal}
 use Rattle.cli_answers.specs.declared.answer.Refusal.TheVariants.{Shown, Memory}
 use Rattle.cli_answers.specs.Answer.{Answered}
 use Rattle.cli_answers.specs.Answers.{answer_of, said_by, Comes}
-use Rattle.cli_runs.specs.Course.{Course, CourseEndsIn}
-use Rattle.cli_runs.specs.Spoken.{behind}
-use Rattle.cli_runs.proofs.StoreLemmas.{none_stored}
-use Rattle.cli_runs.specs.Storing.{HasStored}
+use Rattle.run_laws.specs.Steps.{Steps, StepsEndIn}
+use Rattle.run_laws.specs.Spoken.{behind}
+use Rattle.run_laws.proofs.StoreLemmas.{none_stored}
+use Rattle.run_laws.specs.Storing.{HasStored}
 use Rattle.written_output.specs.declared.written.Written.{Written}
 use Rattle.written_output.specs.Writing.{IsWritten}
 use Rattle.written_output.proofs.Texts.{written_none}
 use Rattle.cli_record.specs.RecordFiles.{record_name_of}
-use Rattle.cli_runs.specs.Run.{CommandEnds, CommandRun, IsEndAnswer, IsRunAnswer, RunsAsAsked}
+use Rattle.run_laws.specs.Run.{CommandEnds, CommandRun, IsEndAnswer, IsRunAnswer, RunsAsAsked}
 use Rattle.cli.specs.Ends.{said_of}
 
 -- a command that stores no file
-pub quiet_run : (files : Option Files) (command : CommandWords) (steps : Course Answered) (before after : History) (end : Result RunAnswer Refusal)
-    → ((a : Answered) → CourseEndsIn steps before after a → CommandEnds files command before after [] a)
+pub quiet_run : (files : Option Files) (command : CommandWords) (steps : Steps Answered) (before after : History) (end : Result RunAnswer Refusal)
+    → ((a : Answered) → StepsEndIn steps before after a → CommandEnds files command before after [] a)
     → Comes answer_of end (steps before after) → CommandRun files command before after [] (said_by end)
 quiet_run files command steps before after (Ok a) k h = inr (k (answer_of a) (inl h))
 quiet_run files command steps before after (Err (Shown a)) k h = inr (k (answer_of a) (inr h))
@@ -37,8 +37,8 @@ module _ (files later : Option Files) (listed last : Option (List NamedFile)) (b
   Ran command a = (stored : List NamedFile) × HasStored files later listed last stored × CommandRun files command before after stored a
 
   -- a command that stores no file, and left the file store as it was
-  pub quiet_ran : (command : CommandWords) (steps : Course Answered) (end : Result RunAnswer Refusal) → later ≡ files → last ≡ listed
-      → ((a : Answered) → CourseEndsIn steps before after a → CommandEnds files command before after [] a) → Comes answer_of end (steps before after) → Ran command (said_by end)
+  pub quiet_ran : (command : CommandWords) (steps : Steps Answered) (end : Result RunAnswer Refusal) → later ≡ files → last ≡ listed
+      → ((a : Answered) → StepsEndIn steps before after a → CommandEnds files command before after [] a) → Comes answer_of end (steps before after) → Ran command (said_by end)
   quiet_ran command steps end same kept k h = ([], none_stored files later listed last same kept, quiet_run files command steps before after end k h)
 
   module _ (held holds : Option (List ℕ)) (was_failed is_failed : Bool) (begun written : Written) where
@@ -79,8 +79,8 @@ module _ {H W : Type 0} (contents : H → Option Files) (history : H → History
       silent_run (contents s) (contents t) (stored_in s) (stored_in t) (history s) (history t) (kept out) (failed out) written command meant a is run
 
   -- and one that stores no file either
-  pub quiet_end : (out : W) (written : Written) (command meant : CommandWords) (steps : Course Answered) (end : Result RunAnswer Refusal) → command ≡ meant → contents t ≡ contents s → stored_in t ≡ stored_in s
-      → ((a : Answered) → CourseEndsIn steps (history s) (history t) a → CommandEnds (contents s) meant (history s) (history t) [] a) → Comes answer_of end (steps (history s) (history t))
+  pub quiet_end : (out : W) (written : Written) (command meant : CommandWords) (steps : Steps Answered) (end : Result RunAnswer Refusal) → command ≡ meant → contents t ≡ contents s → stored_in t ≡ stored_in s
+      → ((a : Answered) → StepsEndIn steps (history s) (history t) a → CommandEnds (contents s) meant (history s) (history t) [] a) → Comes answer_of end (steps (history s) (history t))
       → RanWriting (contents s) (contents t) (stored_in s) (stored_in t) (history s) (history t) (kept out) (kept out) (failed out) (failed out) written written command (said_by end)
   quiet_end out written command meant steps end is same still k h =
       silent_end out written command meant (said_by end) is (quiet_ran (contents s) (contents t) (stored_in s) (stored_in t) (history s) (history t) meant steps end same still k h)

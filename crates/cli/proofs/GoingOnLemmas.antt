@@ -39,17 +39,17 @@ use Rattle.cli_answers.specs.declared.answer.Refusal.TheVariants.{Shown, Memory}
 use Rattle.cli_answers.specs.Answer.{Answered, success, memory_answer}
 use Rattle.cli_answers.specs.Answers.{answer_of, AnswerMeets, RefusalShows, IsShown, said_by}
 use Rattle.cli_answers.specs.Refusals.{file_store_answer, pieces_answer}
-use Rattle.cli_runs.specs.Course.{Course, ◌>>=◌, value_step}
-use Rattle.cli_runs.specs.Reading.{GivenBack, open_step, read_step, read_one}
-use Rattle.cli_runs.specs.BoardCourse.{format_of, depth_of, limit_of_words}
-use Rattle.cli_runs.specs.ShareCourse.{share_answer}
-use Rattle.cli_runs.specs.ServeCourse.{ServedRun, HasServed, HasFailed, RanOutOfMemory, IsServedRun, input_course, serve_course}
-use Rattle.cli_runs.specs.DeskCourse.{DeskRun, HasProved, IsDeskRun, texts_course, desk_course}
-use Rattle.cli_runs.specs.Spoken.{behind}
-use Rattle.cli_runs.specs.Storing.{HasStored, named_file, said_after, store_steps}
-use Rattle.cli_runs.proofs.StoreLemmas.{none_stored}
+use Rattle.run_laws.specs.Steps.{Steps, ◌>>=◌, value_step}
+use Rattle.run_laws.specs.Reading.{GivenBack, open_step, read_step, read_one}
+use Rattle.run_laws.specs.BoardSteps.{format_of, depth_of, limit_of_words}
+use Rattle.run_laws.specs.ShareSteps.{share_answer}
+use Rattle.run_laws.specs.ServeSteps.{ServedRun, HasServed, HasFailed, RanOutOfMemory, IsServedRun, input_steps, serve_steps}
+use Rattle.run_laws.specs.DeskSteps.{DeskRun, HasProved, IsDeskRun, texts_steps, desk_steps}
+use Rattle.run_laws.specs.Spoken.{behind}
+use Rattle.run_laws.specs.Storing.{HasStored, named_file, said_after, store_steps}
+use Rattle.run_laws.proofs.StoreLemmas.{none_stored}
 use Rattle.cli.proofs.StoringLemmas.{Stores, from_start}
-use Rattle.cli_runs.specs.Run.{CommandRun}
+use Rattle.run_laws.specs.Run.{CommandRun}
 use Rattle.cli.specs.Ends.{refusal_by}
 use Rattle.cli.specs.GoingOn.{StopsSilently, ServesBy, IsStopRefusal, DeskDone, ProvesBy}
 
@@ -57,7 +57,7 @@ pub meets : (refusal : Refusal) (P Q : Answered → Type 0) → ((a : Answered) 
 meets (Shown a) P Q f h = f (answer_of a) h
 meets Memory P Q f h = tt
 
-module _ {X Y : Type 0} (first : Course X) (next : X → Course Y) (x : X) (before between after : History) (given : first before between (Ok x)) where
+module _ {X Y : Type 0} (first : Steps X) (next : X → Steps Y) (x : X) (before between after : History) (given : first before between (Ok x)) where
   pub went_with : (end : Result Y Answered) → next x between after end → (first >>= next) before after end
   went_with end h = inr (record { value = x; between = between; given = given; goes_on = h })
 
@@ -65,18 +65,18 @@ module _ {X Y : Type 0} (first : Course X) (next : X → Course Y) (x : X) (befo
   silent_on text refusal h = (h.0, meets refusal (λ a. next x between after (Err a)) (λ a. (first >>= next) before after (Err a)) (λ a stop. went_with (Err a) stop) h.1)
 
 -- steps that stop, whatever follows
-pub silent_stop : {X Y : Type 0} (first : Course X) (next : X → Course Y) (before after : History) (refusal : Refusal) → AnswerMeets refusal (λ a. first before after (Err a)) → StopsSilently (first >>= next) before after [] refusal
+pub silent_stop : {X Y : Type 0} (first : Steps X) (next : X → Steps Y) (before after : History) (refusal : Refusal) → AnswerMeets refusal (λ a. first before after (Err a)) → StopsSilently (first >>= next) before after [] refusal
 silent_stop first next before after refusal h = (refl, meets refusal (λ a. first before after (Err a)) (λ a. (first >>= next) before after (Err a)) (λ a stop. inl stop) h)
 
 -- what `board` comes to behind steps that gave a value
-pub serves_on : {X : Type 0} (first : Course X) (next : X → Course ServedRun) (x : X) (before between after : History) → first before between (Ok x) → (text : List ℕ) (result : Result Shared Refusal)
+pub serves_on : {X : Type 0} (first : Steps X) (next : X → Steps ServedRun) (x : X) (before between after : History) → first before between (Ok x) → (text : List ℕ) (result : Result Shared Refusal)
     → ServesBy (next x) between after text result → ServesBy (first >>= next) before after text result
 serves_on first next x before between after given text (Ok shared) h = (h.0, went_with first next x before between after given (Ok h.0) h.1, h.2, h.3, h.4)
 serves_on first next x before between after given text (Err refusal) (inl h) = inl (silent_on first next x before between after given text refusal h)
 serves_on first next x before between after given text (Err refusal) (inr h) = inr (h.0, went_with first next x before between after given (Ok h.0) h.1, h.2, h.3, h.4)
 
 -- the same of `desk`
-pub proves_on : {X : Type 0} (first : Course X) (next : X → Course DeskRun) (x : X) (before between after : History) → first before between (Ok x) → (text : List ℕ) (result : Result RunAnswer Refusal)
+pub proves_on : {X : Type 0} (first : Steps X) (next : X → Steps DeskRun) (x : X) (before between after : History) → first before between (Ok x) → (text : List ℕ) (result : Result RunAnswer Refusal)
     → ProvesBy (next x) between after text result → ProvesBy (first >>= next) before after text result
 proves_on first next x before between after given text (Ok answer) h = (h.0, went_with first next x before between after given (Ok h.0) h.1, h.2, h.3)
 proves_on first next x before between after given text (Err refusal) (inl h) = inl (silent_on first next x before between after given text refusal h)
@@ -211,7 +211,7 @@ shaped v words g format limit depth f l d from to text result round first run = 
 
 -- a board ran over standard input
 pub input_ran : (files : Option Files) (v : ProblemValue) (words : ServeWords) (g : Grouping) (before after : History) (given : GivenBack) (s : ServedRun) → read_one files standard_input before after (Ok given) → IsServedRun v words g given s
-    → input_course files v words g before after (Ok s)
+    → input_steps files v words g before after (Ok s)
 input_ran files v words g before after given s read is = went_with (read_one files standard_input) (λ x. value_step (IsServedRun v words g x)) given before after after read (Ok s) (refl, is)
 
 -- the same over the states of a file store: the reader was opened and given back
@@ -227,14 +227,14 @@ module _ {H : Type 0} (contents : H → Option Files) (history : H → History) 
     Ran result = IsBoardRun (problem_of v) shape.depth words.budget shape.format (length v.counties) g round from to text result
 
     abbrev Serves : Result Shared Refusal → Type 0
-    Serves result = ServesBy (input_course (contents s) v words g) (history s) (history u) text result
+    Serves result = ServesBy (input_steps (contents s) v words g) (history s) (history u) text result
 
     in_words : (result : Result Shared ServeStop) → Ran result → IsFirstRound (problem_of v) g (limit_of_words g words.board.round) (format_of words.board.round) round
         × IsBoardRun (problem_of v) (depth_of words.board.round) words.budget (format_of words.board.round) (length v.counties) g round from to text result
     in_words result run = shaped v words g shape.format shape.limit shape.depth f l d from to text result round first run
 
     came_of : (answer : Result ReadEnd FileStoreFault) → IsRead (contents t) standard_input to.bytes answer → HasRead (history t) (history u) standard_input to.bytes answer
-        → (run : ServedRun) → IsServedRun v words g (record { bytes = to.bytes; answer = answer }) run → input_course (contents s) v words g (history s) (history u) (Ok run)
+        → (run : ServedRun) → IsServedRun v words g (record { bytes = to.bytes; answer = answer }) run → input_steps (contents s) v words g (history s) (history u) (Ok run)
     came_of answer is has run served = input_ran (contents s) v words g (history s) (history u) (record { bytes = to.bytes; answer = answer }) run (input_read to.bytes answer is has) served
 
     pub input_stood : (end : ReadEnd) → end ≡ read_end to.ended → IsRead (contents t) standard_input to.bytes (Ok end) → HasRead (history t) (history u) standard_input to.bytes (Ok end)
@@ -266,34 +266,34 @@ module _ {H : Type 0} (contents : H → Option Files) (history : H → History) 
         served_refusal (Err fault) is has refusal (run_failed v words g round given.0 from to fresh text result given.1 fault refusal shows)
 
 -- steps meet a fault that is handed on, before anything was written
-pub serves_handed : {X : Type 0} (refusal : Refusal) (end : Result Shared Refusal) (first : Course X) (next : X → Course ServedRun) (before after : History) → IsErrAnd end (λ e. e ≡ refusal)
+pub serves_handed : {X : Type 0} (refusal : Refusal) (end : Result Shared Refusal) (first : Steps X) (next : X → Steps ServedRun) (before after : History) → IsErrAnd end (λ e. e ≡ refusal)
     → AnswerMeets refusal (λ a. first before after (Err a)) → ServesBy (first >>= next) before after [] end
 serves_handed refusal (Ok s) first next before after i h = absurd i
 serves_handed refusal (Err e) first next before after i h =
     subst (λ (r : Refusal). ServesBy (first >>= next) before after [] (Err r)) (sym i) (inl (silent_stop first next before after refusal h))
 
-pub proves_handed : {X : Type 0} (refusal : Refusal) (end : Result RunAnswer Refusal) (first : Course X) (next : X → Course DeskRun) (before after : History) → IsErrAnd end (λ e. e ≡ refusal)
+pub proves_handed : {X : Type 0} (refusal : Refusal) (end : Result RunAnswer Refusal) (first : Steps X) (next : X → Steps DeskRun) (before after : History) → IsErrAnd end (λ e. e ≡ refusal)
     → AnswerMeets refusal (λ a. first before after (Err a)) → ProvesBy (first >>= next) before after [] end
 proves_handed refusal (Ok s) first next before after i h = absurd i
 proves_handed refusal (Err e) first next before after i h =
     subst (λ (r : Refusal). ProvesBy (first >>= next) before after [] (Err r)) (sym i) (inl (silent_stop first next before after refusal h))
 
 -- calls that load files, over the states of a file store: one was refused, or it gave a value and left the files as they were
-module _ {H X : Type 0} (contents : H → Option Files) (history : H → History) (first : Option Files → Course X) where
-  pub serves_stopped : (next : Option Files → X → Course ServedRun) (end : Result Shared Refusal) (refusal : Refusal) (s t : H) → IsErrAnd end (λ e. e ≡ refusal)
+module _ {H X : Type 0} (contents : H → Option Files) (history : H → History) (first : Option Files → Steps X) where
+  pub serves_stopped : (next : Option Files → X → Steps ServedRun) (end : Result Shared Refusal) (refusal : Refusal) (s t : H) → IsErrAnd end (λ e. e ≡ refusal)
       → AnswerMeets refusal (λ a. first (contents s) (history s) (history t) (Err a)) → ServesBy (first (contents s) >>= next (contents s)) (history s) (history t) [] end
   serves_stopped next end refusal s t is met = serves_handed refusal end (first (contents s)) (next (contents s)) (history s) (history t) is met
 
-  pub proves_stopped : (next : Option Files → X → Course DeskRun) (end : Result RunAnswer Refusal) (refusal : Refusal) (s t : H) → IsErrAnd end (λ e. e ≡ refusal)
+  pub proves_stopped : (next : Option Files → X → Steps DeskRun) (end : Result RunAnswer Refusal) (refusal : Refusal) (s t : H) → IsErrAnd end (λ e. e ≡ refusal)
       → AnswerMeets refusal (λ a. first (contents s) (history s) (history t) (Err a)) → ProvesBy (first (contents s) >>= next (contents s)) (history s) (history t) [] end
   proves_stopped next end refusal s t is met = proves_handed refusal end (first (contents s)) (next (contents s)) (history s) (history t) is met
 
-  pub serves_stepped : (next : Option Files → X → Course ServedRun) (x : X) (s t u : H) → first (contents s) (history s) (history t) (Ok x) → contents t ≡ contents s → (text : List ℕ) (end : Result Shared Refusal)
+  pub serves_stepped : (next : Option Files → X → Steps ServedRun) (x : X) (s t u : H) → first (contents s) (history s) (history t) (Ok x) → contents t ≡ contents s → (text : List ℕ) (end : Result Shared Refusal)
       → ServesBy (next (contents t) x) (history t) (history u) text end → ServesBy (first (contents s) >>= next (contents s)) (history s) (history u) text end
   serves_stepped next x s t u given same text end by =
       serves_on (first (contents s)) (next (contents s)) x (history s) (history t) (history u) given text end (subst (λ (f : Option Files). ServesBy (next f x) (history t) (history u) text end) same by)
 
-  pub proves_stepped : (next : Option Files → X → Course DeskRun) (x : X) (s t u : H) → first (contents s) (history s) (history t) (Ok x) → contents t ≡ contents s → (text : List ℕ) (end : Result RunAnswer Refusal)
+  pub proves_stepped : (next : Option Files → X → Steps DeskRun) (x : X) (s t u : H) → first (contents s) (history s) (history t) (Ok x) → contents t ≡ contents s → (text : List ℕ) (end : Result RunAnswer Refusal)
       → ProvesBy (next (contents t) x) (history t) (history u) text end → ProvesBy (first (contents s) >>= next (contents s)) (history s) (history u) text end
   proves_stepped next x s t u given same text end by =
       proves_on (first (contents s)) (next (contents s)) x (history s) (history t) (history u) given text end (subst (λ (f : Option Files). ProvesBy (next f x) (history t) (history u) text end) same by)
@@ -309,11 +309,11 @@ module _ (files : Option Files) (words : ServeWords) (before between after : His
   Stops refusal = CommandRun files (BoardCommand words) before between [] (behind text (said_by (Err refusal)))
 
   -- it stopped before anything was stored
-  stops_silently : (refusal : Refusal) → StopsSilently (serve_course files words) before between text refusal → Stops refusal
+  stops_silently : (refusal : Refusal) → StopsSilently (serve_steps files words) before between text refusal → Stops refusal
   stops_silently (Shown a) h = subst (λ (t : List ℕ). CommandRun files (BoardCommand words) before between [] (behind t (answer_of a))) (sym h.0) (inr (inl (h.1, refl)))
   stops_silently Memory h = subst (λ (t : List ℕ). CommandRun files (BoardCommand words) before between [] (behind t memory_answer)) (sym h.0) (inl (refl, refl))
 
-  stops_by : (refusal : Refusal) → ServesBy (serve_course files words) before between text (Err refusal) → Stops refusal
+  stops_by : (refusal : Refusal) → ServesBy (serve_steps files words) before between text (Err refusal) → Stops refusal
   stops_by refusal (inl h) = stops_silently refusal h
   stops_by refusal (inr h) =
       let none : named_file words.certificate h.0.certificate ≡ [] = ap (named_file words.certificate) h.4 ∙ unnamed words.certificate in
@@ -326,13 +326,13 @@ module _ (files : Option Files) (words : ServeWords) (before between after : His
         ap (λ (t : List ℕ). behind t (said_by (Err refusal))) (sym h.2) ∙ ap (behind h.0.text) (sym h.3),
       ))
 
-  pub board_stopped : (refusal : Refusal) (end : Result RunAnswer Refusal) → IsErrAnd end (λ e. e ≡ refusal) → ServesBy (serve_course files words) before between text (Err refusal)
+  pub board_stopped : (refusal : Refusal) (end : Result RunAnswer Refusal) → IsErrAnd end (λ e. e ≡ refusal) → ServesBy (serve_steps files words) before between text (Err refusal)
       → CommandRun files (BoardCommand words) before between [] (behind text (said_by end))
   board_stopped refusal (Ok a) i h = absurd i
   board_stopped refusal (Err e) i h = subst (λ (r : Refusal). CommandRun files (BoardCommand words) before between [] (behind text (said_by (Err r)))) (sym i) (stops_by refusal h)
 
   -- it came to an answer, and its certificate was to be stored
-  pub board_ended : (shared : Shared) → ServesBy (serve_course files words) before between text (Ok shared) → (stored : List NamedFile) (refusal : Option Answered)
+  pub board_ended : (shared : Shared) → ServesBy (serve_steps files words) before between text (Ok shared) → (stored : List NamedFile) (refusal : Option Answered)
       → store_steps (named_file words.certificate (option_map (λ t. t.items) shared.certificate)) between after stored refusal → (a : Answered) → a ≡ said_after refusal (share_answer shared)
       → CommandRun files (BoardCommand words) before after stored (behind text a)
   board_ended shared h stored refusal steps a is =
@@ -356,7 +356,7 @@ module _ {H : Type 0} (contents : H → Option Files) (history : H → History) 
   BoardRan u a = (stored : List NamedFile) × (text : List ℕ) × HasStored (contents s) (contents u) (stored_in s) (stored_in u) stored × Wrote text × CommandRun (contents s) (BoardCommand words) (history s) (history u) stored (behind text a)
 
   abbrev pub Served : Result Shared Refusal → Type 0
-  Served end = (text : List ℕ) × Wrote text × ServesBy (serve_course (contents s) words) (history s) (history t) text end
+  Served end = (text : List ℕ) × Wrote text × ServesBy (serve_steps (contents s) words) (history s) (history t) text end
 
   pub board_refused : (refusal : Refusal) (end : Result RunAnswer Refusal) → IsErrAnd end (λ e. e ≡ refusal) → Served (Err refusal) → BoardRan t (said_by end)
   board_refused refusal end is served =
@@ -412,17 +412,17 @@ module _ (v : ProblemValue) (from to : Given) (fresh : from ≡ nothing_given) (
 
 -- a desk ran over standard input
 pub texts_ran : (files : Option Files) (v : ProblemValue) (before after : History) (given : GivenBack) (s : DeskRun) → read_one files standard_input before after (Ok given) → IsDeskRun v given s
-    → texts_course files v before after (Ok s)
+    → texts_steps files v before after (Ok s)
 texts_ran files v before after given s read is = went_with (read_one files standard_input) (λ x. value_step (IsDeskRun v x)) given before after after read (Ok s) (refl, is)
 
 -- the same over the states of a file store
 module _ {H : Type 0} (contents : H → Option Files) (history : H → History) (s t u : H) (same : contents t ≡ contents s) (opens : open_step (contents s) standard_input (history s) (history t) (Ok tt))
     (v : ProblemValue) (from to : Given) (fresh : from ≡ nothing_given) (text : List ℕ) (left : texts.Held) where
   abbrev Proves : Result RunAnswer Refusal → Type 0
-  Proves result = ProvesBy (texts_course (contents s) v) (history s) (history u) text result
+  Proves result = ProvesBy (texts_steps (contents s) v) (history s) (history u) text result
 
   desk_came : (answer : Result ReadEnd FileStoreFault) → IsRead (contents t) standard_input to.bytes answer → HasRead (history t) (history u) standard_input to.bytes answer
-      → (end : Answered) → IsDeskRun v (record { bytes = to.bytes; answer = answer }) (record { text = text; end = end }) → texts_course (contents s) v (history s) (history u) (Ok (record { text = text; end = end }))
+      → (end : Answered) → IsDeskRun v (record { bytes = to.bytes; answer = answer }) (record { text = text; end = end }) → texts_steps (contents s) v (history s) (history u) (Ok (record { text = text; end = end }))
   desk_came answer is has end run =
       texts_ran (contents s) v (history s) (history u) (record { bytes = to.bytes; answer = answer }) (record { text = text; end = end }) (input_read contents history s t u same opens to.bytes answer is has) run
 
@@ -443,14 +443,14 @@ module _ {H : Type 0} (contents : H → Option Files) (history : H → History) 
       inr (record { text = text; end = said_by (Err refusal) }, desk_came (Err fault) is has (said_by (Err refusal)) (desk_failed v from to fresh text left result run fault refusal shows), refl, refl)
 
 module _ (files : Option Files) (words : DeskWords) (before after : History) (text : List ℕ) where
-  desk_of : (result : Result RunAnswer Refusal) → DeskDone (desk_course files words) before after text result → CommandRun files (DeskCommand words) before after [] (behind text (said_by result))
+  desk_of : (result : Result RunAnswer Refusal) → DeskDone (desk_steps files words) before after text result → CommandRun files (DeskCommand words) before after [] (behind text (said_by result))
   desk_of result h = inr (inr (h.0, h.1, ap (λ (t : List ℕ). behind t (said_by result)) (sym h.2) ∙ ap (behind h.0.text) (sym h.3)), refl)
 
-  desk_silent : (refusal : Refusal) → StopsSilently (desk_course files words) before after text refusal → CommandRun files (DeskCommand words) before after [] (behind text (said_by (Err refusal)))
+  desk_silent : (refusal : Refusal) → StopsSilently (desk_steps files words) before after text refusal → CommandRun files (DeskCommand words) before after [] (behind text (said_by (Err refusal)))
   desk_silent (Shown a) h = subst (λ (t : List ℕ). CommandRun files (DeskCommand words) before after [] (behind t (answer_of a))) (sym h.0) (inr (inl h.1, refl))
   desk_silent Memory h = subst (λ (t : List ℕ). CommandRun files (DeskCommand words) before after [] (behind t memory_answer)) (sym h.0) (inl (refl, refl))
 
-  pub desk_ran : (result : Result RunAnswer Refusal) → ProvesBy (desk_course files words) before after text result → CommandRun files (DeskCommand words) before after [] (behind text (said_by result))
+  pub desk_ran : (result : Result RunAnswer Refusal) → ProvesBy (desk_steps files words) before after text result → CommandRun files (DeskCommand words) before after [] (behind text (said_by result))
   desk_ran (Ok a) h = desk_of (Ok a) h
   desk_ran (Err refusal) (inl h) = desk_silent refusal h
   desk_ran (Err refusal) (inr h) = desk_of (Err refusal) h

@@ -24,15 +24,15 @@ use Rattle.cli_answers.specs.declared.answer.Refusal.TheVariants.{Shown, Memory}
 use Rattle.cli_answers.specs.Answer.{Answered}
 use Rattle.cli_answers.specs.Answers.{Comes, AnswerMeets, RefusalShows}
 use Rattle.cli_answers.specs.Refusals.{file_store_answer}
-use Rattle.cli_runs.specs.Course.{Course, ◌>>=◌}
-use Rattle.cli_runs.specs.Reading.{GivenBack, open_step, read_step, given_step, back_step, read_both, given_pair, given_of_both, OfTexts}
-use Rattle.cli_runs.proofs.RunLemmas.{came, went_on}
+use Rattle.run_laws.specs.Steps.{Steps, ◌>>=◌}
+use Rattle.run_laws.specs.Reading.{GivenBack, open_step, read_step, given_step, back_step, read_both, given_pair, given_of_both, OfTexts}
+use Rattle.run_laws.proofs.RunLemmas.{came, went_on}
 use Rattle.certificate_checker.specs.declared.fault.CheckStop.{CheckStop}
 use Rattle.cli_words.specs.declared.words.CertificateWords.{CertificateWords}
-use Rattle.cli_runs.specs.declared.table_runs.Reported as held
-use Rattle.cli_runs.specs.CheckCourse.{IsChecked, ChecksGiven}
-use Rattle.cli_runs.specs.TableCourse.{Tabled}
-use Rattle.cli_runs.specs.Texts.{reported_of}
+use Rattle.cli_reports.specs.declared.table_runs.Reported as held
+use Rattle.run_laws.specs.CheckSteps.{IsChecked, ChecksGiven}
+use Rattle.run_laws.specs.TableSteps.{Tabled}
+use Rattle.cli_reports.specs.Texts.{reported_of}
 use Rattle.cli.specs.Streams.{given_back, both_given_back, AreBack, checked_file}
 
 -- an answer that is shown
@@ -153,8 +153,8 @@ module _ (files : Option Files) (first second : List ℕ) where
   pair_given before between after end same (inr on) =
       inr (record { value = on.value; between = on.between; given = both_read before between on.between (Ok on.value) same on.given; goes_on = on.goes_on })
 
-  module _ {S X : Type 0} (view : S → X) (next : Given × Given → Course X) where
-    abbrev steps : Course X
+  module _ {S X : Type 0} (view : S → X) (next : Given × Given → Steps X) where
+    abbrev steps : Steps X
     steps = given_of_both files first second >>= next
 
     pub both_unopened : (before after : History) (refusal : Refusal) → AnswerMeets refusal (λ a. read_both files first second before after (Err a)) → AnswerMeets refusal (λ a. steps before after (Err a))
@@ -172,7 +172,7 @@ module _ (files : Option Files) (first second : List ℕ) where
         went_on view end (given_of_both files first second) next pair before after after (pair_given before between after (Ok pair) same h) ends
 
 -- and over the states of a file store
-module _ {H S X : Type 0} (contents : H → Option Files) (history : H → History) (first second : List ℕ) (view : S → X) (next : Given × Given → Course X) (s t u : H) (same : contents t ≡ contents s) (opened : history t ≡ history s) where
+module _ {H S X : Type 0} (contents : H → Option Files) (history : H → History) (first second : List ℕ) (view : S → X) (next : Given × Given → Steps X) (s t u : H) (same : contents t ≡ contents s) (opened : history t ≡ history s) where
   abbrev BothThen : Result X Answered → Type 0
   BothThen = (given_of_both (contents s) first second >>= next) (history s) (history u)
 
@@ -226,7 +226,7 @@ only_memory_of_names view (Err (names.BadName line)) list x y one other of = of
 only_memory_of_names view (Err (names.Files fault)) list x y one other of = λ g s sees sees_too not. of g s sees sees_too (λ refused. ⊎_elim not (no_read_fault fault fault.file refl one other) refused)
 
 -- both census files were read as they came, and their readers were given back
-module _ {H S X : Type 0} (contents : H → Option Files) (history : H → History) (first second : List ℕ) (view : S → X) (next : Given × Given → Course X) (s t u : H) (same : contents t ≡ contents s) (opened : history t ≡ history s)
+module _ {H S X : Type 0} (contents : H → Option Files) (history : H → History) (first second : List ℕ) (view : S → X) (next : Given × Given → Steps X) (s t u : H) (same : contents t ≡ contents s) (opened : history t ≡ history s)
     (a b : Given) (end : Result S Refusal) (back : both_given_back (contents t) first second (history t) (history u) (Ok (a, b))) where
   pub census_came : (list : List ℕ → List ℕ → Result X Pl94Fault) (g x h y : Given) (read : Result S Pl94Fault) → g ≡ nothing_given → h ≡ nothing_given → ReadsBoth view g x h y read list → a ≡ x → b ≡ y
       → read_failed Geo read ≡ false → read_failed Segment1 read ≡ false → (OfTexts (λ p q. GivesUnless IsPl94Memory view read (list p q)) a b → Comes view end (next (a, b) (history u) (history u)))

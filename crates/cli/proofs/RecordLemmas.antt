@@ -4,10 +4,10 @@ use Rattle.cli_file_stores.specs.Files.{NamedFile, Files}
 use Rattle.cli_file_stores.specs.History.{History}
 use Rattle.cli_words.specs.declared.words.CommandWords.{CommandWords}
 use Rattle.cli_answers.specs.Answer.{Answered, memory_answer}
-use Rattle.cli_runs.specs.Recording.{RecordEnds}
-use Rattle.cli_runs.specs.Run.{CommandRun, RunsAsAsked}
-use Rattle.cli_runs.specs.Spoken.{behind}
-use Rattle.cli_runs.specs.Storing.{HasStored}
+use Rattle.run_laws.specs.Recording.{RecordEnds}
+use Rattle.run_laws.specs.Run.{CommandRun, RunsAsAsked}
+use Rattle.run_laws.specs.Spoken.{behind}
+use Rattle.run_laws.specs.Storing.{HasStored}
 use Rattle.cli.proofs.StoringLemmas.{from_start}
 
 -- a growth was refused in the command, so that no record is stored

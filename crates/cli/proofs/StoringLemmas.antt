@@ -11,10 +11,10 @@ use Rattle.cli_answers.specs.declared.answer.Refusal.{Refusal}
 use Rattle.cli_answers.specs.declared.answer.Refusal.TheVariants.{Shown, Memory}
 use Rattle.cli_answers.specs.Answer.{Answered, memory_answer}
 use Rattle.cli_answers.specs.Answers.{answer_of, said_by, AnswerMeets}
-use Rattle.cli_runs.specs.Course.{Course}
-use Rattle.cli_runs.specs.Storing.{EndsStoring, HasStored, named_file, said_after, store_steps}
-use Rattle.cli_runs.specs.Run.{IsOutOfMemory}
-use Rattle.cli_runs.proofs.StoreLemmas.{none_stored, stored_after, stores_on, stops_in}
+use Rattle.run_laws.specs.Steps.{Steps}
+use Rattle.run_laws.specs.Storing.{EndsStoring, HasStored, named_file, said_after, store_steps}
+use Rattle.run_laws.specs.Run.{IsOutOfMemory}
+use Rattle.run_laws.proofs.StoreLemmas.{none_stored, stored_after, stores_on, stops_in}
 use Rattle.cli.specs.Ends.{refusal_by}
 
 -- what is seen of a value that is lent is what is seen of the value
@@ -28,7 +28,7 @@ pub from_start : (files files_then after : Option Files) (listed listed_then las
 from_start files files_then after listed listed_then last stored same kept h =
     subst (λ (f : Option Files). HasStored f after listed last stored) same (subst (λ (l : Option (List NamedFile)). HasStored files_then after l last stored) kept h)
 
-module _ {S : Type 0} (steps : Course S) (files_of : S → List NamedFile) (answer : S → Answered) where
+module _ {S : Type 0} (steps : Steps S) (files_of : S → List NamedFile) (answer : S → Answered) where
   -- a run of the steps, whose files are stored; a growth may be refused
   abbrev pub Runs : History → History → List NamedFile → Answered → Type 0
   Runs before after stored a = IsOutOfMemory stored a ⊎ EndsStoring steps files_of answer before after stored a
@@ -100,18 +100,18 @@ module _ {H : Type 0} (contents : H → Option Files) (history : H → History) 
 
 -- ---- a command that stores files, over the states of a file store
 
-module _ {H S : Type 0} (contents : H → Option Files) (history : H → History) (stored_in : H → Option (List NamedFile)) (course : Option Files → Course S) (files_of : S → List NamedFile) (answer : S → Answered) where
+module _ {H S : Type 0} (contents : H → Option Files) (history : H → History) (stored_in : H → Option (List NamedFile)) (steps : Option Files → Steps S) (files_of : S → List NamedFile) (answer : S → Answered) where
   -- what it stored from one state to another, and what its run came to
   abbrev pub EndsIn : H → H → Answered → Type 0
-  EndsIn s u a = (stored : List NamedFile) × HasStored (contents s) (contents u) (stored_in s) (stored_in u) stored × Runs (course (contents s)) files_of answer (history s) (history u) stored a
+  EndsIn s u a = (stored : List NamedFile) × HasStored (contents s) (contents u) (stored_in s) (stored_in u) stored × Runs (steps (contents s)) files_of answer (history s) (history u) stored a
 
   -- it met a fault before anything was stored
   pub refused_first : (s t : H) (refusal : Refusal) (end : Result RunAnswer Refusal) → contents t ≡ contents s → stored_in t ≡ stored_in s
-      → IsErrAnd end (λ e. e ≡ refusal) → AnswerMeets refusal (λ a. course (contents s) (history s) (history t) (Err a)) → EndsIn s t (said_by end)
+      → IsErrAnd end (λ e. e ≡ refusal) → AnswerMeets refusal (λ a. steps (contents s) (history s) (history t) (Err a)) → EndsIn s t (said_by end)
   refused_first s t refusal end same kept is met =
-      ([], none_stored (contents s) (contents t) (stored_in s) (stored_in t) same kept, refused_run (course (contents s)) files_of answer (history s) (history t) refusal end is met)
+      ([], none_stored (contents s) (contents t) (stored_in s) (stored_in t) same kept, refused_run (steps (contents s)) files_of answer (history s) (history t) refusal end is met)
 
-  module _ (s t u : H) (value : S) (same : contents t ≡ contents s) (kept : stored_in t ≡ stored_in s) (given : course (contents s) (history s) (history t) (Ok value)) where
+  module _ (s t u : H) (value : S) (same : contents t ≡ contents s) (kept : stored_in t ≡ stored_in s) (given : steps (contents s) (history s) (history t) (Ok value)) where
     -- its files were stored, unless one was refused
     abbrev pub StoresIn : Option Answered → Type 0
     StoresIn refusal = Stores contents history stored_in (files_of value) t u refusal
@@ -120,7 +120,7 @@ module _ {H S : Type 0} (contents : H → Option Files) (history : H → History
     stored_or_not refusal a is end = (
       end.0,
       from_start (contents s) (contents t) (contents u) (stored_in s) (stored_in t) (stored_in u) end.0 same kept end.1,
-      said_run (course (contents s)) files_of answer value (history s) (history t) (history u) end.0 refusal a given end.2 is,
+      said_run (steps (contents s)) files_of answer value (history s) (history t) (history u) end.0 refusal a given end.2 is,
     )
 
     pub file_refused : (refusal : Refusal) → StoresIn (refusal_by (Err refusal)) → EndsIn s u (said_by (Err refusal))

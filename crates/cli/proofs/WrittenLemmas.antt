@@ -5,7 +5,7 @@ use Rattle.std.specs.Io.KnownBytes.{Appends}
 use Rattle.cli_answers.specs.Answer.{Answered}
 use Rattle.written_output.specs.declared.written.Written.{Written}
 use Rattle.written_output.specs.Writing.{IsWritten, IsFresh, kept_of}
-use Rattle.cli_runs.specs.Spoken.{behind}
+use Rattle.run_laws.specs.Spoken.{behind}
 use Rattle.cli.specs.Delivery.{Delivers}
 
 -- what is kept of nothing is no text

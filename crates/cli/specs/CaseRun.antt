@@ -8,7 +8,7 @@ use Rattle.cli_answers.specs.Answer.{Answered, memory_answer}
 use Rattle.cli_file_stores.specs.Files.{NamedFile, held, with_files}
 use Rattle.cli_file_stores.specs.History.{FileStoreEvent, no_history}
 use Rattle.cli.specs.Case.{case_files, case_words, is_case}
-use Rattle.cli_runs.specs.Run.{IsRunAnswer}
+use Rattle.run_laws.specs.Run.{IsRunAnswer}
 use Rattle.cli.specs.Delivery.{Delivers}
 
 -- the files that were stored: a line `file NAME` and the bytes of each

@@ -10,24 +10,24 @@ use Rattle.cli_answers.specs.declared.answer.RunAnswer.{RunAnswer}
 use Rattle.cli_answers.specs.declared.answer.Refusal.{Refusal}
 use Rattle.cli_answers.specs.Answers.{AnswerMeets, RefusalShows, IsShown, said_by}
 use Rattle.cli_answers.specs.Refusals.{board_answer, events_answer}
-use Rattle.cli_runs.specs.Course.{Course}
-use Rattle.cli_runs.specs.ShareCourse.{share_answer}
-use Rattle.cli_runs.specs.ServeCourse.{ServedRun}
-use Rattle.cli_runs.specs.DeskCourse.{DeskRun}
+use Rattle.run_laws.specs.Steps.{Steps}
+use Rattle.run_laws.specs.ShareSteps.{share_answer}
+use Rattle.run_laws.specs.ServeSteps.{ServedRun}
+use Rattle.run_laws.specs.DeskSteps.{DeskRun}
 
 -- the steps stopped before anything was written, unless memory was refused
-abbrev pub StopsSilently : {X : Type 0} → Course X → History → History → List ℕ → Refusal → Type 0
-StopsSilently course before after text refusal =
-    (text ≡ []) × AnswerMeets refusal (λ a. course before after (Err a))
+abbrev pub StopsSilently : {X : Type 0} → Steps X → History → History → List ℕ → Refusal → Type 0
+StopsSilently steps before after text refusal =
+    (text ≡ []) × AnswerMeets refusal (λ a. steps before after (Err a))
 
 -- The steps of `board` came to this, and this text was written meanwhile: how the board stands, or a refusal.
-abbrev pub ServesBy : Course ServedRun → History → History → List ℕ → Result Shared Refusal → Type 0
-ServesBy course before after text (Ok shared) =
-    (s : ServedRun) × course before after (Ok s) × (s.text ≡ text) × (s.end ≡ share_answer shared)
+abbrev pub ServesBy : Steps ServedRun → History → History → List ℕ → Result Shared Refusal → Type 0
+ServesBy steps before after text (Ok shared) =
+    (s : ServedRun) × steps before after (Ok s) × (s.text ≡ text) × (s.end ≡ share_answer shared)
     × (s.certificate ≡ option_map (λ t. t.items) shared.certificate)
-ServesBy course before after text (Err refusal) =
-    StopsSilently course before after text refusal
-    ⊎ ((s : ServedRun) × course before after (Ok s) × (s.text ≡ text) × (s.end ≡ said_by (Err refusal))
+ServesBy steps before after text (Err refusal) =
+    StopsSilently steps before after text refusal
+    ⊎ ((s : ServedRun) × steps before after (Ok s) × (s.text ≡ text) × (s.end ≡ said_by (Err refusal))
     × (s.certificate ≡ None))
 
 -- what is refused where a board stopped
@@ -37,11 +37,11 @@ IsStopRefusal (Events fault) refusal =
     RefusalShows (events_answer fault) refusal × (IsShown refusal → fault.kind ≢ text.Memory)
 
 -- the steps of `desk` came to this answer, and this text was written meanwhile
-abbrev pub DeskDone : Course DeskRun → History → History → List ℕ → Result RunAnswer Refusal → Type 0
-DeskDone course before after text result =
-    (s : DeskRun) × course before after (Ok s) × (s.text ≡ text) × (s.end ≡ said_by result)
+abbrev pub DeskDone : Steps DeskRun → History → History → List ℕ → Result RunAnswer Refusal → Type 0
+DeskDone steps before after text result =
+    (s : DeskRun) × steps before after (Ok s) × (s.text ≡ text) × (s.end ≡ said_by result)
 
-abbrev pub ProvesBy : Course DeskRun → History → History → List ℕ → Result RunAnswer Refusal → Type 0
-ProvesBy course before after text (Ok answer) = DeskDone course before after text (Ok answer)
-ProvesBy course before after text (Err refusal) =
-    StopsSilently course before after text refusal ⊎ DeskDone course before after text (Err refusal)
+abbrev pub ProvesBy : Steps DeskRun → History → History → List ℕ → Result RunAnswer Refusal → Type 0
+ProvesBy steps before after text (Ok answer) = DeskDone steps before after text (Ok answer)
+ProvesBy steps before after text (Err refusal) =
+    StopsSilently steps before after text refusal ⊎ DeskDone steps before after text (Err refusal)

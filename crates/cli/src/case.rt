@@ -9,7 +9,7 @@ ghost use Rattle.cli.specs.Delivery.{texts};
 ghost use Rattle.cli.specs.CaseRun.{stored_text, WordsOver, IsCaseAnswer, IsWholeSource, IsReadAnswer, DeliversCase};
 ghost use Rattle.cli_answers.specs.{Answer.Answered, Answers.answer_of};
 ghost use Rattle.written_output.specs.Writing.{kept_of};
-ghost use Rattle.cli_runs.specs.Spoken.{behind};
+ghost use Rattle.run_laws.specs.Spoken.{behind};
 
 use crate::command::{deliver, words_answer};
 use crate::ended_run::EndedRun;

@@ -5,23 +5,23 @@ ghost use Rattle.std.specs.Prelude.{◌≡◌, ◌++◌, ℕ, List, IfOk};
 ghost use Rattle.cli_file_stores.specs.Files.{NamedFile};
 ghost use Rattle.cli_answers.specs.{Answer.Answered, Answers.{answer_of, said_by}};
 ghost use Rattle.written_output.specs.Writing.{HasWritten, IsFresh};
-ghost use Rattle.cli_runs.specs.{Spoken.behind, Storing.HasStored};
-ghost use Rattle.cli_runs.specs.{Run.{CommandRun, IsEndAnswer, IsRunAnswer, HasState}, Headline.RunTells};
+ghost use Rattle.run_laws.specs.{Spoken.behind, Storing.HasStored};
+ghost use Rattle.run_laws.specs.{Run.{CommandRun, IsEndAnswer, IsRunAnswer, HasState}, Headline.RunTells};
 ghost use Rattle.cli.specs.{Delivery.{Delivers, texts}, Ends.said_of};
 
-use crate::audit::audit;
-use crate::board::board;
-use crate::check::check;
-use crate::desk::desk;
+use crate::commands::audit::audit;
+use crate::commands::board::board;
+use crate::commands::check::check;
+use crate::commands::desk::desk;
+use crate::commands::judge::judge;
+use crate::commands::list::list;
+use crate::commands::piece::piece;
+use crate::commands::share::share;
+use crate::commands::size::size;
+use crate::commands::solve::solve;
 use crate::ended_run::EndedRun;
-use crate::judge::judge;
-use crate::list::list;
 use crate::notes::Notes;
-use crate::piece::piece;
 use crate::recording::answer_as_asked;
-use crate::share::share;
-use crate::size::size;
-use crate::solve::solve;
 use branch_bound::{NoWatcher, Watcher};
 use cli_answers::{MEMORY, Refusal, RunAnswer, RunOutcome};
 use cli_file_stores::{FileStore, Sink};
@@ -209,7 +209,7 @@ pub fn run_with_notes<H: FileStore, W: Sink, V: Watcher>(
 ///
 /// If `solve` or `check` ends with status 0, the grouping that it printed is lawful for the problem of the files, and
 /// no lawful grouping has greater counts. The files are any bytes under the names by which this run's readings went as
-/// they did, so those of the machine are among them. `specs/Headline.antt` of `cli_runs` says what each command tells
+/// they did, so those of the machine are among them. `specs/Headline.antt` of `run_laws` says what each command tells
 /// with each status.
 ///
 /// The status is 0 for an answer, for help and for the version.

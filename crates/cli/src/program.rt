@@ -3,7 +3,7 @@
 ghost use Rattle.std.specs.Prelude.{◌≡◌, ◌≢◌, ◌⊎◌, ℕ, false, List, [], Option, Result};
 ghost use Rattle.cli_file_stores.specs.{Files.NamedFile, declared.whole_source.WholeFault.WholeFault};
 ghost use Rattle.cli_answers.specs.Answer.{Answered};
-ghost use Rattle.cli_runs.specs.{Storing.HasStored, Run.IsRunAnswer, Headline.RunTells};
+ghost use Rattle.run_laws.specs.{Storing.HasStored, Run.IsRunAnswer, Headline.RunTells};
 ghost use Rattle.cli.specs.{Delivery.{Delivers, texts}, CaseRun.{IsWholeSource, IsReadAnswer, DeliversCase}};
 
 use crate::case::run_case_with_notes;

@@ -5,9 +5,9 @@ ghost use Rattle.cli_file_stores.specs.{Files.NamedFile, History.History};
 ghost use Rattle.cli_record.specs.{RecordFiles.record_name_of, RunRecord.{IsRecord, sums_between}};
 ghost use Rattle.cli_answers.specs.{Answer.{Answered, memory_answer}, Answers.answer_of};
 ghost use Rattle.written_output.specs.Writing.{HasWritten, IsFresh, kept_of};
-ghost use Rattle.cli_runs.specs.{Spoken.behind, Storing.{HasStored, said_after, store_steps}};
-ghost use Rattle.cli_runs.specs.Run.{HasState, RunsAsAsked, RunsWithRecord};
-ghost use Rattle.cli_runs.specs.Recording.{RecordEnds, is_recorded as must_be_recorded};
+ghost use Rattle.run_laws.specs.{Spoken.behind, Storing.{HasStored, said_after, store_steps}};
+ghost use Rattle.run_laws.specs.Run.{HasState, RunsAsAsked, RunsWithRecord};
+ghost use Rattle.run_laws.specs.Recording.{RecordEnds, is_recorded as must_be_recorded};
 ghost use Rattle.cli.specs.{Delivery.texts, Ends.{refusal_by, said_of}};
 
 use crate::command::command_answer;

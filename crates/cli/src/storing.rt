@@ -3,13 +3,14 @@
 ghost use Rattle.std.specs.Prelude.{◌≡◌, List, [], ◌∷◌, Option, option_map};
 ghost use Rattle.cli_answers.specs.{Answer.Answered, Answers.{answer_of, said_by}};
 ghost use Rattle.cli_file_stores.specs.Files.{NamedFile};
-ghost use Rattle.cli_runs.specs.{Storing.{HasStored, named_file, said_after, store_steps}, Texts.reported_of};
+ghost use Rattle.run_laws.specs.Storing.{HasStored, named_file, said_after, store_steps};
+ghost use Rattle.cli_reports.specs.Texts.{reported_of};
 ghost use Rattle.cli.specs.Ends.{refusal_by};
 
 use crate::notes::Notes;
 use cli_answers::{FileOption, Refusal, RunAnswer, refuse_store};
 use cli_file_stores::FileStore;
-use cli_runs::Reported;
+use cli_reports::Reported;
 use std::alloc::Global;
 
 /// Stores `bytes` under `name`, and notes that the file of `option` was stored. Returns the refusal of the file store's
@@ -79,7 +80,8 @@ pub(crate) fn store_reported<H: FileStore>(
     ) {
         Ok(()) => Ok(reported.answer),
         Err(refusal) => {
-            notes.note_report(reported.answer.text);
+            let answer = reported.answer;
+            notes.note_report(answer.text);
             Err(refusal)
         }
     }

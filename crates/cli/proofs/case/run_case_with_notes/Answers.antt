@@ -19,8 +19,8 @@ returns-in-Ok-Some g c =
       (sound, c.in-Ok.ensures.whole, small),
       Some a,
       inr (subst (λ (t : List ℕ). IsCaseAnswer t (Some a)) c.deref.ensures.value answer),
-      subst (λ (t : List ℕ). Delivers (g.W.Sink.is_failed c.deliver.new.out) (g.W.Sink.contents c.args.out.now) (g.W.Sink.contents c.deliver.new.out) (record { text = t; status = c.in-Ok-Some.answer.status }) c.deliver.result)
-          c.deref-in-Ok-Some.ensures.value c.deliver.ensures,
+      subst (λ (t : List ℕ). Delivers (g.W.Sink.is_failed c.deliver-status.new.out) (g.W.Sink.contents c.args.out.now) (g.W.Sink.contents c.deliver-status.new.out) (record { text = t; status = c.in-Ok-Some.answer.status }) c.deliver-status.result)
+          c.deref-in-Ok-Some.ensures.value c.deliver-status.ensures,
     )
 
 pub returns-in-Ok-None : goal.returns-in-Ok-None
@@ -34,18 +34,18 @@ pub returns-in-Ok : goal.returns-in-Ok
 returns-in-Ok g c =
     let small : length c.in-Ok.text.items ≤ 16777216 = search rules in
     let sound : g.R.Source.is_failed c.read_whole.new.source ≡ false = false_from_ne_true _ (λ failed. let bad = c.in-Ok.ensures.failed.1 failed in cc) in
-    (Ok c.in-Ok.text.items, (sound, c.in-Ok.ensures.whole, small), Some memory_answer, inl refl, c.deliver-in-Err.ensures)
+    (Ok c.in-Ok.text.items, (sound, c.in-Ok.ensures.whole, small), Some memory_answer, inl refl, c.deliver-status-in-Err.ensures)
 
 pub returns-in-Err-TooLarge : goal.returns-in-Err-TooLarge
 returns-in-Err-TooLarge g c =
     let sound : g.R.Source.is_failed c.read_whole.new.source ≡ false = false_from_ne_true _ (λ failed. let bad = c.in-Err-TooLarge.ensures.failed.1 failed in let is = c.in-Err-TooLarge.field-0-is in cc) in
-    (Err TooLarge, (sound, c.in-Err-TooLarge.ensures.large (ap (λ (f : WholeFault). Err f) c.in-Err-TooLarge.field-0-is)), Some (record { text = codes "refused case TooLarge line 0\n"; status = 4 }), refl, c.deliver-in-Err-TooLarge.ensures)
+    (Err TooLarge, (sound, c.in-Err-TooLarge.ensures.large (ap (λ (f : WholeFault). Err f) c.in-Err-TooLarge.field-0-is)), Some (record { text = codes "refused case TooLarge line 0\n"; status = 4 }), refl, c.deliver-status-in-Err-TooLarge.ensures)
 
 pub returns-in-Err-Failed : goal.returns-in-Err-Failed
 returns-in-Err-Failed g c =
-    (Err Failed, c.in-Err-Failed.ensures.failed.0 (ap (λ (f : WholeFault). Err f) c.in-Err-Failed.field-0-is), Some (record { text = codes "device case Device\n"; status = 5 }), refl, c.deliver-in-Err-Failed.ensures)
+    (Err Failed, c.in-Err-Failed.ensures.failed.0 (ap (λ (f : WholeFault). Err f) c.in-Err-Failed.field-0-is), Some (record { text = codes "device case Device\n"; status = 5 }), refl, c.deliver-status-in-Err-Failed.ensures)
 
 pub returns : goal.returns
 returns g c =
     let sound : g.R.Source.is_failed c.read_whole.new.source ≡ false = false_from_ne_true _ (λ failed. let bad = c.in-Err-Memory.ensures.failed.1 failed in let is = c.in-Err-Memory.field-0-is in cc) in
-    (Err Memory, sound, Some memory_answer, refl, c.deliver-in-Err-Memory.ensures)
+    (Err Memory, sound, Some memory_answer, refl, c.deliver-status-in-Err-Memory.ensures)

@@ -1,8 +1,8 @@
 use Rattle.std.proofs.Common.{refl}
 use Rattle.cli_words.specs.declared.words.CommandWords.TheVariants.{Size, Judge, Solve, Check, Audit, List, Share, Piece, Board, Desk}
 use Rattle.cli_answers.specs.Answers.{said_by}
-use Rattle.cli_runs.specs.JudgeCourse.{size_course}
-use Rattle.cli_runs.specs.PieceCourse.{piece_course}
+use Rattle.run_laws.specs.JudgeSteps.{size_steps}
+use Rattle.run_laws.specs.PieceSteps.{piece_steps}
 use Rattle.cli.proofs.CommandLemmas.{quiet_end, silent_end, writing_end}
 use Rattle.cli.proofs.command.command_end.Goals as goal
 
@@ -23,7 +23,7 @@ returns-in-List g c = silent_end g.H.FileStore.contents g.H.FileStore.history g.
 
 pub returns-in-Size : goal.returns-in-Size
 returns-in-Size g c =
-    quiet_end g.H.FileStore.contents g.H.FileStore.history g.H.FileStore.stored g.W.Sink.contents g.W.Sink.is_failed c.args.file_store.now c.size.new.file_store c.args.out.now c.args.written.now c.args.command (Size c.in-Size.words) (size_course (g.H.FileStore.contents c.args.file_store.now) c.in-Size.words) c.size.result c.in-Size.is c.size.ensures.same c.size.ensures.kept (λ a h. (h, refl)) c.size.ensures.course
+    quiet_end g.H.FileStore.contents g.H.FileStore.history g.H.FileStore.stored g.W.Sink.contents g.W.Sink.is_failed c.args.file_store.now c.size.new.file_store c.args.out.now c.args.written.now c.args.command (Size c.in-Size.words) (size_steps (g.H.FileStore.contents c.args.file_store.now) c.in-Size.words) c.size.result c.in-Size.is c.size.ensures.same c.size.ensures.kept (λ a h. (h, refl)) c.size.ensures.steps
 
 pub returns-in-Share : goal.returns-in-Share
 returns-in-Share g c = silent_end g.H.FileStore.contents g.H.FileStore.history g.H.FileStore.stored g.W.Sink.contents g.W.Sink.is_failed c.args.file_store.now c.share.new.file_store c.args.out.now c.args.written.now c.args.command (Share c.in-Share.words) (said_by c.share.result) c.in-Share.is c.share.ensures
@@ -34,7 +34,7 @@ returns-in-Board g c =
 
 pub returns-in-Piece : goal.returns-in-Piece
 returns-in-Piece g c =
-    quiet_end g.H.FileStore.contents g.H.FileStore.history g.H.FileStore.stored g.W.Sink.contents g.W.Sink.is_failed c.args.file_store.now c.piece.new.file_store c.args.out.now c.args.written.now c.args.command (Piece c.in-Piece.words) (piece_course (g.H.FileStore.contents c.args.file_store.now) c.in-Piece.words) c.piece.result c.in-Piece.is c.piece.ensures.same c.piece.ensures.kept (λ a h. (h, refl)) c.piece.ensures.course
+    quiet_end g.H.FileStore.contents g.H.FileStore.history g.H.FileStore.stored g.W.Sink.contents g.W.Sink.is_failed c.args.file_store.now c.piece.new.file_store c.args.out.now c.args.written.now c.args.command (Piece c.in-Piece.words) (piece_steps (g.H.FileStore.contents c.args.file_store.now) c.in-Piece.words) c.piece.result c.in-Piece.is c.piece.ensures.same c.piece.ensures.kept (λ a h. (h, refl)) c.piece.ensures.steps
 
 pub returns-in-Desk : goal.returns-in-Desk
 returns-in-Desk g c =

@@ -1,5 +1,5 @@
-use Rattle.cli_runs.specs.Spoken.{behind}
-use Rattle.cli_runs.proofs.Telling.{run_tells}
+use Rattle.run_laws.specs.Spoken.{behind}
+use Rattle.run_laws.proofs.Telling.{run_tells}
 use Rattle.cli.specs.Delivery.{texts}
 use Rattle.cli.specs.Ends.{said_of}
 use Rattle.cli.proofs.WrittenLemmas.{fresh_of}

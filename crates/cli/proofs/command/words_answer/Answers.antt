@@ -1,6 +1,6 @@
 use Rattle.std.proofs.Common.{[], refl}
-use Rattle.cli_runs.specs.Spoken.{behind}
-use Rattle.cli_runs.proofs.StoreLemmas.{none_stored}
+use Rattle.run_laws.specs.Spoken.{behind}
+use Rattle.run_laws.proofs.StoreLemmas.{none_stored}
 use Rattle.written_output.proofs.Texts.{written_none}
 use Rattle.cli.specs.Delivery.{texts}
 use Rattle.cli.specs.Ends.{said_of}

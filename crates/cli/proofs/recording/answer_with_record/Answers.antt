@@ -2,8 +2,8 @@ use Rattle.std.proofs.Common.{◌++◌, [], sym, refl}
 use Rattle.std.proofs.lemmas.List.{append-nil}
 use Rattle.cli_answers.specs.Answer.{memory_answer}
 use Rattle.cli_answers.specs.Answers.{answer_of}
-use Rattle.cli_runs.specs.Spoken.{behind}
-use Rattle.cli_runs.proofs.StoreLemmas.{stored_after}
+use Rattle.run_laws.specs.Spoken.{behind}
+use Rattle.run_laws.proofs.StoreLemmas.{stored_after}
 use Rattle.cli.specs.Delivery.{texts}
 use Rattle.cli.specs.Ends.{said_of}
 use Rattle.cli.proofs.RecordLemmas.{ran_from, unanswered}

@@ -1,5 +1,5 @@
 use Rattle.std.proofs.Common.{[], inl, inr, refl}
-use Rattle.cli_runs.proofs.StoreLemmas.{none_stored}
+use Rattle.run_laws.proofs.StoreLemmas.{none_stored}
 use Rattle.cli.proofs.recording.store_composed.Goals as goal
 
 pub returns-in-Some : goal.returns-in-Some

@@ -1,5 +1,5 @@
 use Rattle.std.proofs.Common.{[], inl, refl, rules}
-use Rattle.cli_runs.proofs.StoreLemmas.{none_stored}
+use Rattle.run_laws.proofs.StoreLemmas.{none_stored}
 use Rattle.cli.proofs.recording.store_record.Goals as goal
 
 pub returns-else-is_recorded : goal.returns-else-is_recorded

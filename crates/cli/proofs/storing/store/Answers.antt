@@ -5,8 +5,8 @@ use Rattle.cli_answers.specs.declared.answer.Refusal.{Refusal}
 use Rattle.cli_answers.specs.declared.answer.Refusal.TheVariants.{Shown, Memory}
 use Rattle.cli_answers.specs.Answers.{RefusalShows}
 use Rattle.std.specs.Prelude.{Err}
-use Rattle.cli_runs.specs.Storing.{IsAnsweredBy}
-use Rattle.cli_runs.proofs.StoreLemmas.{none_stored}
+use Rattle.run_laws.specs.Storing.{IsAnsweredBy}
+use Rattle.run_laws.proofs.StoreLemmas.{none_stored}
 use Rattle.cli.specs.Ends.{refusal_by}
 use Rattle.cli.proofs.storing.store.Goals as goal
 

@@ -1,0 +1,100 @@
+-- What runs of `audit` and of `size` tell.
+use Rattle.std.proofs.Common.{◌≡◌, ◌≤◌, ℕ, List, [], ◌∷◌, Option, Some, None, inl, inr, ◌∙◌}
+use Rattle.std.specs.Prelude.{is_some}
+use Rattle.std.specs.Borrow.{Bor}
+use Rattle.county_problem.specs.ProblemValue.{ProblemValue}
+use Rattle.grouping_laws.specs.Grouping.{Grouping}
+use Rattle.grouping_report.specs.SizeTable.{size_text}
+use Rattle.pl94_counties.specs.declared.blocks.Block.{Block}
+use Rattle.baf_auditor.specs.declared.assignments.Assignment.{Assignment}
+use Rattle.baf_auditor.specs.declared.finding.Finding.{Finding}
+use Rattle.cli_words.specs.declared.words.CommonWords.{CommonWords}
+use Rattle.cli_words.specs.declared.words.AuditWords.{AuditWords}
+use Rattle.cli_words.specs.declared.words.CommandWords.TheVariants.{Size, Audit}
+use Rattle.cli_file_stores.specs.Files.{NamedFile, Files}
+use Rattle.cli_file_stores.specs.History.{History}
+use Rattle.cli_answers.specs.Answer.{Answered, success}
+use Rattle.cli_answers.specs.Refusals.{problem_answer}
+use Rattle.run_laws.specs.ProblemSteps.{IsBuilt}
+use Rattle.run_laws.specs.JudgeSteps.{size_steps, IsDistrictsTable, IsTableIfAsked, IsAudited, findings_answer, audit_steps}
+use Rattle.run_laws.specs.Storing.{IsStoredAs, named_file}
+use Rattle.run_laws.specs.Run.{CommandRun}
+use Rattle.run_laws.specs.Headline.{AuditTells, Tells}
+use Rattle.run_laws.proofs.Ending.{HasEnded, same_status, not_refused, not_out_of_memory, has_ended}
+use Rattle.run_laws.proofs.Refusing.{Refuses, bind_refuses, call_refuses, counties_refuse, problem_status, problem_refuses, grouping_refuses, blocks_refuse, assignments_refuse, value_refuses}
+use Rattle.run_laws.proofs.FilesRead.{went, stored_last}
+use Rattle.run_laws.proofs.FilesProblemLemmas.{counties_told, problem_told, grouping_told, blocks_told, assignments_told}
+
+module _ (files : Files) where
+  -- ---- audit
+  audit_refuses : (words : AuditWords) → Refuses (audit_steps (Some files) words)
+  audit_refuses words = bind_refuses _ _ (problem_refuses (Some files) words.problem) (λ v.
+      bind_refuses _ _ (blocks_refuse (Some files) words.problem.common) (λ blocks.
+      bind_refuses _ _ (grouping_refuses (Some files) words.grouping.now) (λ g.
+      bind_refuses _ _ (assignments_refuse (Some files) words.assignments.now) (λ lines. value_refuses (IsAudited (is_some words.districts) v g blocks lines)))))
+
+  -- the table of the districts is stored, if its file is named
+  districts_stored : (name : Option (Bor (List ℕ))) (v : ProblemValue) (g : Grouping) (blocks : List Block) (lines : List Assignment) (table : Option (List ℕ)) (stored : List NamedFile)
+      → IsTableIfAsked (is_some name) v g blocks lines table → stored ≡ named_file name table → IsStoredAs name (IsDistrictsTable v g blocks lines) stored
+  districts_stored None v g blocks lines table stored h all = tt
+  districts_stored (Some name) v g blocks lines table stored h all = stored_last name (IsDistrictsTable v g blocks lines) h.0 table [] stored h.2 h.1 all
+
+  ended_tells : (words : AuditWords) (before : History) (stored : List NamedFile) (a : Answered)
+      → HasEnded (audit_steps (Some files) words) (λ s. named_file words.districts s.districts) (λ s. s.answer) before stored a → AuditTells files words stored a
+  ended_tells words before stored a h =
+      let p = went _ _ before h.between h.s h.given in
+      let b = went _ _ p.between h.between h.s p.goes_on in
+      let g = went _ _ b.between h.between h.s b.goes_on in
+      let s = went _ _ g.between h.between h.s g.goes_on in
+      let audited : IsAudited (is_some words.districts) p.value g.value b.value s.value h.s = s.goes_on.1 in
+      record {
+        v = p.value;
+        problem = problem_told files words.problem before p.between p.value p.given;
+        grouping = g.value;
+        grouping_is = grouping_told files words.grouping.now b.between g.between g.value g.given;
+        blocks = b.value;
+        blocks_are = blocks_told files words.problem.common p.between b.between b.value b.given;
+        assignments = s.value;
+        assignments_are = assignments_told files words.assignments.now g.between s.between s.value s.given;
+        findings = audited.findings;
+        findings_are = audited.are;
+        answer = h.said ∙ audited.said;
+        table = districts_stored words.districts p.value g.value b.value s.value h.s.districts stored audited.districts h.all;
+      }
+
+  by_findings : (words : AuditWords) (stored : List NamedFile) (a : Answered) (findings : List Finding) → a ≡ findings_answer findings → AuditTells files words stored a → Tells files (Audit words) stored a
+  by_findings words stored a [] said told = inl (same_status a _ said, told)
+  by_findings words stored a (f ∷ fs) said told = inr (inl (same_status a _ said, told))
+
+  pub audit_tells : (words : AuditWords) (before after : History) (stored : List NamedFile) (a : Answered) → CommandRun (Some files) (Audit words) before after stored a → a.status ≤ 3
+      → Tells files (Audit words) stored a
+  audit_tells words before after stored a (inl none) low = absurd (not_out_of_memory a low none.0)
+  audit_tells words before after stored a (inr ends) low =
+      let told = ended_tells words before stored a
+      (has_ended (audit_steps (Some files) words) (λ s. named_file words.districts s.districts) (λ s. s.answer) before after stored a low (audit_refuses words) ends) in
+      by_findings words stored a told.findings told.answer told
+
+  -- ---- size
+  size_refuses : (words : CommonWords) → Refuses (size_steps (Some files) words)
+  size_refuses words = bind_refuses _ _ (counties_refuse (Some files) words) (λ counties.
+      bind_refuses _ _ (call_refuses problem_answer (IsBuilt counties [] [] words.chamber words.window) problem_status) (λ v. value_refuses (λ a. a ≡ success (size_text v))))
+
+  pub size_tells : (words : CommonWords) (before after : History) (stored : List NamedFile) (a : Answered) → CommandRun (Some files) (Size words) before after stored a → a.status ≤ 3
+      → Tells files (Size words) stored a
+  size_tells words before after stored a (inl none) low = absurd (not_out_of_memory a low none.0)
+  size_tells words before after stored a (inr (inr stop, none)) low = absurd (not_refused a low (size_refuses words before after a stop))
+  size_tells words before after stored a (inr (inl ended, none)) low =
+      let c = went _ _ before after a ended in
+      let b = went _ _ c.between after a c.goes_on in
+      let said : a ≡ success (size_text b.value) = b.goes_on.1 in
+      inl (
+        same_status a _ said,
+        record {
+          counties = c.value;
+          counties_are = counties_told files words before c.between c.value c.given;
+          v = b.value;
+          faultless = b.given.1.0;
+          problem = b.given.1.1;
+          answer = said;
+        },
+      )
