@@ -15,14 +15,8 @@ use Rattle.connected_sets.specs.declared.stop.Stop.TheVariants.{StepLimit}
 use Rattle.connected_sets.proofs.Failing.{refused_not_stopped, handed_on}
 use Rattle.connected_sets.proofs.growing.+grow.Goals as goal
 
-pub returns-in_err-is_passed_over-clause-steps : goal.returns-in_err-is_passed_over-clause-steps
-returns-in_err-is_passed_over-clause-steps g t c = stepped_none (problem_at c.args.input.now.graph.now.ordered.now) (length c.args.input.now.graph.now.ordered.now.order) c.args.input.now.limit (g.C.CountySet.test c.args.growth.set) (g.C.CountySet.test c.args.growth.free) c.args.steps.now.used c.args.steps.now.used refl
-
 pub returns-then-branch-clause-steps : goal.returns-then-branch-clause-steps
 returns-then-branch-clause-steps g t c = c.pass_over.ensures.steps
-
-pub returns-in_err-joined-in-Some-clause-steps : goal.returns-in_err-joined-in-Some-clause-steps
-returns-in_err-joined-in-Some-clause-steps g t c = stepped_none (problem_at c.args.input.now.graph.now.ordered.now) (length c.args.input.now.graph.now.ordered.now.order) c.args.input.now.limit (g.C.CountySet.test c.args.growth.set) (g.C.CountySet.test c.args.growth.free) c.args.steps.now.used c.args.steps.now.used refl
 
 pub returns-then-branch-clause-listed : goal.returns-then-branch-clause-listed
 returns-then-branch-clause-listed g t c =
@@ -31,20 +25,6 @@ returns-then-branch-clause-listed g t c =
     let n = length c.args.input.now.graph.now.ordered.now.order in
     on_ok c.pass_over.result c.pass_over.ensures.counted (λ one keep d.
     listed_none g.row.C.Denot test p n c.args.input.now.limit keep (test c.args.growth.set) (test c.args.growth.free) c.args.groups.now.items c.args.groups.now.items (c.in_ok-is_passed_over.ensures.passed c.if-branch.true keep d) refl)
-
-pub returns-in_err-grow-in-Some-clause-steps : goal.returns-in_err-grow-in-Some-clause-steps
-returns-in_err-grow-in-Some-clause-steps g t c =
-    let test = g.C.CountySet.test in
-    let p = problem_at c.args.input.now.graph.now.ordered.now in
-    let n = length c.args.input.now.graph.now.ordered.now.order in
-    let growth = c.args.growth in
-    let limit = c.args.input.now.limit in
-    let more = test c.in_ok-joined-in-Some.joined.set in
-    let less = test c.in_ok-joined-in-Some.joined.free in
-    let place = c.in-Some.place in
-    let free = c.in-Some.ensures.0.is_free in
-    let m = c.in_ok-joined-in-Some.ensures.moved in
-    stepped_taken p n limit (test growth.set) (test growth.free) more less place c.args.steps.now.used c.grow.new.steps.used free m c.grow.ensures.steps
 
 pub grow-requires : goal.grow-requires
 grow-requires g t c κs within =
@@ -135,42 +115,6 @@ returns-in_ok-grow-in-Some-clause-listed g t c =
     listed_fork g.row.C.Denot test p n limit keep (test growth.set) (test growth.free) more rest place old mid new c.requires.growth.growth free n2
     (subst (λ (z : ℕ → Bool). IsListed g.row.C.Denot test p n limit keep more z old mid) same (c.in_ok-grow-in-Some.ensures.listed keep d))
     (subst (λ (z : g.row.C.Denot). IsListed g.row.C.Denot test p n limit keep (test z) rest mid new) c.without_place-others.ensures.set (second keep d)))
-
-pub returns-in_err-is_passed_over-clause-listed : goal.returns-in_err-is_passed_over-clause-listed
-returns-in_err-is_passed_over-clause-listed g t c = IfOk-from_err c.from_residual.result _ c.from_residual.ensures.0
-
-pub returns-in_err-is_passed_over-clause-counted : goal.returns-in_err-is_passed_over-clause-counted
-returns-in_err-is_passed_over-clause-counted g t c = IfOk-from_err c.from_residual.result _ c.from_residual.ensures.0
-
-pub returns-in_err-is_passed_over-clause-limit : goal.returns-in_err-is_passed_over-clause-limit
-returns-in_err-is_passed_over-clause-limit g t c = refl
-
-pub returns-in_err-is_passed_over-clause-stopped : goal.returns-in_err-is_passed_over-clause-stopped
-returns-in_err-is_passed_over-clause-stopped g t c = refused_not_stopped c.from_residual.result c.from_residual.ensures.1
-
-pub returns-in_err-joined-in-Some-clause-listed : goal.returns-in_err-joined-in-Some-clause-listed
-returns-in_err-joined-in-Some-clause-listed g t c = IfOk-from_err c.from_residual-in_err-joined-in-Some.result _ c.from_residual-in_err-joined-in-Some.ensures.0
-
-pub returns-in_err-joined-in-Some-clause-counted : goal.returns-in_err-joined-in-Some-clause-counted
-returns-in_err-joined-in-Some-clause-counted g t c = IfOk-from_err c.from_residual-in_err-joined-in-Some.result _ c.from_residual-in_err-joined-in-Some.ensures.0
-
-pub returns-in_err-joined-in-Some-clause-limit : goal.returns-in_err-joined-in-Some-clause-limit
-returns-in_err-joined-in-Some-clause-limit g t c = refl
-
-pub returns-in_err-joined-in-Some-clause-stopped : goal.returns-in_err-joined-in-Some-clause-stopped
-returns-in_err-joined-in-Some-clause-stopped g t c = refused_not_stopped c.from_residual-in_err-joined-in-Some.result c.from_residual-in_err-joined-in-Some.ensures.1
-
-pub returns-in_err-grow-in-Some-clause-listed : goal.returns-in_err-grow-in-Some-clause-listed
-returns-in_err-grow-in-Some-clause-listed g t c = IfOk-from_err c.from_residual-in_err-grow-in-Some.result _ c.from_residual-in_err-grow-in-Some.ensures.0
-
-pub returns-in_err-grow-in-Some-clause-counted : goal.returns-in_err-grow-in-Some-clause-counted
-returns-in_err-grow-in-Some-clause-counted g t c = IfOk-from_err c.from_residual-in_err-grow-in-Some.result _ c.from_residual-in_err-grow-in-Some.ensures.0
-
-pub returns-in_err-grow-in-Some-clause-limit : goal.returns-in_err-grow-in-Some-clause-limit
-returns-in_err-grow-in-Some-clause-limit g t c = c.grow.ensures.limit
-
-pub returns-in_err-grow-in-Some-clause-stopped : goal.returns-in_err-grow-in-Some-clause-stopped
-returns-in_err-grow-in-Some-clause-stopped g t c = λ h. c.grow.ensures.stopped (c.in_err-grow-in-Some.was ∙ ap Err (handed_on c.from_residual-in_err-grow-in-Some.result c.in_err-grow-in-Some.field-0.0 StepLimit c.from_residual-in_err-grow-in-Some.ensures.1 h))
 
 pub returns-then-branch-clause-counted : goal.returns-then-branch-clause-counted
 returns-then-branch-clause-counted g t c = on_ok c.pass_over.result c.pass_over.ensures.counted (λ one. omega (arith, one))

@@ -89,40 +89,6 @@ loop-place-preserved g c =
       limit = c.search.ensures.limit ∙ inv.limit;
     }
 
-pub returns-in_err-search-clause-steps : goal.returns-in_err-search-clause-steps
-returns-in_err-search-clause-steps g c =
-    let test = g.C.CountySet.test in
-    let p = problem_at c.args.graph.now.ordered.now in
-    let n = length c.args.graph.now.ordered.now.order in
-    let s = state_of test c.args.state.now in
-    let i = c.args.size in
-    let inv = c.loop-place.invariant in
-    let region = test c.loop-place.region in
-    let at = c.in-Some.place in
-    let there = c.in-Some.ensures in
-    let free = others (test c.in_ok-left.left) at in
-    let free_is : (x : ℕ) → free x ≡ (region x && not (x == at)) = λ x. ap (λ z. z && not (x == at)) (c.in_ok-left.ensures.places x) in
-    steps_within p n s i (others region at) c.args.steps.now.used c.search.new.steps.used (steps_more p n s i at region free (others region at) c.args.steps.now.used c.loop-place.steps.used c.search.new.steps.used inv.left there free_is (λ x. refl) inv.stepped c.search.ensures.steps)
-
-pub returns-in_err-left-clause-steps : goal.returns-in_err-left-clause-steps
-returns-in_err-left-clause-steps g c =
-    let test = g.C.CountySet.test in
-    let p = problem_at c.args.graph.now.ordered.now in
-    let n = length c.args.graph.now.ordered.now.order in
-    steps_within p n (state_of test c.args.state.now) c.args.size (test c.loop-place.region) c.args.steps.now.used c.loop-place.steps.used c.loop-place.invariant.stepped
-
-pub returns-in_err-sorted-clause-steps : goal.returns-in_err-sorted-clause-steps
-returns-in_err-sorted-clause-steps g c =
-    let test = g.C.CountySet.test in
-    let p = problem_at c.args.graph.now.ordered.now in
-    let n = length c.args.graph.now.ordered.now.order in
-    steps_within p n (state_of test c.args.state.now) c.args.size (test c.loop-place.region) c.args.steps.now.used c.loop-place.steps.used c.loop-place.invariant.stepped
-
-pub returns-in_err-region-clause-steps : goal.returns-in_err-region-clause-steps
-returns-in_err-region-clause-steps g c =
-    let test = g.C.CountySet.test in
-    no_steps (IsSetWithin (problem_at c.args.graph.now.ordered.now) (places_below (length c.args.graph.now.ordered.now.order)) (state_of test c.args.state.now) c.args.size) c.args.steps.now.used c.args.steps.now.used refl
-
 pub returns-clause-steps : goal.returns-clause-steps
 returns-clause-steps g c =
     let test = g.C.CountySet.test in
@@ -158,66 +124,6 @@ pub returns-clause-counted : goal.returns-clause-counted
 returns-clause-counted g c =
     let same = length_permutation c.loop-place.sets.items c.in_ok-sorted.field-0.items c.in_ok-sorted.ensures.same in
     omega (arith, c.loop-place.invariant.counted, same)
-
-pub returns-in_err-region-clause-groups : goal.returns-in_err-region-clause-groups
-returns-in_err-region-clause-groups g c = IfOk-from_err c.from_residual.result _ c.from_residual.ensures.0
-
-pub returns-in_err-region-clause-below : goal.returns-in_err-region-clause-below
-returns-in_err-region-clause-below g c = IfOk-from_err c.from_residual.result _ c.from_residual.ensures.0
-
-pub returns-in_err-region-clause-counted : goal.returns-in_err-region-clause-counted
-returns-in_err-region-clause-counted g c = IfOk-from_err c.from_residual.result _ c.from_residual.ensures.0
-
-pub returns-in_err-region-clause-limit : goal.returns-in_err-region-clause-limit
-returns-in_err-region-clause-limit g c = refl
-
-pub returns-in_err-region-clause-stopped : goal.returns-in_err-region-clause-stopped
-returns-in_err-region-clause-stopped g c = refused_not_stopped c.from_residual.result c.from_residual.ensures.1
-
-pub returns-in_err-left-clause-groups : goal.returns-in_err-left-clause-groups
-returns-in_err-left-clause-groups g c = IfOk-from_err c.from_residual-in_err-left.result _ c.from_residual-in_err-left.ensures.0
-
-pub returns-in_err-left-clause-below : goal.returns-in_err-left-clause-below
-returns-in_err-left-clause-below g c = IfOk-from_err c.from_residual-in_err-left.result _ c.from_residual-in_err-left.ensures.0
-
-pub returns-in_err-left-clause-counted : goal.returns-in_err-left-clause-counted
-returns-in_err-left-clause-counted g c = IfOk-from_err c.from_residual-in_err-left.result _ c.from_residual-in_err-left.ensures.0
-
-pub returns-in_err-left-clause-limit : goal.returns-in_err-left-clause-limit
-returns-in_err-left-clause-limit g c = c.loop-place.invariant.limit
-
-pub returns-in_err-left-clause-stopped : goal.returns-in_err-left-clause-stopped
-returns-in_err-left-clause-stopped g c = refused_not_stopped c.from_residual-in_err-left.result c.from_residual-in_err-left.ensures.1
-
-pub returns-in_err-search-clause-groups : goal.returns-in_err-search-clause-groups
-returns-in_err-search-clause-groups g c = IfOk-from_err c.from_residual-in_err-search.result _ c.from_residual-in_err-search.ensures.0
-
-pub returns-in_err-search-clause-below : goal.returns-in_err-search-clause-below
-returns-in_err-search-clause-below g c = IfOk-from_err c.from_residual-in_err-search.result _ c.from_residual-in_err-search.ensures.0
-
-pub returns-in_err-search-clause-counted : goal.returns-in_err-search-clause-counted
-returns-in_err-search-clause-counted g c = IfOk-from_err c.from_residual-in_err-search.result _ c.from_residual-in_err-search.ensures.0
-
-pub returns-in_err-search-clause-limit : goal.returns-in_err-search-clause-limit
-returns-in_err-search-clause-limit g c = c.search.ensures.limit ∙ c.loop-place.invariant.limit
-
-pub returns-in_err-search-clause-stopped : goal.returns-in_err-search-clause-stopped
-returns-in_err-search-clause-stopped g c = λ h. c.search.ensures.stopped (c.in_err-search.was ∙ ap Err (handed_on c.from_residual-in_err-search.result c.in_err-search.field-0.0 StepLimit c.from_residual-in_err-search.ensures.1 h))
-
-pub returns-in_err-sorted-clause-groups : goal.returns-in_err-sorted-clause-groups
-returns-in_err-sorted-clause-groups g c = IfOk-from_err c.from_residual-in_err-sorted.result _ c.from_residual-in_err-sorted.ensures.0
-
-pub returns-in_err-sorted-clause-below : goal.returns-in_err-sorted-clause-below
-returns-in_err-sorted-clause-below g c = IfOk-from_err c.from_residual-in_err-sorted.result _ c.from_residual-in_err-sorted.ensures.0
-
-pub returns-in_err-sorted-clause-counted : goal.returns-in_err-sorted-clause-counted
-returns-in_err-sorted-clause-counted g c = IfOk-from_err c.from_residual-in_err-sorted.result _ c.from_residual-in_err-sorted.ensures.0
-
-pub returns-in_err-sorted-clause-limit : goal.returns-in_err-sorted-clause-limit
-returns-in_err-sorted-clause-limit g c = c.loop-place.invariant.limit
-
-pub returns-in_err-sorted-clause-stopped : goal.returns-in_err-sorted-clause-stopped
-returns-in_err-sorted-clause-stopped g c = refused_not_stopped c.from_residual-in_err-sorted.result c.from_residual-in_err-sorted.ensures.1
 
 pub returns-clause-limit : goal.returns-clause-limit
 returns-clause-limit g c = c.loop-place.invariant.limit

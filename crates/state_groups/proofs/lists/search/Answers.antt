@@ -68,22 +68,6 @@ returns-clause-limit g c = c.grow.ensures.limit
 pub returns-clause-stopped : goal.returns-clause-stopped
 returns-clause-stopped g c = c.grow.ensures.stopped
 
-pub returns-in_err-growth-clause-listed : goal.returns-in_err-growth-clause-listed
-returns-in_err-growth-clause-listed g c = IfOk-from_err c.from_residual.result _ c.from_residual.ensures.0
-
-pub returns-in_err-growth-clause-counted : goal.returns-in_err-growth-clause-counted
-returns-in_err-growth-clause-counted g c = IfOk-from_err c.from_residual.result _ c.from_residual.ensures.0
-
-pub returns-in_err-growth-clause-limit : goal.returns-in_err-growth-clause-limit
-returns-in_err-growth-clause-limit g c = refl
-
-pub returns-in_err-growth-clause-stopped : goal.returns-in_err-growth-clause-stopped
-returns-in_err-growth-clause-stopped g c = refused_not_stopped c.from_residual.result c.from_residual.ensures.1
-
-pub returns-in_err-growth-clause-steps : goal.returns-in_err-growth-clause-steps
-returns-in_err-growth-clause-steps g c =
-    stepped_none (problem_at c.args.graph.now.ordered.now) (length c.args.graph.now.ordered.now.order) c.args.limit (only c.args.place) (others (g.C.CountySet.test c.args.region) c.args.place) c.args.steps.now.used c.args.steps.now.used refl
-
 pub grow-requires-clause-knows : goal.grow-requires-clause-knows
 grow-requires-clause-knows g c =
     let test = g.C.CountySet.test in

@@ -50,9 +50,6 @@ returns g c =
 pub parts_of-requires-clause-below : goal.parts_of-requires-clause-below
 parts_of-requires-clause-below g c = c.requires.below
 
-pub returns-in_err-parts : goal.returns-in_err-parts
-returns-in_err-parts g c = IfOk-from_err c.from_residual.result _ c.from_residual.ensures.0
-
 pub seat_sums-requires-clause-few : goal.seat_sums-requires-clause-few
 seat_sums-requires-clause-few g c = omega (arith, c.requires.few, ap length c.deref.ensures.value)
 

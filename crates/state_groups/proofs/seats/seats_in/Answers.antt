@@ -15,20 +15,6 @@ people_in-people-requires g c = record { below = c.requires }
 pub seats_range-requires : goal.seats_range-requires
 seats_range-requires g c = omega (arith, c.people_in-people.ensures.bound, ap (λ (v : ProblemValue). v.total_people) c.problem.ensures.value)
 
-pub returns-in_err-low-clause-run : goal.returns-in_err-low-clause-run
-returns-in_err-low-clause-run g c =
-    let p = problem_at c.args.ordered.now in
-    let people = c.people_in-people.result in
-    let problem = c.places-places.ensures.problem in
-    let law : IsRun (Suits p people) c.seats_range.result =
-    subst (IsRun (Suits p people)) (sym (c.seats_range.ensures.value ∙ ap (λ (v : ProblemValue). seat_run (problem_of v) people) c.problem.ensures.value)) (window_law p problem.tolerated problem.some_people people) in
-    let sum = people_of p (places_of (length c.args.ordered.now.order) (g.C.CountySet.test c.args.set.now)) in
-    let run : IsRun (Suits p sum) c.seats_range.result = subst (λ z. IsRun (Suits p z) c.seats_range.result) c.people_in-people.ensures.value law in
-    subst (IsRun (Suits p sum)) (c.in_err-low.was ∙ sym c.from_residual.ensures) run
-
-pub returns-in_err-low-clause-small : goal.returns-in_err-low-clause-small
-returns-in_err-low-clause-small g c = subst (λ (z : Option (ℕ × ℕ)). IfSome z (λ r. (r.0 < 65536) × (r.1 < 65536))) (sym c.from_residual.ensures) tt
-
 pub returns-clause-run : goal.returns-clause-run
 returns-clause-run g c =
     let p = problem_at c.args.ordered.now in
