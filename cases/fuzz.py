@@ -1383,7 +1383,7 @@ def tests_of_districts() -> Tests:
     yield "no district of a county in no set", of(bare, fewer), None
     exact = audited_run("--withdrawn", "w", "--part", "0")
     narrow = DISTRICTS_TABLE.replace(b"95,105", b"100,100")
-    yield "another allowance", of(exact, narrow), None
+    yield "another tolerance", of(exact, narrow), None
     missing = "stored: d isn't there"
     yield "no districts", wrong_files(bare, Made(FINDINGS, 1, b"", {})), missing
     made = Made(b"findings 0\n", 0, b"", {})

@@ -195,7 +195,7 @@ class Problem(NamedTuple):
     pairs: Set[Pair]  # the adjacent counties
     chamber: int  # the seats of the chamber
     seats_left: int  # the seats that the withdrawn sets leave
-    window: Tuple[int, int]  # the allowance, a fraction
+    window: Tuple[int, int]  # the tolerance, a fraction
 
 
 def build_problem(
@@ -437,12 +437,12 @@ class Round:
 
         The numbers of people go from the fewest to the most. Returns None if there is no such
         number of seats. People suit k seats if they miss k ideal districts by no more than the
-        allowance. The ideal district has total / chamber people.
+        tolerance. The ideal district has total / chamber people.
         """
-        part, whole = self.problem.window
+        numerator, denominator = self.problem.window
         chamber, total = self.problem.chamber, self.problem.total
-        least = max(1, -(-whole * chamber * fewest // ((whole + part) * total)))
-        greatest = whole * chamber * most // ((whole - part) * total)
+        least = max(1, -(-denominator * chamber * fewest // ((denominator + numerator) * total)))
+        greatest = denominator * chamber * most // ((denominator - numerator) * total)
         return (least, greatest) if least <= greatest else None
 
     def seats_of(self, counties: int) -> Optional[Tuple[int, int]]:

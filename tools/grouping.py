@@ -16,7 +16,7 @@ code of one to three digits. With --geo GEO, the geographic header, it may be a 
 `Wake County`. A county without a group is left out, as one of a withdrawn set has to be.
 
 If FILE has no seats, they are chosen by the people of the groups. Then --segment SEGMENT is segment
-1, and --chamber SEATS the number of seats. --part PART and --of OF are the allowance, 1/20 if
+1, and --chamber SEATS the number of seats. --part PART and --of OF are the tolerance, 1/20 if
 neither is given. If no number suits the people of a group, the nearest is written, and standard
 error says so. `judge` says what is wrong with the grouping.
 
@@ -329,7 +329,7 @@ def main(words: List[str]) -> int:
     made = parser()
     asked = made.parse_args(words)
     if 2 * asked.part > asked.of:
-        made.error("the allowance --part/--of may be a half at most")
+        made.error("the tolerance --part/--of may be a half at most")
     try:
         text, notes = made_groups(asked)
         put(asked.out, text)

@@ -131,9 +131,9 @@ def check_record(
         raise Refused(f"{of_run} for the chamber of {listing.chamber} seats.")
     if not same_number(options["--state"], int(groups[0].counties[0].geoid[:2])):
         raise Refused(f"{of_run} for the state of the table {table}.")
-    if allowance(options["--part"], options["--of"]) != Fraction(*listing.window):
+    if tolerance(options["--part"], options["--of"]) != Fraction(*listing.window):
         window = "/".join(map(str, listing.window))
-        raise Refused(f"{of_run} for the allowance of the list, {window}.")
+        raise Refused(f"{of_run} for the tolerance of the list, {window}.")
     has_sets = any(group.is_withdrawn for group in groups)
     if has_sets and all(line.option != "withdrawn" for line in record.read):
         none = f"the run of the record {path} read none"
@@ -146,8 +146,8 @@ def same_number(word: str | None, number: int) -> bool:
     return word is not None and re.fullmatch("[0-9]+", word) is not None and int(word) == number
 
 
-def allowance(part: str, whole: str) -> Fraction | None:
-    """Returns the allowance of a run, or None if its words are no numbers."""
+def tolerance(part: str, whole: str) -> Fraction | None:
+    """Returns the tolerance of a run, or None if its words are no numbers."""
     is_one = all(re.fullmatch("[0-9]+", word) for word in (part, whole)) and int(whole) > 0
     return Fraction(int(part), int(whole)) if is_one else None
 

@@ -9,11 +9,11 @@ from typing import List, Sequence
 
 @dataclass(frozen=True)
 class Chamber:
-    """A chamber: its seats, the people of the state, and the allowance as a fraction to a half."""
+    """A chamber: its seats, the people of the state, and the tolerance as a fraction to a half."""
 
     seats: int
     people: int
-    allowance: Fraction
+    tolerance: Fraction
 
     @property
     def ideal(self) -> Fraction:
@@ -22,8 +22,8 @@ class Chamber:
 
     def suited(self, people: int) -> range:
         """Returns the numbers of seats that `people` suit. There may be none."""
-        least = math.ceil(people / (self.ideal * (1 + self.allowance)))
-        most = math.floor(people / (self.ideal * (1 - self.allowance)))
+        least = math.ceil(people / (self.ideal * (1 + self.tolerance)))
+        most = math.floor(people / (self.ideal * (1 - self.tolerance)))
         return range(max(1, least), most + 1)
 
     def nearest(self, people: int) -> int:

@@ -120,7 +120,7 @@ class Refusals(PageRoom):
         self.refuses(
             f"{begin}for the state of the table table.csv.", record=record_of(6, "--state", "29")
         )
-        of_list = f"{begin}for the allowance of the list, 1/20."
+        of_list = f"{begin}for the tolerance of the list, 1/20."
         self.refuses(of_list, record=record_of(6, "--of", "21"))
         self.refuses(of_list, record=record_of(6, "--part", "x", "--of", "0"))
 

@@ -5,7 +5,7 @@ import { choicesOf, groupsOf, movedCounties, optionsWith, seatsOfArea } from "./
 import { chamberWords } from "./desk.mjs";
 import { deviationOf, peopleOf, peopleWindow } from "./geography.mjs";
 import {
-  allowanceWords, differenceItems, groupName, namesOf, optionWords, windowWords,
+  toleranceWords, differenceItems, groupName, namesOf, optionWords, windowWords,
 } from "./group_words.mjs";
 import { mapSvg } from "./map_svg.mjs";
 import { boxOfCounties } from "./sheet.mjs";
@@ -47,7 +47,7 @@ export function deckHtml(desk, answer) {
     : "By the rule of <i>Stephenson v. Bartlett</i>, whole counties are joined into groups before "
       + "districts are drawn. ";
   const rule = "Each group needs enough people for a whole number of districts, within "
-    + `${allowanceWords(answer.allowance)} of the ideal. As many groups as possible have one `
+    + `${toleranceWords(answer.tolerance)} of the ideal. As many groups as possible have one `
     + "county, then as many as possible two, and so on. ";
   const source = isCarolina ? "By the 2020 census" : "By the files of this page";
   const taken = answer.taken.length
@@ -163,11 +163,11 @@ export function keyHtml(answer, groups) {
  * @param {Geography} geography
  * @param {Group} group
  * @param {Group[]} groups
- * @param {{seats: number, allowance: [number, number]}} chamber
+ * @param {{seats: number, tolerance: [number, number]}} chamber
  */
 function gaugeSvg(geography, group, groups, chamber) {
-  const [least, most] = peopleWindow(geography.total, chamber.seats, 1, chamber.allowance);
-  const share = chamber.allowance[0] / chamber.allowance[1] || 0.0001;
+  const [least, most] = peopleWindow(geography.total, chamber.seats, 1, chamber.tolerance);
+  const share = chamber.tolerance[0] / chamber.tolerance[1] || 0.0001;
   const xOf = (/** @type {Group} */ one) => (
     (20 + ((deviationOf(geography, one, chamber.seats) + share) / (2 * share)) * 210).toFixed(1));
   const ticks = groups.map((one) => (
@@ -317,7 +317,7 @@ function cardBox(geography, counties) {
  */
 function rangeSvg(geography, answer, groups) {
   const offs = groups.map((group) => deviationOf(geography, group, answer.seats));
-  const share = answer.allowance[0] / answer.allowance[1] || 0.0001;
+  const share = answer.tolerance[0] / answer.tolerance[1] || 0.0001;
   const percent = Number((share * 100).toFixed(2));
   const label = `People per seat: ${offs.map(signedPercent).join(", ")} percent from the ideal`;
   const dots = offs.map((off) => (
@@ -346,7 +346,7 @@ const COLUMNS = [
  * @param {boolean} isUp
  */
 export function groupTableHtml(geography, answer, groups, sortKey, isUp) {
-  const share = answer.allowance[0] / answer.allowance[1] || 0.0001;
+  const share = answer.tolerance[0] / answer.tolerance[1] || 0.0001;
   const percent = Number((share * 100).toFixed(2));
   const order = groups.map((_, at) => at);
   const west = (/** @type {Group} */ group) => (
@@ -382,7 +382,7 @@ export function groupTableHtml(geography, answer, groups, sortKey, isUp) {
 /**
  * Returns a line with the place of a deviation on it.
  * @param {number} deviation
- * @param {number} share  the allowance
+ * @param {number} share  the tolerance
  * @param {boolean} isMarked
  */
 export function stripSvg(deviation, share, isMarked) {

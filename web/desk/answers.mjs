@@ -22,7 +22,7 @@ import { chamberName } from "./state_names.mjs";
  * order of `list --number`, or null if they are too many; `enacted` is the number of the option
  * that the enacted plan uses, or 0.
  * @typedef {{key: string, name: string, seats: number, seatsLeft: number, counts: number[],
- *   allowance: [number, number], number: number, groups: KnownGroup[], shared: number[],
+ *   tolerance: [number, number], number: number, groups: KnownGroup[], shared: number[],
  *   areas: Area[], options: number[][] | null, isEvery: boolean, first: number[],
  *   enacted: number, ofTable: number, taken: TakenSet[]}} Answer
  */
@@ -59,7 +59,7 @@ export function answerOf(geography, texts) {
   const answer = {
     key: texts.key, name: texts.name || chamberName(geography.code, listing.chamber),
     seats: listing.chamber, seatsLeft: listing.seatsLeft,
-    counts: listing.counts, allowance: listing.window, number: listing.number, groups,
+    counts: listing.counts, tolerance: listing.window, number: listing.number, groups,
     shared: idsOf(listing.shared), areas, options: [], isEvery: !listing.combinations,
     first: areas.map(() => 0), enacted: 0, ofTable: 0,
     taken: takenSets(geography, texts.table ?? ""),

@@ -134,11 +134,11 @@ export function setKey(counties) {
  * @param {number} total  the people of the state
  * @param {number} chamber  the seats of the chamber
  * @param {number} seats
- * @param {[number, number]} allowance  part and whole, such as 1 and 20
+ * @param {[number, number]} tolerance  numerator and denominator, such as 1 and 20
  */
-export function peopleWindow(total, chamber, seats, [part, whole]) {
-  const least = Math.ceil((total * seats * (whole - part)) / (whole * chamber));
-  const most = Math.floor((total * seats * (whole + part)) / (whole * chamber));
+export function peopleWindow(total, chamber, seats, [numerator, denominator]) {
+  const least = Math.ceil((total * seats * (denominator - numerator)) / (denominator * chamber));
+  const most = Math.floor((total * seats * (denominator + numerator)) / (denominator * chamber));
   return [least, most];
 }
 

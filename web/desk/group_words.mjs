@@ -51,23 +51,23 @@ export function groupSentence(geography, group, chamber) {
  * Returns how many people suit the seats of a group, or nothing for one seat.
  * @param {Geography} geography
  * @param {Group} group
- * @param {{seats: number, allowance: [number, number]}} chamber
+ * @param {{seats: number, tolerance: [number, number]}} chamber
  */
 export function windowWords(geography, group, chamber) {
   if (group.seats === 1) return "";
   const [least, most] = peopleWindow(
-    geography.total, chamber.seats, group.seats, chamber.allowance);
+    geography.total, chamber.seats, group.seats, chamber.tolerance);
   return `${group.seats} seats allow ${numberText(least)} to ${numberText(most)} people.`;
 }
 
 /**
- * Returns the allowance in percent, such as "5 percent".
- * @param {[number, number]} allowance
+ * Returns the tolerance in percent, such as "5 percent".
+ * @param {[number, number]} tolerance
  */
-export function allowanceWords([part, whole]) {
-  const percent = Number(((100 * part) / whole).toFixed(2));
-  const isExact = (percent * whole) / 100 === part;
-  return isExact ? `${percent} percent` : `${part}/${whole} of it`;
+export function toleranceWords([numerator, denominator]) {
+  const percent = Number(((100 * numerator) / denominator).toFixed(2));
+  const isExact = (percent * denominator) / 100 === numerator;
+  return isExact ? `${percent} percent` : `${numerator}/${denominator} of it`;
 }
 
 /**

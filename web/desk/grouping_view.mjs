@@ -83,7 +83,7 @@ function faultOf(desk, answer, given, output) {
   let told = output.trim();
   if (kind === "OutOfWindow" && group) {
     const [least, most] = peopleWindow(
-      geography.total, answer.seats, group.seats, answer.allowance);
+      geography.total, answer.seats, group.seats, answer.tolerance);
     const people = peopleOf(geography, group.counties);
     told = `${groupName(geography, { counties: byPeople(geography, group.counties) })}: `
       + `${numberText(people)} people are too ${people < least ? "few" : "many"} for `

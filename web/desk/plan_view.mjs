@@ -29,7 +29,7 @@ import {
 /**
  * A grouping that a plan can be compared with.
  * @typedef {{key: string, words: string, text: string, seats: number, geography: Geography,
- *   allowance: [number, number]}} Choice
+ *   tolerance: [number, number]}} Choice
  */
 
 const MANY_DISTRICTS = 1000;
@@ -49,24 +49,24 @@ function choicesFor(desk, state) {
     const option = shownOption(state, answer.key);
     const text = groupingText(geography, groupsOf(answer, choicesOf(answer, option)));
     const words = `${answer.name}, option ${option}`;
-    const { seats, allowance } = answer;
-    return { key: answer.key, words, text, seats, geography, allowance };
+    const { seats, tolerance } = answer;
+    return { key: answer.key, words, text, seats, geography, tolerance };
   });
   for (const answer of desk.answers) {
     const text = givenGroupingText(desk, answer.seats);
-    const { seats, allowance } = answer;
+    const { seats, tolerance } = answer;
     const words = `Your grouping above, of ${seats} seats`;
     const total = text ? readGrouping(text).reduce((sum, one) => sum + one.seats, 0) : 0;
     const key = `own-${seats}`;
-    if (text && total === seats) choices.push({ key, words, text, seats, geography, allowance });
+    if (text && total === seats) choices.push({ key, words, text, seats, geography, tolerance });
   }
   const solved = lastSolved();
   if (solved) {
     const { answer } = solved;
     const text = groupingText(solved.geography, groupsOf(answer, answer.first));
     const words = `${solved.geography.name}, solved above`;
-    const { seats, allowance } = answer;
-    choices.push({ key: "solved", words, text, seats, geography: solved.geography, allowance });
+    const { seats, tolerance } = answer;
+    choices.push({ key: "solved", words, text, seats, geography: solved.geography, tolerance });
   }
   return choices;
 }
@@ -192,8 +192,10 @@ async function runAudit(census, choice, plan, step) {
   const words = ["audit", ...PROBLEM_FILES, "--chamber", String(choice.seats), "--state",
     String(Number(choice.geography.code)), "--grouping", "grouping", "--assignments", "plan",
     "--districts", "districts"];
-  const [part, whole] = choice.allowance;
-  if (part !== 1 || whole !== 20) words.push("--part", String(part), "--of", String(whole));
+  const [numerator, denominator] = choice.tolerance;
+  if (numerator !== 1 || denominator !== 20) {
+    words.push("--part", String(numerator), "--of", String(denominator));
+  }
   const { result, stop } = await startProgram(words, files, (line) => step.tell(line));
   const button = find("#stop-audit");
   button.hidden = false;
@@ -281,9 +283,10 @@ function districtTable(choice, against, districts) {
  * @param {Against} against
  * @param {District} district
  */
-function districtRow({ geography, seats, allowance: [part, whole] }, against, district) {
+function districtRow({ geography, seats, tolerance: [numerator, denominator] }, against, district) {
   const { label, people } = district;
   const off = (people * seats) / geography.total - 1;
+  const share = numerator / denominator || 0.0001;
   const faults = districtFaults(district);
   const names = setsOfDistrict(against, district).join("; ");
   const counties = groupName(geography, { counties: placesOf(geography, district.counties) });
@@ -291,7 +294,7 @@ function districtRow({ geography, seats, allowance: [part, whole] }, against, di
     + `<td>${escapeHtml(names)}</td>`
     + `<td class="number people">${numberText(people)}</td>`
     + `<td class="number deviation">${signedPercent(off)}</td>`
-    + `<td class="strip-cell">${stripSvg(off, part / whole || 0.0001, faults.length > 0)}</td>`
+    + `<td class="strip-cell">${stripSvg(off, share, faults.length > 0)}</td>`
     + `<td class="counties">${escapeHtml(counties)}</td>`
     + `<td class="fault">${escapeHtml(faults.join(", "))}</td></tr>`;
 }

@@ -6,14 +6,16 @@ import { PROBLEM_FILES, carriedFiles } from "./program.mjs";
 /** @typedef {import("./answers.mjs").Answer} Answer */
 
 /**
- * Returns the words of a problem without links and withdrawn sets: its files, seats, allowance.
+ * Returns the words of a problem without links and withdrawn sets: its files, seats, tolerance.
  * @param {Desk} desk
  * @param {Answer} answer
  */
-export function plainWords(desk, { seats, allowance: [part, whole] }) {
+export function plainWords(desk, { seats, tolerance: [numerator, denominator] }) {
   const words = [...PROBLEM_FILES, "--chamber", String(seats)];
   words.push("--state", String(Number(desk.geography.code)));
-  if (part !== 1 || whole !== 20) words.push("--part", String(part), "--of", String(whole));
+  if (numerator !== 1 || denominator !== 20) {
+    words.push("--part", String(numerator), "--of", String(denominator));
+  }
   return words;
 }
 

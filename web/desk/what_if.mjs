@@ -1,4 +1,4 @@
-// A what-if: counties taken out, borders counted or not, another allowance. What the program is
+// A what-if: counties taken out, borders counted or not, another tolerance. What the program is
 // asked, what the address says of it, and how its answer differs from the base answer.
 
 import { answerOf, groupsOf } from "./answers.mjs";
@@ -31,10 +31,10 @@ import { plainWords } from "./problem.mjs";
  * @param {Answer} answer
  * @returns {WhatIf}
  */
-export function nothingChanged({ taken, allowance: [part, whole] }) {
+export function nothingChanged({ taken, tolerance: [numerator, denominator] }) {
   const sets = taken.map(({ counties, seats }) => (
     { counties: [...counties], seats, isOwn: true }));
-  return { sets, added: new Set(), cut: new Set(), percent: (100 * part) / whole };
+  return { sets, added: new Set(), cut: new Set(), percent: (100 * numerator) / denominator };
 }
 
 /**
@@ -57,7 +57,7 @@ export function likelySeats(geography, counties, chamber) {
 }
 
 /**
- * Returns a percentage as a fraction, part and whole.
+ * Returns a percentage as a fraction, numerator and denominator.
  * @param {number} percent
  * @returns {[number, number]}
  */
@@ -86,9 +86,9 @@ export function linksText({ added, cut }) {
  * @param {Files} files
  */
 async function problemOf(desk, base, whatIf, files) {
-  const usual = (100 * base.allowance[0]) / base.allowance[1];
-  const allowance = whatIf.percent === usual ? base.allowance : fractionOf(whatIf.percent);
-  const words = plainWords(desk, { ...base, allowance });
+  const usual = (100 * base.tolerance[0]) / base.tolerance[1];
+  const tolerance = whatIf.percent === usual ? base.tolerance : fractionOf(whatIf.percent);
+  const words = plainWords(desk, { ...base, tolerance });
   const links = (await files.get("links")?.text() ?? "") + linksText(whatIf);
   const sets = whatIf.sets.filter((set) => set.counties.length).map((set) => (
     `${[set.seats, ...codesOf(desk.geography, set.counties)].join("|")}\n`)).join("");

@@ -1,4 +1,4 @@
-// The third view: counties taken out, borders in dispute, another allowance; solved again in the
+// The third view: counties taken out, borders in dispute, another tolerance; solved again in the
 // page.
 
 import { current } from "./answer_view.mjs";

@@ -5,9 +5,9 @@ use Rattle.std.proofs.lemmas.Bool.Decides.{nat_tests}
 use Rattle.grouping_laws.specs.Sets.{indicator, count}
 use Rattle.grouping_laws.specs.Problem.{Problem}
 use Rattle.grouping_laws.specs.Grouping.{Grouping, counts, sets_of, IsGreater, IsBest}
-use Rattle.grouping_laws.specs.Allowance.{HasWindow, named_window}
+use Rattle.grouping_laws.specs.Tolerance.{HasTolerance, named_tolerance}
 use Rattle.grouping_laws.specs.GroupsFrom.{IsOrder}
-use Rattle.grouping_laws.proofs.AllowanceLemmas.{names_its_own}
+use Rattle.grouping_laws.proofs.ToleranceLaws.{names_its_own}
 use Rattle.grouping_laws.proofs.Order.{greater_transitive}
 use Rattle.grouping_laws.proofs.Elements.{has_all, all_from_has}
 use Rattle.certificate_data.specs.Round.{Round}
@@ -30,9 +30,9 @@ use Rattle.board_laws.proofs.Pieces.{numbered_once}
 use Rattle.board_laws.proofs.Opening.{opens_is, begins_numbered}
 use Rattle.board_laws.proofs.PartialTrees.{part_is, piece_is, part_count, piece_count, open_groups, open_proves, open_number, open_skeleton}
 
-pub begins_content : (p : Problem) (depth : ℕ) (b : Content) (target : Grouping) → b.round.window ≡ named_window p → IsOrder p b.round.order → b.round.target ≡ Some target → TargetFits p b.round.limit b.round.target → Begins p depth b → IsContent p b
-begins_content p depth b target window order is fits begins = record {
-  window = window;
+pub begins_content : (p : Problem) (depth : ℕ) (b : Content) (target : Grouping) → b.round.tolerance ≡ named_tolerance p → IsOrder p b.round.order → b.round.target ≡ Some target → TargetFits p b.round.limit b.round.target → Begins p depth b → IsContent p b
+begins_content p depth b target tolerance order is fits begins = record {
+  tolerance = tolerance;
   order = order;
   target = target;
   target_is = is;
@@ -53,7 +53,7 @@ put_content : (p : Problem) (b : Content) (n : ℕ) (new : Skeleton) (last : ℕ
     → ((x : ℕ) → count x (pieces new) + indicator (is_numbered b.last x) ≡ indicator (n == x) + indicator (is_numbered last x))
     → IsContent p (record b { skeleton = put n new b.skeleton; last = last })
 put_content p b n new last s is w sound counted = record {
-  window = is.window;
+  tolerance = is.tolerance;
   order = is.order;
   target = is.target;
   target_is = is.target_is;
@@ -207,18 +207,18 @@ change p depth b c event Budget l = nothing l
 change p depth b c event Memory l = nothing l
 
 -- the content of a new round
-renews_content : (p : Problem) (depth : ℕ) (b c : Content) (round : Round) (next : ℕ) (target : Grouping) → round.window ≡ named_window p → IsOrder p round.order → round.target ≡ Some target → TargetFits p round.limit round.target → Renews p depth b round next c → IsContent p c
-renews_content p depth b c round next target window order is fits r =
-    begins_content p depth c target (ap (λ (z : Round). z.window) r.round_is ∙ window) (subst (λ (z : Round). IsOrder p z.order) (sym r.round_is) order) (ap (λ (z : Round). z.target) r.round_is ∙ is) (subst (λ (z : Round). TargetFits p z.limit z.target) (sym r.round_is) fits) r.begins
+renews_content : (p : Problem) (depth : ℕ) (b c : Content) (round : Round) (next : ℕ) (target : Grouping) → round.tolerance ≡ named_tolerance p → IsOrder p round.order → round.target ≡ Some target → TargetFits p round.limit round.target → Renews p depth b round next c → IsContent p c
+renews_content p depth b c round next target tolerance order is fits r =
+    begins_content p depth c target (ap (λ (z : Round). z.tolerance) r.round_is ∙ tolerance) (subst (λ (z : Round). IsOrder p z.order) (sym r.round_is) order) (ap (λ (z : Round). z.target) r.round_is ∙ is) (subst (λ (z : Round). TargetFits p z.limit z.target) (sym r.round_is) fits) r.begins
 
 changed_content : (p : Problem) (depth : ℕ) (b c : Content) → IsContent p b → Change p depth b c → IsContent p c
 changed_content p depth b c is (nothing e) = subst (IsContent p) (sym e) is
 changed_content p depth b c is (filled n tree f) = fills_content p b n tree c is f
 changed_content p depth b c is (divided n county limit first many f) = splits_content p b n county limit first many c is f
 changed_content p depth b c is (parted n tree first many f) = parts_content p b n tree first many c is f
-changed_content p depth b c is (improved g next gain r) = renews_content p depth b c (record (b.round) { target = Some g }) next g is.window is.order refl (gain.lawful, gain.small) r
+changed_content p depth b c is (improved g next gain r) = renews_content p depth b c (record (b.round) { target = Some g }) next g is.tolerance is.order refl (gain.lawful, gain.small) r
 changed_content p depth b c is (widened next r) =
-    renews_content p depth b c (record (b.round) { limit = b.round.limit + 1 }) next is.target is.window is.order is.target_is (wider_fits p b.round.limit b.round.target is.fits) r
+    renews_content p depth b c (record (b.round) { limit = b.round.limit + 1 }) next is.target is.tolerance is.order is.target_is (wider_fits p b.round.limit b.round.target is.fits) r
 
 pub leads_content : (p : Problem) (depth : ℕ) (b c : Content) (event : Event) (reply : Reply) → IsContent p b → Leads p depth b event reply c → IsContent p c
 leads_content p depth b c event reply is l = changed_content p depth b c is (change p depth b c event reply l)
@@ -228,7 +228,7 @@ over_content p depth b c [] is l = subst (IsContent p) (sym l) is
 over_content p depth b c (first ∷ more) is l = over_content p depth l.0 c more (leads_content p depth b l.0 first.event first.reply is l.1) l.2
 
 content_certifies : (p : Problem) (b : Content) (tree : Tree) → IsContent p b → joined b.skeleton ≡ Some tree → IsCertificate p b.round tree
-content_certifies p b tree is e = record { window = subst (HasWindow p) (sym is.window) (names_its_own p); order = is.order; target = is.fits; proof = joined_proves b.skeleton p b.round (empty_state p) tree is.skeleton e }
+content_certifies p b tree is e = record { tolerance = subst (HasTolerance p) (sym is.tolerance) (names_its_own p); order = is.order; target = is.fits; proof = joined_proves b.skeleton p b.round (empty_state p) tree is.skeleton e }
 
 content_best : (p : Problem) (b : Content) (tree : Tree) (target : Grouping) → IsContent p b → joined b.skeleton ≡ Some tree → b.round.target ≡ Some target → IsBest p target
 content_best p b tree target is e k = subst (Conclusion p) k (certificate_shows p b.round tree (content_certifies p b tree is e))

@@ -15,7 +15,7 @@ use Rattle.board_laws.specs.JoinedTexts.{IsReached, HoldTheSame, JoinsTo, Joined
 
 is_content : (p : Problem) (log : List EventAndReply) (b : Content) → IsReached p log b → IsContent p b
 is_content p log b r =
-    (boards_keep).over p r.depth r.first b log ((boards_keep).begins p r.depth r.first r.target r.window r.order r.target_is r.fits r.begins) r.leads
+    (boards_keep).over p r.depth r.first b log ((boards_keep).begins p r.depth r.first r.target r.tolerance r.order r.target_is r.fits r.begins) r.leads
 
 same_tree : (p : Problem) (log more : List EventAndReply) (b c : Content) → IsReached p log b → IsReached p more c → HoldTheSame p b c → joined b.skeleton ≡ joined c.skeleton
 same_tree p log more b c one other held = (same_is_joined).boards p b c (is_content p log b one) (is_content p more c other) held.round held.same

@@ -3,7 +3,7 @@ use Rattle.std.specs.Prelude.{ℕ, ◌+◌, ◌-◌, ◌≡◌, ◌≢◌, ◌�
 use Rattle.std.specs.Prelude.{◌⊎◌}
 use Rattle.grouping_laws.specs.Problem.{Problem}
 use Rattle.grouping_laws.specs.Grouping.{Grouping, Lawful, counts, sets_of, IsGreater}
-use Rattle.grouping_laws.specs.Allowance.{named_window}
+use Rattle.grouping_laws.specs.Tolerance.{named_tolerance}
 use Rattle.grouping_laws.specs.GroupsFrom.{IsOrder}
 use Rattle.certificate_data.specs.declared.format.Format.TheVariants.{Wide}
 use Rattle.certificate_data.specs.Round.{Round}
@@ -167,10 +167,10 @@ LeadsOver p depth b [] c = c ≡ b
 LeadsOver p depth b (first ∷ more) c =
     (between : Content) × Leads p depth b first.event first.reply between × LeadsOver p depth between more c
 
--- What holds of the content of a board at every moment. A round names the allowance that a certificate for the problem
+-- What holds of the content of a board at every moment. A round names the tolerance that a certificate for the problem
 -- names.
 pub record IsContent (p : Problem) (b : Content) : Type 0 where
-  pub window : b.round.window ≡ named_window p
+  pub tolerance : b.round.tolerance ≡ named_tolerance p
   pub order : IsOrder p b.round.order
   pub target : Grouping
   pub target_is : b.round.target ≡ Some target

@@ -1,7 +1,7 @@
 -- Laws of joined certificates: what is joined depends on the events that came, and not on their order.
 use Rattle.std.specs.Prelude.{ℕ, ◌≡◌, List, Some, ◌↔◌}
 use Rattle.grouping_laws.specs.Problem.{Problem}
-use Rattle.grouping_laws.specs.Allowance.{named_window}
+use Rattle.grouping_laws.specs.Tolerance.{named_tolerance}
 use Rattle.grouping_laws.specs.GroupsFrom.{IsOrder}
 use Rattle.grouping_laws.specs.Grouping.{Grouping}
 use Rattle.certificate_laws.specs.State.{State, empty_state}
@@ -12,12 +12,12 @@ use Rattle.board_laws.specs.Skeleton.{joined}
 use Rattle.board_laws.specs.Standing.{Held, Holds}
 use Rattle.board_laws.specs.Content.{Content, Begins, EventAndReply, LeadsOver}
 
--- a board begins with the allowance that a certificate for the problem names and with a target that fits, and the
+-- a board begins with the tolerance that a certificate for the problem names and with a target that fits, and the
 -- events with their replies lead from there to this content
 pub record IsReached (p : Problem) (log : List EventAndReply) (content : Content) : Type 0 where
   pub depth : ℕ
   pub first : Content
-  pub window : first.round.window ≡ named_window p
+  pub tolerance : first.round.tolerance ≡ named_tolerance p
   pub order : IsOrder p first.round.order
   pub target : Grouping
   pub target_is : first.round.target ≡ Some target

@@ -2,7 +2,7 @@
 use Rattle.std.specs.Prelude.{ℕ, ◌+◌, ◌≡◌, ◌≢◌, List, [], Contains, Option, Some, None, ◌⊎◌, ◌↔◌}
 use Rattle.grouping_laws.specs.Problem.{Problem}
 use Rattle.grouping_laws.specs.Grouping.{Grouping, counts, sets_of, IsGreater, IsBest}
-use Rattle.grouping_laws.specs.Allowance.{named_window}
+use Rattle.grouping_laws.specs.Tolerance.{named_tolerance}
 use Rattle.grouping_laws.specs.GroupsFrom.{IsOrder}
 use Rattle.certificate_data.specs.Round.{Round}
 use Rattle.certificate_laws.specs.State.{State, IsState, empty_state}
@@ -47,7 +47,7 @@ TargetGrew (Some t) (Some u) = IsGreater (counts (sets_of u)) (counts (sets_of t
 pub record BoardsKeep : Type 0 where
   -- a round that begins with a target that fits has the content of a board, and each event leads to the content of a
   -- board
-  pub begins : (p : Problem) (depth : ℕ) (b : Content) (target : Grouping) → b.round.window ≡ named_window p
+  pub begins : (p : Problem) (depth : ℕ) (b : Content) (target : Grouping) → b.round.tolerance ≡ named_tolerance p
       → IsOrder p b.round.order → b.round.target ≡ Some target → TargetFits p b.round.limit b.round.target
       → Begins p depth b → IsContent p b
   pub leads : (p : Problem) (depth : ℕ) (b c : Content) (event : Event) (reply : Reply) → IsContent p b

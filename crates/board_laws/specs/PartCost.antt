@@ -6,7 +6,7 @@ use Rattle.certificate_laws.specs.State.{State, close, raise}
 use Rattle.certificate_laws.specs.Groups.{AreGroupsAt, IsSetAt}
 use Rattle.certificate_laws.specs.Proving.{NamesLimit, CanBranch, limit_of}
 use Rattle.checker_laws.specs.Branches.{IsNextTake, behind}
-use Rattle.checker_laws.specs.Cost.{AreSoMany, Both, Where, TreeLooks}
+use Rattle.checker_laws.specs.Cost.{IsSetCount, Both, Where, TreeLooks}
 use Rattle.checker_laws.specs.Lines.{tree_lines}
 use Rattle.board_laws.specs.PartialTrees.{PartialTree, open_leaf, whole, begun, PartialTakes, no_begun, take_begun}
 use Rattle.board_laws.specs.PartialTrees.{begun_groups, ProvesPart, EachProvesPart}
@@ -29,7 +29,7 @@ abbrev mutual
   PartLooks (whole tree) p round s n = TreeLooks tree p round s n
   PartLooks (begun county limit takes raised) p round s n =
       Where (NamesLimit round.format limit × CanBranch round s county (limit_of round limit))
-      (Both (AreSoMany round.order (IsSetAt p round.order s county (limit_of round limit)))
+      (Both (IsSetCount round.order (IsSetAt p round.order s county (limit_of round limit)))
       (λ m. (groups : List (List ℕ)) × AreGroupsAt p round s county (limit_of round limit) groups
       × Both (BegunLook takes p round s groups)
       (Where ((begun_groups takes ≡ groups)

@@ -25,7 +25,7 @@ further k fault = text_fault_at fault.kind (fault.line + k)
 -- a line says the same whatever its number is
 item_alike : (w : Wanted) (m n : ℕ) (piece : RawLine) → item_on w (record piece { number = m }) ≡ item_on w (record piece { number = n })
 item_alike want.Head m n piece = refl
-item_alike (want.Window format) m n piece = refl
+item_alike (want.Tolerance format) m n piece = refl
 item_alike (want.Order format) m n piece = refl
 item_alike want.Limit m n piece = refl
 item_alike want.Target m n piece = refl

@@ -16,4 +16,4 @@ pub mod Ends
 pub mod FirstRounds
 pub mod PieceEvents
 pub mod Handing
-pub mod Courses
+pub mod BoardRuns

@@ -16,7 +16,7 @@ use crate::taking::take_all;
 use branch_bound::{Piece, prove_piece};
 use county_codes::Grouping;
 use county_problem::{Problem, Steps};
-use place_sets::{CountySet, MaskSet, Places, fits_mask};
+use place_sets::{CountySet, MaskSet, WideSet, fits_mask};
 use search_groups::PartLists;
 use share_board::{Board, BoardFault, Event, Reply};
 use state_groups::State;
@@ -131,5 +131,5 @@ pub fn prove_waiting(
     if fits_mask(problem.counties().len()) {
         return prove_over::<MaskSet>(alloc, problem, grouping, shape, events, number, steps);
     }
-    prove_over::<Places>(alloc, problem, grouping, shape, events, number, steps)
+    prove_over::<WideSet>(alloc, problem, grouping, shape, events, number, steps)
 }

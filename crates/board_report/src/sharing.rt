@@ -13,7 +13,7 @@ use crate::shape::BoardShape;
 use crate::taking::take_and_tell;
 use county_codes::Grouping;
 use county_problem::Problem;
-use place_sets::{CountySet, MaskSet, Places, fits_mask};
+use place_sets::{CountySet, MaskSet, WideSet, fits_mask};
 use search_groups::PartLists;
 use share_board::{Board, BoardFault, Event};
 use std::alloc::Global;
@@ -69,5 +69,5 @@ pub fn share(
     if fits_mask(problem.counties().len()) {
         return share_over::<MaskSet>(alloc, problem, grouping, shape, events, budget);
     }
-    share_over::<Places>(alloc, problem, grouping, shape, events, budget)
+    share_over::<WideSet>(alloc, problem, grouping, shape, events, budget)
 }

@@ -19,7 +19,7 @@ use cli_file_stores::Sink;
 use county_codes::Grouping;
 use county_problem::{Ordered, Problem};
 use field_lines::Source;
-use place_sets::{CountySet, MaskSet, Places, fits_mask};
+use place_sets::{CountySet, MaskSet, WideSet, fits_mask};
 use share_board::{Board, BoardFault};
 use std::alloc::{AllocError, Global};
 use written_output::{Written, write_next};
@@ -123,7 +123,7 @@ pub fn serve_events<S: Source, W: Sink>(
             alloc, problem, grouping, shape, budget, source, out, written,
         );
     }
-    serve_over::<Places, S, W>(
+    serve_over::<WideSet, S, W>(
         alloc, problem, grouping, shape, budget, source, out, written,
     )
 }

@@ -2,14 +2,14 @@
 use Rattle.std.proofs.Common.{◌≡◌, ℕ, ◌≤◌, List, [], length, Option, Some, None, Result, Ok, Err, IfOk, Vec, Global, refl, sym, ap, ◌∙◌, subst, arith, All}
 use Rattle.std.specs.List.Sorted.{IsStrictlyIncreasing}
 use Rattle.county_codes.specs.Limits.{most_counties}
-use Rattle.county_codes.specs.Windows.{FitsRange}
+use Rattle.county_codes.specs.Tolerances.{FitsRange}
 use Rattle.county_codes.specs.declared.group.Group.{Group}
 use Rattle.county_codes.specs.declared.group.Grouping.{Grouping as GroupingHeld}
 use Rattle.grouping_laws.specs.Problem.{Problem, IsProblem}
 use Rattle.grouping_laws.specs.Grouping.{Grouping, IsImpossible}
 use Rattle.grouping_laws.specs.GroupsFrom.{IsOrder}
-use Rattle.grouping_laws.specs.Allowance.{HasWindow}
-use Rattle.grouping_laws.proofs.AllowanceLemmas.{names_its_own}
+use Rattle.grouping_laws.specs.Tolerance.{HasTolerance}
+use Rattle.grouping_laws.proofs.ToleranceLaws.{names_its_own}
 use Rattle.grouping_laws.proofs.Digits.{often_member}
 use Rattle.certificate_data.specs.Round.{Round}
 use Rattle.certificate_data.specs.declared.format.Format.{Format}
@@ -42,30 +42,30 @@ use Rattle.branch_bound.specs.declared.answer.Answer.{Answer}
 use Rattle.branch_bound.specs.declared.answer.Answer.TheVariants.{Best, Impossible, Open}
 
 -- a round with a tree that proves it where nothing is closed
-certified : (p : Problem) (r : Round) (round : RoundHeld) (tree : Tree) → round_of round ≡ r → HasWindow p r.window → IsOrder p r.order → TargetFits p r.limit r.target → length r.order ≤ most_counties → r.limit ≤ most_counties → AreCodes round.order → FitsRange round.window → TargetHasLines r.target
+certified : (p : Problem) (r : Round) (round : RoundHeld) (tree : Tree) → round_of round ≡ r → HasTolerance p r.tolerance → IsOrder p r.order → TargetFits p r.limit r.target → length r.order ≤ most_counties → r.limit ≤ most_counties → AreCodes round.order → FitsRange round.tolerance → TargetHasLines r.target
     → Proves (tree_of tree) p r (empty_state p) × HasLines r.format (tree_of tree) → Certifies p r.format r.target (record { round = round; tree = tree })
-certified p r round tree e window order fits few small codes range target proof =
-    subst (λ (x : Round). HasWindow p x.window → IsOrder p x.order → TargetFits p x.limit x.target → length x.order ≤ most_counties → x.limit ≤ most_counties → TargetHasLines x.target → Proves (tree_of tree) p x (empty_state p) × HasLines x.format (tree_of tree) → Certifies p x.format x.target c) e whole window order fits few small target proof
+certified p r round tree e tolerance order fits few small codes range target proof =
+    subst (λ (x : Round). HasTolerance p x.tolerance → IsOrder p x.order → TargetFits p x.limit x.target → length x.order ≤ most_counties → x.limit ≤ most_counties → TargetHasLines x.target → Proves (tree_of tree) p x (empty_state p) × HasLines x.format (tree_of tree) → Certifies p x.format x.target c) e whole tolerance order fits few small target proof
   where
     c : CertificateHeld
     c = record { round = round; tree = tree }
 
-    whole : HasWindow p round.window → IsOrder p round.order → TargetFits p round.limit (round_of round).target → length round.order ≤ most_counties → round.limit ≤ most_counties → TargetHasLines (round_of round).target → Proves (tree_of tree) p (round_of round) (empty_state p) × HasLines round.format (tree_of tree)
+    whole : HasTolerance p round.tolerance → IsOrder p round.order → TargetFits p round.limit (round_of round).target → length round.order ≤ most_counties → round.limit ≤ most_counties → TargetHasLines (round_of round).target → Proves (tree_of tree) p (round_of round) (empty_state p) × HasLines round.format (tree_of tree)
         → Certifies p round.format (round_of round).target c
-    whole window order fits few small target proof =
-        let is : IsCertificate p (certificate_of c).round (certificate_of c).tree = record { window = window; order = order; target = fits; proof = proof.0 } in
+    whole tolerance order fits few small target proof =
+        let is : IsCertificate p (certificate_of c).round (certificate_of c).tree = record { tolerance = tolerance; order = order; target = fits; proof = proof.0 } in
         record { proves = is; target_is = refl; format_is = refl; spelled = have_texts.certificate p (certificate_of c) is range few codes small target proof.1 }
 
 -- the certificate of a target that is best
 best_certified : (p : Problem) (order : List ℕ) (limit : ℕ) (g : Grouping) (round : RoundHeld) (tree : Tree) → IsOrder p order → length order ≤ most_counties → IsTarget p order g → limit ≤ most_counties → All (λ (m : Group). length m.codes ≤ limit) g
-    → round_of round ≡ round_over p order limit (Some g) Wide → AreCodes round.order → FitsRange round.window → IsProof p (round_over p order limit (Some g) Wide) (empty_state p) tree
+    → round_of round ≡ round_over p order limit (Some g) Wide → AreCodes round.order → FitsRange round.tolerance → IsProof p (round_over p order limit (Some g) Wide) (empty_state p) tree
     → Certifies p Wide (Some g) (record { round = round; tree = tree })
 best_certified p order limit g round tree whole few target small large e codes range proof =
     certified p (round_over p order limit (Some g) Wide) round tree e (names_its_own p) whole (target.lawful, large) few small codes range target.lines (proof.0, proof.1)
 
 -- the answer that a target is best
 pub best_answer : (p : Problem) (order : List ℕ) (limit : ℕ) (g : GroupingHeld) (round : RoundHeld) (tree : Tree) → IsOrder p order → length order ≤ most_counties → IsStrictlyIncreasing order → IsTarget p order g.groups.items → limit ≤ most_counties
-    → All (λ (m : Group). length m.codes ≤ limit) g.groups.items → round_of round ≡ round_over p order limit (Some g.groups.items) Wide → AreCodes round.order → FitsRange round.window
+    → All (λ (m : Group). length m.codes ≤ limit) g.groups.items → round_of round ≡ round_over p order limit (Some g.groups.items) Wide → AreCodes round.order → FitsRange round.tolerance
     → IsProof p (round_over p order limit (Some g.groups.items) Wide) (empty_state p) tree → (allowed : ℕ) → 1 ≤ allowed → IsSolveAnswer p allowed (Best g (record { round = round; tree = tree }))
 best_answer p order limit g round tree whole few ascending target small large e codes range proof allowed some =
     (some, best_certified p order limit g.groups.items round tree whole few target small large e codes range proof, stands_in_order order ascending g.groups.items target.sorted)
@@ -87,7 +87,7 @@ leaf_proof p r s branches last none given =
     alone bs e = ap (λ (l : List Branch). list_onto l (leaf (leaf_of last))) e
 
 -- the certificate that no grouping is lawful
-pub impossible_certified : (p : Problem) (order : List ℕ) (round : RoundHeld) (branches : Vec Branch Global) (last : Leaf) → IsOrder p order → length order ≤ most_counties → round_of round ≡ round_over p order 0 None Plain → AreCodes round.order → FitsRange round.window
+pub impossible_certified : (p : Problem) (order : List ℕ) (round : RoundHeld) (branches : Vec Branch Global) (last : Leaf) → IsOrder p order → length order ≤ most_counties → round_of round ≡ round_over p order 0 None Plain → AreCodes round.order → FitsRange round.tolerance
     → branches.items ≡ [] → IsGivenLeaf p (round_of round) (empty_state p) last → Certifies p Plain None (record { round = round; tree = roll-Tree (record { branches = branches; leaf = last }) })
 impossible_certified p order round branches last whole few e codes range none given =
     let r : Round = round_over p order 0 None Plain in

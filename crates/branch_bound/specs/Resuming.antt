@@ -3,7 +3,7 @@ use Rattle.std.specs.Prelude.{ℕ, ◌≤◌, List, length, fold, max, Option, S
 use Rattle.county_codes.specs.Limits.{most_counties}
 use Rattle.grouping_laws.specs.Problem.{Problem}
 use Rattle.grouping_laws.specs.Grouping.{Grouping}
-use Rattle.grouping_laws.specs.Allowance.{named_window}
+use Rattle.grouping_laws.specs.Tolerance.{named_tolerance}
 use Rattle.certificate_data.specs.declared.format.Format.{Format}
 use Rattle.certificate_data.specs.declared.format.Format.TheVariants.{Wide}
 use Rattle.certificate_data.specs.Round.{Round}
@@ -12,11 +12,11 @@ use Rattle.board_laws.specs.PartialTrees.{PartialTree, IsPart}
 use Rattle.partial_trees.specs.Refusals.{IsPartProof}
 use Rattle.partial_trees.specs.OpenBranches.{BranchesAreOpen}
 
--- A round of a search for the problem, over its counties in this order. Its allowance is the one that a certificate
+-- A round of a search for the problem, over its counties in this order. Its tolerance is the one that a certificate
 -- names for the problem.
 abbrev pub round_over : Problem → List ℕ → ℕ → Option Grouping → Format → Round
 round_over p order limit target format =
-    record { order = order; limit = limit; target = target; format = format; window = named_window p }
+    record { order = order; limit = limit; target = target; format = format; tolerance = named_tolerance p }
 
 -- how many counties the longest group has, or 1 where none has more
 abbrev pub longest : Grouping → ℕ

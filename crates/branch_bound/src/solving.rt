@@ -2,7 +2,7 @@
 
 ghost use Rattle.std.specs.Prelude.{◌≡◌, ℕ, ◌≤◌, ◌<◌, max, Some, None, IfSome, length, All, IfOk, OnOk};
 ghost use Rattle.std.specs.List.Sorted.{IsStrictlyIncreasing};
-ghost use Rattle.county_codes.specs.{Limits.most_counties, Windows.FitsRange};
+ghost use Rattle.county_codes.specs.{Limits.most_counties, Tolerances.FitsRange};
 ghost use Rattle.grouping_laws.specs.Grouping.{Grouping as GroupingLaw};
 ghost use Rattle.grouping_laws.specs.Problem.{Problem as ProblemLaw};
 ghost use Rattle.connected_sets.specs.Graphs.{graph_problem, graph_order, graph_places, place_problem, IsGraph};
@@ -29,7 +29,7 @@ use connected_sets::CountyGraph;
 use county_codes::{Codes, Grouping, listed_codes};
 use county_problem::{OrderFault, Ordered, Problem, Steps};
 use partial_trees::PartialTree;
-use place_sets::{CountySet, MaskSet, Places, fits_mask};
+use place_sets::{CountySet, MaskSet, WideSet, fits_mask};
 use search_ends::{finished_grouping, whole_leaf};
 use search_groups::{PartLists, SearchInput, first_position};
 use state_groups::{State, first_state};
@@ -78,14 +78,14 @@ fn round_for(
     ensures value { IfOk result (λ round. round_of round
         ≡ round_over (problem_of ordered.now.problem) ordered.now.order limit (target_of target) format) }
     ensures codes { IfOk result (λ round. AreCodes round.order) }
-    ensures range { IfOk result (λ round. FitsRange round.window) }
+    ensures range { IfOk result (λ round. FitsRange round.tolerance) }
 {
     Ok(Round {
         order: ordered.codes(alloc)?,
         limit,
         target,
         format,
-        window: ordered.problem().named_window(),
+        tolerance: ordered.problem().named_tolerance(),
     })
 }
 
@@ -243,7 +243,7 @@ fn improve<C: CountySet, W: Watcher>(
 fn impossible(alloc: Global, ordered: &Ordered, round: Round, leaf: Leaf) -> Certificate
     requires value { round_of round ≡ round_over (problem_of ordered.now.problem) ordered.now.order 0 None Plain }
     requires codes { AreCodes round.order }
-    requires range { FitsRange round.window }
+    requires range { FitsRange round.tolerance }
     requires leaf { IsGivenLeaf (problem_of ordered.now.problem) (round_of round) (empty_state (problem_of ordered.now.problem)) leaf }
     ensures { Certifies (problem_of ordered.now.problem) Plain None result }
 {
@@ -383,7 +383,7 @@ pub fn solve_watched<W: Watcher>(
     if fits_mask(problem.counties().len()) {
         return solve_over::<MaskSet, W>(alloc, problem, step_limit, watcher);
     }
-    solve_over::<Places, W>(alloc, problem, step_limit, watcher)
+    solve_over::<WideSet, W>(alloc, problem, step_limit, watcher)
 }
 
 /// Returns the best grouping of the `problem` with its certificate.

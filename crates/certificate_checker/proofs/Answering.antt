@@ -5,7 +5,7 @@ use Rattle.county_codes.specs.declared.group.Grouping.{Grouping as GroupingHeld}
 use Rattle.grouping_laws.specs.Problem.{Problem}
 use Rattle.field_lines.specs.Source.{Given, nothing_comes}
 use Rattle.field_lines.specs.HeldBytes.{MayCome}
-use Rattle.certificate_lines.specs.Courses.{Unread, certificate_course}
+use Rattle.certificate_lines.specs.ItemReadings.{Unread, certificate_reading}
 use Rattle.certificate_lines.specs.ItemsLeft.{ItemsHeld, ItemsLeft, Foresees, in_memory, left_of_reader, nothing_taken}
 use Rattle.certificate_lines.specs.Fitting.{AllFit}
 use Rattle.certificate_lines.specs.declared.fault.TextFault.{TextFault}
@@ -32,40 +32,40 @@ use Rattle.certificate_checker.specs.declared.verdict.Verdict.TheVariants.{Best,
 
 -- every certificate that the lines to come spell was judged so
 abbrev pub AreJudged : Problem → List ℕ → ℕ → Result (Option GroupingHeld) Halt → Type 0
-AreJudged p text limit r = (c : Certificate) → AllFit (want.Head ∷ []) (items_of_certificate c) → (certificate_course text).items ≡ items_of_certificate c → IsCertificateJudged p c limit r
+AreJudged p text limit r = (c : Certificate) → AllFit (want.Head ∷ []) (items_of_certificate c) → (certificate_reading text).items ≡ items_of_certificate c → IsCertificateJudged p c limit r
 
 module _ (p : Problem) (text : List ℕ) (limit : ℕ) where
-  pub best_found : (target : GroupingHeld) → AreJudged p text limit (Ok (Some target)) → (certificate_course text).fault ≡ None → IsCheckAnswer p text limit (Best target)
+  pub best_found : (target : GroupingHeld) → AreJudged p text limit (Ok (Some target)) → (certificate_reading text).fault ≡ None → IsCheckAnswer p text limit (Best target)
   best_found target h none =
       let c = spelled text none in
       let j = h c.0 c.1.fits c.2 in
       (c.0, c.1, (fine j.1.0, j.1.1, ap said.shown j.0))
 
-  pub impossible_found : AreJudged p text limit (Ok None) → (certificate_course text).fault ≡ None → IsCheckAnswer p text limit Impossible
+  pub impossible_found : AreJudged p text limit (Ok None) → (certificate_reading text).fault ≡ None → IsCheckAnswer p text limit Impossible
   impossible_found h none =
       let c = spelled text none in
       let j = h c.0 c.1.fits c.2 in
       (c.0, c.1, (fine j.1.0, j.1.1, ap said.shown j.0))
 
-  pub fault_found : (fault : CheckFault) (line : ℕ) → AreJudged p text limit (Err (stop.Fault fault line)) → (certificate_course text).fault ≡ None → IsCheckAnswer p text limit (No fault line)
+  pub fault_found : (fault : CheckFault) (line : ℕ) → AreJudged p text limit (Err (stop.Fault fault line)) → (certificate_reading text).fault ≡ None → IsCheckAnswer p text limit (No fault line)
   fault_found fault line h none =
       let c = spelled text none in
       let j = h c.0 c.1.fits c.2 in
       inr (j.0, j.1, (c.0, c.1, (faulty j.0 line, j.2, refl)))
 
-  pub budget_found : AreJudged p text limit (Err stop.Budget) → (certificate_course text).fault ≡ None → IsCheckAnswer p text limit Budget
+  pub budget_found : AreJudged p text limit (Err stop.Budget) → (certificate_reading text).fault ≡ None → IsCheckAnswer p text limit Budget
   budget_found h none cost costs = ⊎_elim (λ s. h s.0 s.1.fits (spelling text s.0 s.1).0 cost s.2) (λ f. cc (f.1, none)) costs
 
-  pub unspelled_found : AreJudged p text limit (Err stop.Unspelled) → (certificate_course text).fault ≡ None → IsCheckAnswer p text limit Budget
+  pub unspelled_found : AreJudged p text limit (Err stop.Unspelled) → (certificate_reading text).fault ≡ None → IsCheckAnswer p text limit Budget
   unspelled_found h none = let c = spelled text none in absurd (h c.0 c.1.fits c.2)
 
   pub text_found : (fault : TextFault) → HasTextFault text fault → IsCheckAnswer p text limit (No (Text fault) fault.line)
   text_found fault has = inl (fault, refl, has, refl)
 
   -- as many lines as steps are less than the text costs
-  pub lines_found : (start now : FeedValue) → start.course ≡ certificate_course text → start.line ≡ 0 → Fed start now → now.limit ≤ now.line + length now.course.items → start.limit ≡ limit → IsCheckAnswer p text limit Budget
-  lines_found start now course line fed many same cost costs =
-      let few : limit ≤ length (certificate_course text).items = omega (arith, fed.lines, fed.limit, many, same, line, ap (λ c. length c.items) course) in
+  pub lines_found : (start now : FeedValue) → start.reading ≡ certificate_reading text → start.line ≡ 0 → Fed start now → now.limit ≤ now.line + length now.reading.items → start.limit ≡ limit → IsCheckAnswer p text limit Budget
+  lines_found start now reading line fed many same cost costs =
+      let few : limit ≤ length (certificate_reading text).items = omega (arith, fed.lines, fed.limit, many, same, line, ap (λ c. length c.items) reading) in
       ⊎_elim
       (λ s. omega (arith, few, ap length (spelling text s.0 s.1).0, certificate_length s.0, s.2.2))
       (λ f. omega (arith, few, lines text, f.2))
@@ -79,12 +79,12 @@ module _ (p : Problem) (text : List ℕ) (limit : ℕ) where
   within Budget h = tt
 
   -- a step was left when all lines were read
-  pub rest_within : (start now : FeedValue) → start.course ≡ certificate_course text → start.line ≡ 0 → Fed start now → now.line + length now.course.items < now.limit → start.limit ≡ limit → (v : Verdict) → IsWithinBudget (lines_in_front text) limit v
-  rest_within start now course line fed few same v = within v (omega (arith, fed.lines, fed.limit, few, same, line, ap (λ c. length c.items) course))
+  pub rest_within : (start now : FeedValue) → start.reading ≡ certificate_reading text → start.line ≡ 0 → Fed start now → now.line + length now.reading.items < now.limit → start.limit ≡ limit → (v : Verdict) → IsWithinBudget (lines_in_front text) limit v
+  rest_within start now reading line fed few same v = within v (omega (arith, fed.lines, fed.limit, few, same, line, ap (λ c. length c.items) reading))
 
   -- a step was left when the fault was met
-  pub fault_within : (start : FeedValue) (fault : TextFault) → start.course ≡ certificate_course text → start.used ≡ 0 → MetFault start fault → start.limit ≡ limit → (v : Verdict) → IsWithinBudget (lines_in_front text) limit v
-  fault_within start fault course used met same v = within v (omega (arith, met.1, same, used, ap (λ c. length c.items) course))
+  pub fault_within : (start : FeedValue) (fault : TextFault) → start.reading ≡ certificate_reading text → start.used ≡ 0 → MetFault start fault → start.limit ≡ limit → (v : Verdict) → IsWithinBudget (lines_in_front text) limit v
+  fault_within start fault reading used met same v = within v (omega (arith, met.1, same, used, ap (λ c. length c.items) reading))
 
 -- a reading that begins, with a limit of steps and those that were taken
 abbrev pub begun : ItemsLeft → Given → ℕ → ℕ → Stream
@@ -94,23 +94,23 @@ begun left given limit used = record { left = left; given = given; line = 0; lim
 pub found_answer : (p : Problem) (old mid : Stream) (after : Given) (budget : ℕ) (held judged : Result (Option GroupingHeld) Halt) (found : Verdict) (answer : Result Verdict AllocError)
     → old.line ≡ 0 → old.limit ≡ budget → held ≡ judged
     → ((a b : FeedValue) → IsFed a judged b → Fed a b)
-    → ((text : List ℕ) (limit : ℕ) → AreJudged p text limit judged → (certificate_course text).fault ≡ None → IsCheckAnswer p text limit found)
+    → ((text : List ℕ) (limit : ℕ) → AreJudged p text limit judged → (certificate_reading text).fault ≡ None → IsCheckAnswer p text limit found)
     → FeedsThrough old mid (λ a b. IsFed a held b)
-    → ForEach old mid (λ a b. (c : Certificate) → AllFit (want.Head ∷ []) (items_of_certificate c) → a.course.items ≡ items_of_certificate c → IsCertificateJudged p c old.limit held)
+    → ForEach old mid (λ a b. (c : Certificate) → AllFit (want.Head ∷ []) (items_of_certificate c) → a.reading.items ≡ items_of_certificate c → IsCertificateJudged p c old.limit held)
     → ((all : List ℕ) → Foresees after all → Foresees mid.given all
-    × ((q : Problem) (text : List ℕ) (start : FeedValue) → start.course ≡ certificate_course text → start.line ≡ 0 → Fed start (fed_by mid all)
-    → ((certificate_course text).fault ≡ None → IsCheckAnswer q text start.limit found) → IfOk answer (IsBudgetedAnswer q text start.limit)))
+    × ((q : Problem) (text : List ℕ) (start : FeedValue) → start.reading ≡ certificate_reading text → start.line ≡ 0 → Fed start (fed_by mid all)
+    → ((certificate_reading text).fault ≡ None → IsCheckAnswer q text start.limit found) → IfOk answer (IsBudgetedAnswer q text start.limit)))
     → ChecksItems p old.left old.given budget answer after
 found_answer p old mid after budget held judged found answer line limit same feeds finds fed is behind all sees =
     let v = behind all sees in
     let j = fed all v.0 in (
       j.0,
-      λ text course.
+      λ text reading.
           subst (λ n. IfOk answer (IsBudgetedAnswer p text n)) limit
-          (v.1 p text (fed_by old all) course line
+          (v.1 p text (fed_by old all) reading line
           (feeds (fed_by old all) (fed_by mid all) (subst (λ r. IsFed (fed_by old all) r (fed_by mid all)) same j.1))
           (finds text old.limit
-          (subst (λ r. AreJudged p text old.limit r) same (λ cert fits items. is all v.0 cert fits (ap (λ z. z.items) course ∙ items))))),
+          (subst (λ r. AreJudged p text old.limit r) same (λ cert fits items. is all v.0 cert fits (ap (λ z. z.items) reading ∙ items))))),
     )
 
 -- the two parts of an answer
@@ -139,8 +139,8 @@ shows_impossible p text budget (Ok Budget) h = tt
 shows_impossible p text budget (Err e) h = tt
 
 -- of a text in memory
-pub checked_text : (p : Problem) (course : Unread) (text : List ℕ) (budget : ℕ) (r : Result Verdict AllocError) → ChecksItems p (in_memory course) nothing_comes budget r nothing_comes → course ≡ certificate_course text → IfOk r (IsBudgetedAnswer p text budget)
-checked_text p course text budget r h is = (h [] (record { later = []; text = refl; may = λ ended. refl })).1 text is
+pub checked_text : (p : Problem) (reading : Unread) (text : List ℕ) (budget : ℕ) (r : Result Verdict AllocError) → ChecksItems p (in_memory reading) nothing_comes budget r nothing_comes → reading ≡ certificate_reading text → IfOk r (IsBudgetedAnswer p text budget)
+checked_text p reading text budget r h is = (h [] (record { later = []; text = refl; may = λ ended. refl })).1 text is
 
 -- of bytes that were pulled
 module _ (p : Problem) (before after : Given) (budget : ℕ) where
@@ -150,7 +150,7 @@ module _ (p : Problem) (before after : Given) (budget : ℕ) where
   checked_with v h sees later may =
       let split : drop (length before.bytes) (after.bytes ++ later) ≡ sees.later ++ later =
       ap (λ (t : List ℕ). drop (length before.bytes) (t ++ later)) sees.text ∙ ap (drop (length before.bytes)) (append_assoc before.bytes sees.later later) ∙ drop-append_seam before.bytes (sees.later ++ later) in
-      (h (after.bytes ++ later) (record { later = later; text = refl; may = may })).1 (sees.later ++ later) (ap certificate_course split)
+      (h (after.bytes ++ later) (record { later = later; text = refl; may = may })).1 (sees.later ++ later) (ap certificate_reading split)
 
   pub checked_bytes : (items : ItemsHeld) → items ≡ nothing_taken → (v : Verdict) → ChecksItems p (left_of_reader items) before budget (Ok v) after → ChecksBytes p before after budget v
   checked_bytes items is v checked =

@@ -29,13 +29,13 @@ pub record LinesLeft (p : Problem) (round : Round) (s : State) (target : Groupin
   pub left : List Allowance
   pub spelled : AllowancesAreSpelled left
   pub count : judged + length left ≡ length lines
-  pub items : now.course.items ≡ line_items left ++ rest
+  pub items : now.reading.items ≡ line_items left ++ rest
   pub ends : (end : End) → BoundedEnds left p round s (counts (sets_of target)) (judged + 1) used old.line (now.line + 1) end → LeafEnds (bound lines) p round s old.line end
   pub looks : (n : ℕ) → LeafLooks (bound lines) p round s n → (m : ℕ) × AllowancesLook left p round s (counts (sets_of target)) (judged + 1) used m × (now.used + old.line + 2 * m ≤ old.used + now.line + 2 * n)
 
 -- before the first line is judged
 pub no_line_judged : (p : Problem) (round : Round) (s : State) (target : Grouping) (old : FeedValue) (lines : List Allowance) (rest : List Item) → round.target ≡ Some target → length lines ≤ round.limit
-    → AllowancesAreSpelled lines → old.course.items ≡ line_items lines ++ rest → LinesLeft p round s target old old lines rest 0 0
+    → AllowancesAreSpelled lines → old.reading.items ≡ line_items lines ++ rest → LinesLeft p round s target old old lines rest 0 0
 no_line_judged p round s target old lines rest is few spelled items = record {
   left = lines;
   spelled = spelled;
@@ -123,7 +123,7 @@ loss_judged p round s target old now new lines rest judged used h last r allowed
 
 -- a stop at a line
 stop_from : (p : Problem) (round : Round) (s : State) (target : Grouping) (old now new : FeedValue) (lines : List Allowance) (rest : List Item) (judged used : ℕ) (found : Halt) (left : List Allowance)
-    → Fed old now → judged < length lines → judged + length left ≡ length lines → now.course.items ≡ line_items left ++ rest
+    → Fed old now → judged < length lines → judged + length left ≡ length lines → now.reading.items ≡ line_items left ++ rest
     → ((end : End) → BoundedEnds left p round s (wanted_of target) (judged + 1) used old.line (now.line + 1) end → LeafEnds (bound lines) p round s old.line end)
     → ((n : ℕ) → LeafLooks (bound lines) p round s n → (m : ℕ) × AllowancesLook left p round s (wanted_of target) (judged + 1) used m × (now.used + old.line + 2 * m ≤ old.used + now.line + 2 * n))
     → IsLineJudged p round s (wanted_of target) (judged + 1) used left rest now (Err found) new → IsLeafJudged {X = Unit {0}} p round s (bound lines) rest old (Err found) new
@@ -135,7 +135,7 @@ stop_from p round s target old now new lines rest judged used stop.Unspelled (a 
 stop_from p round s target old now new lines rest judged used stop.Budget (a ∷ others) fed few count items ends looks k = λ n l.
     let x = looks n l in
     let y = bound_lines_cost.last a others p round s (wanted_of target) (judged + 1) used x.0 x.1 in
-    let size : length now.course.items ≡ suc (length (line_items others) + length rest) = ap length items ∙ ap suc (length-append (line_items others) rest) in
+    let size : length now.reading.items ≡ suc (length (line_items others) + length rest) = ap length items ∙ ap suc (length-append (line_items others) rest) in
     omega (arith, x.2, y.2, k y.0 y.1, fed.limit, fed.lines, size)
 stop_from p round s target old now new lines rest judged used stop.Refused (a ∷ others) fed few count items ends looks k = tt
 
@@ -148,7 +148,7 @@ below judged n limit small all apart = omega (arith, small, all, apart)
 
 -- no line is left
 all_from : (p : Problem) (round : Round) (s : State) (target : Grouping) (old now : FeedValue) (lines : List Allowance) (rest : List Item) (judged used : ℕ) (full : Bool) (r : Result (Unit {0}) Halt) (left : List Allowance)
-    → length lines ≤ round.limit → judged ≡ length lines → (full ≡ true → length lines ≡ round.limit) → (full ≡ false → length lines ≢ round.limit) → judged + length left ≡ length lines → now.course.items ≡ line_items left ++ rest
+    → length lines ≤ round.limit → judged ≡ length lines → (full ≡ true → length lines ≡ round.limit) → (full ≡ false → length lines ≢ round.limit) → judged + length left ≡ length lines → now.reading.items ≡ line_items left ++ rest
     → ((end : End) → BoundedEnds left p round s (wanted_of target) (judged + 1) used old.line (now.line + 1) end → LeafEnds (bound lines) p round s old.line end)
     → ((n : ℕ) → LeafLooks (bound lines) p round s n → (m : ℕ) × AllowancesLook left p round s (wanted_of target) (judged + 1) used m × (now.used + old.line + 2 * m ≤ old.used + now.line + 2 * n))
     → IsEndOf full old.line r → IsLeafJudged p round s (bound lines) rest old r now

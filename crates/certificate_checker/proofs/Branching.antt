@@ -12,7 +12,7 @@ use Rattle.certificate_lines.specs.declared.item.Item.{Item}
 use Rattle.checker_laws.specs.End.{fine, faulty}
 use Rattle.checker_laws.specs.Branches.{IsBranchFault, IsNextTake, behind}
 use Rattle.checker_laws.specs.Leaves.{LeafEnds}
-use Rattle.checker_laws.specs.Cost.{AreSoMany, LeafLooks, Both, Where, TreeLooks, TakesLook}
+use Rattle.checker_laws.specs.Cost.{IsSetCount, LeafLooks, Both, Where, TreeLooks, TakesLook}
 use Rattle.checker_laws.specs.Work.{Open, a_tree, some_takes, WorkEnds}
 use Rattle.checker_laws.specs.WorkCost.{WorkLooks}
 use Rattle.checker_laws.proofs.Work.{lines_carry}
@@ -32,10 +32,10 @@ leaf_first last p round s more n l = (l.0, l.2, omega (arith, l.4))
 
 -- the sets of a branch are no more than all that is left looks through
 branch_first : (county : ℕ) (limit : Option ℕ) (takes : Takes) (raised : Tree) (p : Problem) (round : Round) (s : State) (more : List Open) (n : ℕ) → NamesLimit round.format limit → CanBranch round s county (limit_of round limit)
-    → WorkLooks (a_tree (branch county limit takes raised) s ∷ more) p round n → (m : ℕ) × AreSoMany round.order (IsSetAt p round.order s county (limit_of round limit)) m × (m ≤ n)
+    → WorkLooks (a_tree (branch county limit takes raised) s ∷ more) p round n → (m : ℕ) × IsSetCount round.order (IsSetAt p round.order s county (limit_of round limit)) m × (m ≤ n)
 branch_first county limit takes raised p round s more n names can l =
     let fine = NamesLimit round.format limit × CanBranch round s county (limit_of round limit) in
-    let looked = AreSoMany round.order (IsSetAt p round.order s county (limit_of round limit)) in
+    let looked = IsSetCount round.order (IsSetAt p round.order s county (limit_of round limit)) in
     let inner : ℕ → Type 0 = λ z. (gs : List (List ℕ)) × AreGroupsAt p round s county (limit_of round limit) gs
     × Both (TakesLook takes p round s gs) (Where ((groups_of takes ≡ gs) × EachProves takes p round s) (TreeLooks raised p round (raise county (limit_of round limit) s))) z in
     let i = where_fine fine (Both looked inner) l.0 (names, can) l.2 in
@@ -59,14 +59,14 @@ leaf_reaches p round s last old mid new rest more x (Err (stop.Text f)) took lim
 leaf_reaches p round s last old mid new rest more x (Err stop.Unspelled) took limit h = h
 leaf_reaches p round s last old mid new rest more x (Err stop.Budget) took limit h = λ n l.
     let y = leaf_first last p round s more n l in
-    let size : length old.course.items ≡ suc (length mid.course.items) = ap (λ c. length c.items) took.0 in
+    let size : length old.reading.items ≡ suc (length mid.reading.items) = ap (λ c. length c.items) took.0 in
     omega (arith, h y.0 y.1, y.2, took.2, limit, size)
 leaf_reaches p round s last old mid new rest more x (Err stop.Refused) took limit h = tt
 
 -- a branch that can stand, whose groups are listed
 pub branch_reaches : (p : Problem) (round : Round) (s : State) (county : ℕ) (limit : Option ℕ) (takes : Takes) (raised : Tree) (groups : List (List ℕ)) (more : List Open) (old mid : FeedValue) (used : ℕ) (x : Item) → TookLine old (Ok x) mid
     → NamesLimit round.format limit → CanBranch round s county (limit_of round limit) → AreGroupsAt p round s county (limit_of round limit) groups
-    → ((m : ℕ) → AreSoMany round.order (IsSetAt p round.order s county (limit_of round limit)) m → used ≤ mid.used + 2 * m)
+    → ((m : ℕ) → IsSetCount round.order (IsSetAt p round.order s county (limit_of round limit)) m → used ≤ mid.used + 2 * m)
     → Reaches p round old (record mid { used = used }) (a_tree (branch county limit takes raised) s ∷ more) (some_takes takes s groups ∷ a_tree raised (raise county (limit_of round limit) s) ∷ more)
 branch_reaches p round s county limit takes raised groups more old mid used x took names can are looks = record {
   ends = λ end e. lines_carry.branch_fine county limit takes raised p round s groups more (old.line + 1) end names can are (subst (λ n. WorkEnds (some_takes takes s groups ∷ a_tree raised (raise county (limit_of round limit) s) ∷ more) p round (n + 1) end) took.1 e);
@@ -77,9 +77,9 @@ branch_reaches p round s county limit takes raised groups more old mid used x to
 
 -- the judging of a branch's line stopped
 pub branch_halts : (p : Problem) (round : Round) (s : State) (county : ℕ) (limit : Option ℕ) (takes : Takes) (raised : Tree) (more : List Open) (old mid : FeedValue) (rest : List Item) (x : Item) (st : LineStop) (found : Halt) → TookLine old (Ok x) mid → mid.limit ≡ old.limit
-    → NamesLimit round.format limit → old.course.items ≡ items_of_tree (branch county limit takes raised) ++ rest
+    → NamesLimit round.format limit → old.reading.items ≡ items_of_tree (branch county limit takes raised) ++ rest
     → StopsAt st (IsBranchFault round s county (limit_of round limit)) (NamesLimit round.format limit → ⊥)
-    → (st ≡ line_stop.StepLimit → CanBranch round s county (limit_of round limit) × ((m : ℕ) → AreSoMany round.order (IsSetAt p round.order s county (limit_of round limit)) m → mid.limit ≤ mid.used + 2 * m))
+    → (st ≡ line_stop.StepLimit → CanBranch round s county (limit_of round limit) × ((m : ℕ) → IsSetCount round.order (IsSetAt p round.order s county (limit_of round limit)) m → mid.limit ≤ mid.used + 2 * m))
     → IsStopAt mid.line st found → Halts p round old (a_tree (branch county limit takes raised) s ∷ more) rest found
 branch_halts p round s county limit takes raised more old mid rest x (line_stop.Fault f) found took same names items stops looks at =
     subst (Halts p round old (a_tree (branch county limit takes raised) s ∷ more) rest) (sym at)
@@ -90,7 +90,7 @@ branch_halts p round s county limit takes raised more old mid rest x line_stop.S
     (λ n l.
     let k = looks refl in
     let y = branch_first county limit takes raised p round s more n names k.0 l in
-    let size : length old.course.items ≡ length (items_of_tree (branch county limit takes raised)) + length rest = ap length items ∙ length-append (items_of_tree (branch county limit takes raised)) rest in
+    let size : length old.reading.items ≡ length (items_of_tree (branch county limit takes raised)) + length rest = ap length items ∙ length-append (items_of_tree (branch county limit takes raised)) rest in
     omega (arith, k.1 y.0 y.1, y.2, took.2, same, size))
 branch_halts p round s county limit takes raised more old mid rest x line_stop.Memory found took same names items stops looks at =
     subst (Halts p round old (a_tree (branch county limit takes raised) s ∷ more) rest) (sym at) tt

@@ -1,6 +1,6 @@
--- The head of a certificate, and the allowance behind it, read one after the other.
+-- The head of a certificate, and the tolerance behind it, read one after the other.
 use Rattle.std.proofs.Common.{◌≡◌, List, [], ◌∷◌, ◌++◌, Option, Some, None, Err}
-use Rattle.county_codes.specs.declared.window.Window.{Window}
+use Rattle.county_codes.specs.declared.tolerance.Tolerance.{Tolerance}
 use Rattle.certificate_data.specs.declared.format.Format.{Format}
 use Rattle.certificate_lines.specs.declared.item.Version.{Version}
 use Rattle.certificate_lines.specs.declared.item.Version.TheVariants.{One, Two}
@@ -26,10 +26,10 @@ abbrev head : Format × Version → Item
 head h = item.Head h.0 h.1
 
 -- the reading stopped at the head
-pub head_stops : {X : Type 0} (Gave : X → Type 0) (format : Format) (window : Option Window) (rest : List Item) (old new : FeedValue) (s : Halt) → TookForm {Y = Format × Version} head (λ h. h) old (Err s) new
-    → old.course.items ≡ items_of_head format window ++ rest → AreTaken Gave (items_of_head format window) rest old (Err s) new
+pub head_stops : {X : Type 0} (Gave : X → Type 0) (format : Format) (tolerance : Option Tolerance) (rest : List Item) (old new : FeedValue) (s : Halt) → TookForm {Y = Format × Version} head (λ h. h) old (Err s) new
+    → old.reading.items ≡ items_of_head format tolerance ++ rest → AreTaken Gave (items_of_head format tolerance) rest old (Err s) new
 head_stops Gave format None rest old new s took items =
     stops_alike (λ h. head h ≡ head (format, One)) Gave (item.Head format One ∷ []) rest old new s (form_taken head (λ h. h) (format, One) rest old new (Err s) took items)
-head_stops Gave format (Some window) rest old new s took items =
-    taken_stop (λ h. head h ≡ head (format, Two)) Gave (item.Head format Two ∷ []) (item.Within window ∷ []) (item.Within window ∷ rest) rest old new s
-    (form_taken head (λ h. h) (format, Two) (item.Within window ∷ rest) old new (Err s) took items)
+head_stops Gave format (Some tolerance) rest old new s took items =
+    taken_stop (λ h. head h ≡ head (format, Two)) Gave (item.Head format Two ∷ []) (item.Within tolerance ∷ []) (item.Within tolerance ∷ rest) rest old new s
+    (form_taken head (λ h. h) (format, Two) (item.Within tolerance ∷ rest) old new (Err s) took items)

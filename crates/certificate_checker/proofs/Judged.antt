@@ -13,7 +13,7 @@ use Rattle.certificate_lines.specs.declared.item.Wanted.TheVariants as want
 use Rattle.certificate_lines.specs.declared.item.Item.TheVariants as item
 use Rattle.certificate_data.specs.TreeValue.{Certificate}
 use Rattle.certificate_text.specs.Trees.{items_of_head, items_of_target, items_of_tree, items_of_certificate}
-use Rattle.checker_laws.specs.Lines.{window_line, target_lines}
+use Rattle.checker_laws.specs.Lines.{tolerance_line, target_lines}
 use Rattle.checker_laws.specs.Cost.{CertificateCosts}
 use Rattle.checker_laws.proofs.Lengths.{head_length, target_length, certificate_length}
 use Rattle.certificate_checker.specs.ReadableTrees.{IsReadable}
@@ -26,12 +26,12 @@ use Rattle.certificate_checker.proofs.ReadableTexts.{readable_of_fits}
 use Rattle.certificate_checker.proofs.Taken.{form_taken}
 
 -- the lines in front of a tree
-round_lines : (c : Certificate) → length (round_items c) ≡ window_line c.round.window + 3 + target_lines c.round.target
-round_lines c = omega (arith, target_length c.round.target, head_length c.round.format c.round.window, length-append (items_of_head c.round.format c.round.window) (item.Order c.round.order ∷ item.Limit c.round.limit ∷ items_of_target c.round.target))
+round_lines : (c : Certificate) → length (round_items c) ≡ tolerance_line c.round.tolerance + 3 + target_lines c.round.target
+round_lines c = omega (arith, target_length c.round.target, head_length c.round.format c.round.tolerance, length-append (items_of_head c.round.format c.round.tolerance) (item.Order c.round.order ∷ item.Limit c.round.limit ∷ items_of_target c.round.target))
 
 -- the items of a certificate are those of its round and those behind
 pub items_split : (c : Certificate) → items_of_certificate c ≡ round_items c ++ (items_of_tree c.tree ++ item.End ∷ [])
-items_split c = sym (append_assoc (items_of_head c.round.format c.round.window) (item.Order c.round.order ∷ item.Limit c.round.limit ∷ items_of_target c.round.target) (items_of_tree c.tree ++ item.End ∷ []))
+items_split c = sym (append_assoc (items_of_head c.round.format c.round.tolerance) (item.Order c.round.order ∷ item.Limit c.round.limit ∷ items_of_target c.round.target) (items_of_tree c.tree ++ item.End ∷ []))
 
 -- the lines of a certificate
 all_lines : (c : Certificate) → length (items_of_certificate c) ≡ length (round_items c) + (length (items_of_tree c.tree) + 1)
@@ -41,9 +41,9 @@ all_lines c = ap length (items_split c) ∙ length-append (round_items c) (items
 abbrev pub JudgesRound : Problem → Round → FeedValue → Result (Unit {0}) Halt → FeedValue → Type 0
 JudgesRound p round old r new =
     (tree : Tree) (rest : List Item)
-    → old.line ≡ window_line round.window + 3 + target_lines round.target
+    → old.line ≡ tolerance_line round.tolerance + 3 + target_lines round.target
     → IsReadable round.format tree
-    → old.course.items ≡ items_of_tree tree ++ rest
+    → old.reading.items ≡ items_of_tree tree ++ rest
     → IsRoundJudged p round tree rest old r new
 
 module _ (p : Problem) (c : Certificate) (old : FeedValue) (none_used : old.used ≡ 0) where
@@ -66,7 +66,7 @@ module _ (p : Problem) (c : Certificate) (old : FeedValue) (none_used : old.used
     -- the tree behind the round is readable, and begins on the line that is next
     tree_judged : (r : Result (Unit {0}) Halt) (new : FeedValue) → JudgesRound p (round_of held) mid r new → IsRoundJudged p (round_of held) c.tree (item.End ∷ []) mid r new
     tree_judged r new judges =
-        judges c.tree (item.End ∷ []) (omega (arith, taken.2, start, round_lines c, ap (λ x. window_line x.window) same, ap (λ x. target_lines x.target) same))
+        judges c.tree (item.End ∷ []) (omega (arith, taken.2, start, round_lines c, ap (λ x. tolerance_line x.tolerance) same, ap (λ x. target_lines x.target) same))
         (subst (λ x. IsReadable x.format c.tree) (sym same) (readable_of_fits c fits)) taken.1
 
     pub round_off : (new : FeedValue) (s : Halt) → JudgesRound p (round_of held) mid (Err s) new → IsCertificateJudged p c old.limit (Err s)

@@ -6,7 +6,7 @@ use Rattle.certificate_data.specs.Round.{Round}
 use Rattle.certificate_laws.specs.State.{State}
 use Rattle.certificate_data.specs.Tree.{Allowance}
 use Rattle.certificate_data.specs.TreeValue.{allowance_of, declared_allowance}
-use Rattle.certificate_lines.specs.Courses.{first}
+use Rattle.certificate_lines.specs.ItemReadings.{first}
 use Rattle.certificate_data.specs.declared.allowance.Allowance.{Allowance as DeclaredAllowance}
 use Rattle.certificate_lines.specs.declared.item.Item.{Item}
 use Rattle.certificate_lines.specs.declared.item.Item.TheVariants.{Allows}
@@ -35,21 +35,21 @@ same_line b a xs ys e =
     (sym (ap allowance_of same) ∙ allowance_same b, same, cc)
 
 pub line_ok : (p : Problem) (round : Round) (s : State) (wanted : ℕ → ℕ) (i used : ℕ) (lines : List Allowance) (rest : List Item) (old mid new : FeedValue) (a : DeclaredAllowance) (allowed : Allowed)
-    → old.course ≡ first (Allows a) mid.course → old.course.items ≡ line_items lines ++ rest → new.course ≡ mid.course → new.line ≡ old.line + 1 → IsAllowed round.format p s wanted i used (allowance_of a) allowed
+    → old.reading ≡ first (Allows a) mid.reading → old.reading.items ≡ line_items lines ++ rest → new.reading ≡ mid.reading → new.line ≡ old.line + 1 → IsAllowed round.format p s wanted i used (allowance_of a) allowed
     → ((m : ℕ) → LineLooks (allowance_of a) p round s i m → new.used ≤ old.used + 1 + 2 * m) → IsLineJudged p round s wanted i used lines rest old (Ok allowed) new
 line_ok p round s wanted i used [] rest old mid new a allowed took items same line is looks = tt
 line_ok p round s wanted i used (b ∷ others) rest old mid new a allowed took items same line is looks =
-    let e : Allows a ∷ mid.course.items ≡ Allows (declared_allowance b) ∷ (line_items others ++ rest) = sym (ap (λ c. c.items) took) ∙ items in
-    let v = same_line b a mid.course.items (line_items others ++ rest) e in
+    let e : Allows a ∷ mid.reading.items ≡ Allows (declared_allowance b) ∷ (line_items others ++ rest) = sym (ap (λ c. c.items) took) ∙ items in
+    let v = same_line b a mid.reading.items (line_items others ++ rest) e in
     (ap (λ c. c.items) same ∙ v.2, line, subst (λ x. IsAllowed round.format p s wanted i used x allowed) v.0 is, λ m l. looks m (subst (λ x. LineLooks x p round s i m) (sym v.0) l))
 
 pub line_stop_at : (p : Problem) (round : Round) (s : State) (wanted : ℕ → ℕ) (i used : ℕ) (lines : List Allowance) (rest : List Item) (old mid new : FeedValue) (a : DeclaredAllowance) (st : LineStop) (found : Halt)
-    → old.course ≡ first (Allows a) mid.course → old.course.items ≡ line_items lines ++ rest → AllowancesAreSpelled lines → IsStopAt (old.line + 1) st found → StopsAt st (IsAllowanceFault round.format p s wanted i used (allowance_of a)) (AllowanceIsSpelled a → ⊥)
+    → old.reading ≡ first (Allows a) mid.reading → old.reading.items ≡ line_items lines ++ rest → AllowancesAreSpelled lines → IsStopAt (old.line + 1) st found → StopsAt st (IsAllowanceFault round.format p s wanted i used (allowance_of a)) (AllowanceIsSpelled a → ⊥)
     → (st ≡ line_stop.StepLimit → (m : ℕ) → LineLooks (allowance_of a) p round s i m → old.limit ≤ old.used + 1 + 2 * m) → IsLineJudged p round s wanted i used lines rest old (Err found) new
 line_stop_at p round s wanted i used [] rest old mid new a st found took items spelled at stops looks = tt
 line_stop_at p round s wanted i used (b ∷ others) rest old mid new a st found took items spelled at stops looks =
-    let e : Allows a ∷ mid.course.items ≡ Allows (declared_allowance b) ∷ (line_items others ++ rest) = sym (ap (λ c. c.items) took) ∙ items in
-    let v = same_line b a mid.course.items (line_items others ++ rest) e in
+    let e : Allows a ∷ mid.reading.items ≡ Allows (declared_allowance b) ∷ (line_items others ++ rest) = sym (ap (λ c. c.items) took) ∙ items in
+    let v = same_line b a mid.reading.items (line_items others ++ rest) e in
     by_stop st found at stops looks v.0 (subst AllowanceIsSpelled v.1 spelled.0)
   where
     by_stop : (st : LineStop) (found : Halt) → IsStopAt (old.line + 1) st found → StopsAt st (IsAllowanceFault round.format p s wanted i used (allowance_of a)) (AllowanceIsSpelled a → ⊥)
@@ -60,7 +60,7 @@ line_stop_at p round s wanted i used (b ∷ others) rest old mid new a st found 
     by_stop line_stop.Memory found at stops looks same is = subst (λ x. IsLineJudged p round s wanted i used (b ∷ others) rest old (Err x) new) (sym at) tt
 
 pub line_judged : (p : Problem) (round : Round) (s : State) (wanted : ℕ → ℕ) (i used : ℕ) (lines : List Allowance) (rest : List Item) (old mid new : FeedValue) (a : DeclaredAllowance) (judged : Result Allowed LineStop) (r : Result Allowed Halt)
-    → TookLine old (Ok (Allows a)) mid → mid.limit ≡ old.limit → old.course.items ≡ line_items lines ++ rest → new.course ≡ mid.course → new.line ≡ mid.line → AllowancesAreSpelled lines
+    → TookLine old (Ok (Allows a)) mid → mid.limit ≡ old.limit → old.reading.items ≡ line_items lines ++ rest → new.reading ≡ mid.reading → new.line ≡ mid.line → AllowancesAreSpelled lines
     → MatchResult judged (IsAllowed round.format p s wanted i used (allowance_of a)) (λ st. StopsAt st (IsAllowanceFault round.format p s wanted i used (allowance_of a)) (AllowanceIsSpelled a → ⊥))
     → IfOk judged (λ _. (m : ℕ) → LineLooks (allowance_of a) p round s i m → new.used ≤ mid.used + 2 * m)
     → (IsErrOf judged line_stop.StepLimit → (m : ℕ) → LineLooks (allowance_of a) p round s i m → mid.limit ≤ mid.used + 2 * m)

@@ -37,7 +37,7 @@ readable_of_fits c f = tree_readable c.round.format c.tree (formed_of_fits c f)
 behind_head : (c : Certificate) → AllFit (want.Head ∷ []) (items_of_certificate c)
     → AllFit (want.Order c.round.format ∷ []) (item.Order c.round.order ∷ item.Limit c.round.limit ∷ (items_of_target c.round.target ++ (items_of_tree c.tree ++ item.End ∷ [])))
 behind_head c f =
-    head_over c.round.format c.round.window (item.Order c.round.order ∷ item.Limit c.round.limit ∷ (items_of_target c.round.target ++ (items_of_tree c.tree ++ item.End ∷ []))) f
+    head_over c.round.format c.round.tolerance (item.Order c.round.order ∷ item.Limit c.round.limit ∷ (items_of_target c.round.target ++ (items_of_tree c.tree ++ item.End ∷ []))) f
 
 pub limit_of_fits : (c : Certificate) → AllFit (want.Head ∷ []) (items_of_certificate c) → c.round.limit ≤ most_counties
 limit_of_fits c f = (behind_head c f).1.0

@@ -15,11 +15,11 @@ use Rattle.certificate_checker.proofs.Taken.{form_taken}
 pub record GroupsLeft (groups : List Group) (rest : List Item) (read : List Group) (old now : FeedValue) : Type 0 where
   pub later : List Group
   pub all : groups ≡ read ++ later
-  pub items : now.course.items ≡ map item.Grouped later ++ rest
+  pub items : now.reading.items ≡ map item.Grouped later ++ rest
   pub line : now.line ≡ old.line + length read
   pub used : now.used ≡ old.used + length read
 
-pub groups_first : (groups : List Group) (rest : List Item) (old : FeedValue) → old.course.items ≡ map item.Grouped groups ++ rest → GroupsLeft groups rest [] old old
+pub groups_first : (groups : List Group) (rest : List Item) (old : FeedValue) → old.reading.items ≡ map item.Grouped groups ++ rest → GroupsLeft groups rest [] old old
 groups_first groups rest old items = record { later = groups; all = refl; items = items; line = omega arith; used = omega arith }
 
 -- one more is to come
@@ -32,7 +32,7 @@ pub group_on : (groups : List Group) (rest : List Item) (read : List Group) (g :
 group_on groups rest read g old now new left less took =
     one_later (GroupsLeft groups rest (read ++ g ∷ []) old new) groups read left.later left.all less
     (λ first others is.
-    let e : now.course.items ≡ item.Grouped first ∷ (map item.Grouped others ++ rest) = left.items ∙ ap (λ l. map item.Grouped l ++ rest) is in
+    let e : now.reading.items ≡ item.Grouped first ∷ (map item.Grouped others ++ rest) = left.items ∙ ap (λ l. map item.Grouped l ++ rest) is in
     let t = form_taken item.Grouped (λ x. x) first (map item.Grouped others ++ rest) now new (Ok g) took e in
     let same : g ≡ first = cc (t.0) in
     record {
@@ -48,7 +48,7 @@ pub group_stops : {X : Type 0} (Gave : X → Type 0) (groups : List Group) (rest
 group_stops Gave groups rest read old now new s left less limit took =
     one_later (AreTaken Gave (map item.Grouped groups) rest old (Err s) new) groups read left.later left.all less
     (λ first others is.
-    let e : now.course.items ≡ item.Grouped first ∷ (map item.Grouped others ++ rest) = left.items ∙ ap (λ l. map item.Grouped l ++ rest) is in
+    let e : now.reading.items ≡ item.Grouped first ∷ (map item.Grouped others ++ rest) = left.items ∙ ap (λ l. map item.Grouped l ++ rest) is in
     by_stop (item.Grouped first) (map item.Grouped others ++ rest) s (form_taken {Y = Group} item.Grouped (λ x. x) first (map item.Grouped others ++ rest) now new (Err s) took e))
   where
     by_stop : (one : Item) (items : List Item) (s : Halt) → AreTaken (λ (g : Group). item.Grouped g ≡ one) (one ∷ []) items now (Err s) new → AreTaken Gave (map item.Grouped groups) rest old (Err s) new

@@ -9,10 +9,10 @@ use Rattle.certificate_checker.specs.declared.feed.Halt.{Halt}
 use Rattle.certificate_checker.specs.declared.feed.Halt.TheVariants as stop
 
 -- a line of one form, which is next
-pub form_taken : {X Y : Type 0} (wrap : X → Item) (view : Y → X) (x : X) (xs : List Item) (old new : FeedValue) (r : Result Y Halt) → TookForm wrap view old r new → old.course.items ≡ wrap x ∷ xs
+pub form_taken : {X Y : Type 0} (wrap : X → Item) (view : Y → X) (x : X) (xs : List Item) (old new : FeedValue) (r : Result Y Halt) → TookForm wrap view old r new → old.reading.items ≡ wrap x ∷ xs
     → AreTaken (λ y. wrap (view y) ≡ wrap x) (wrap x ∷ []) xs old r new
 form_taken wrap view x xs old new (Ok y) took items =
-    let e : wrap (view y) ∷ new.course.items ≡ wrap x ∷ xs = sym (ap (λ c. c.items) took.0) ∙ items in
+    let e : wrap (view y) ∷ new.reading.items ≡ wrap x ∷ xs = sym (ap (λ c. c.items) took.0) ∙ items in
     (cc, cc, took.1, took.2)
 form_taken wrap view x xs old new (Err stop.Unspelled) took items = absurd (took x xs items)
 form_taken wrap view x xs old new (Err stop.Budget) took items = omega (arith, took)

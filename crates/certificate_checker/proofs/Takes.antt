@@ -28,12 +28,12 @@ use Rattle.certificate_checker.proofs.Branching.{take_reaches, mark_reaches}
 
 -- no line of the form was read, where the next one is of it
 pub form_halts : (X Y : Type 0) (wrap : X → Item) (view : Y → X) (p : Problem) (round : Round) (work : List Open) (rest : List Item) (cur mid : FeedValue) (st : Halt)
-    → ((P : Type 0) → ((x : X) (xs : List Item) → cur.course.items ≡ wrap x ∷ xs → P) → P)
-    → length rest ≤ length cur.course.items
+    → ((P : Type 0) → ((x : X) (xs : List Item) → cur.reading.items ≡ wrap x ∷ xs → P) → P)
+    → length rest ≤ length cur.reading.items
     → TookForm wrap view cur (Err st) mid → Halts p round cur work rest st
 form_halts X Y wrap view p round work rest cur mid (stop.Fault f l) begins few h = absurd h
 form_halts X Y wrap view p round work rest cur mid (stop.Text f) begins few h = begins ⊥ (λ x xs e.
-    let none : cur.course.items ≡ [] = ap (λ c. c.items) h in
+    let none : cur.reading.items ≡ [] = ap (λ c. c.items) h in
     let both : [] ≡ wrap x ∷ xs = sym none ∙ e in
     cc)
 form_halts X Y wrap view p round work rest cur mid stop.Unspelled begins few h = begins ⊥ (λ x xs e. h x xs e)
@@ -51,7 +51,7 @@ abbrev pub TakesLeft : Format → Problem → Round → State → List (List ℕ
 TakesLeft format p round s groups rest more old cur before =
     (others : Takes)
     × AreReadable format others
-    × (cur.course.items ≡ items_to_mark others ++ rest)
+    × (cur.reading.items ≡ items_to_mark others ++ rest)
     × Reaches p round old cur before (some_takes others s groups ∷ more)
 
 -- the tree that is next is judged at this state
@@ -59,25 +59,25 @@ abbrev pub TreeJudged : {X : Type 0} → Format → Problem → Round → State 
 TreeJudged format p round s old r new =
     (tree : Tree) (rest : List Item) (more : List Open)
     → IsReadable format tree
-    → old.course.items ≡ items_of_tree tree ++ rest
+    → old.reading.items ≡ items_of_tree tree ++ rest
     → IsJudged p round (a_tree tree s ∷ more) more rest old r new
 
 -- no line of takes was read
 pub takes_unread : (format : Format) (p : Problem) (round : Round) (s : State) (groups : List (List ℕ)) (rest : List Item) (more : List Open) (old cur mid : FeedValue) (before : List Open) (st : Halt)
     → TakesLeft format p round s groups rest more old cur before → Fed old cur → TookForm {Y = Option (List ℕ)} taken (λ o. o) cur (Err st) mid → Halts p round old before rest st
 takes_unread format p round s groups rest more old cur mid before st h fed took =
-    let few = rest_few (items_to_mark h.0) rest cur.course.items h.2 in
+    let few = rest_few (items_to_mark h.0) rest cur.reading.items h.2 in
     halts_back p round old cur before (some_takes h.0 s groups ∷ more) rest rest st h.3 fed (omega (arith))
     (form_halts (Option (List ℕ)) (Option (List ℕ)) taken (λ o. o) p round (some_takes h.0 s groups ∷ more) rest cur mid st (λ P k. takes_begin P h.0 rest (λ o xs e. k o xs (h.2 ∙ e))) few took)
 
 -- the take's line is the first of those left
 pub take_first : (format : Format) (p : Problem) (round : Round) (s : State) (codes : List ℕ) (groups : List (List ℕ)) (rest : List Item) (more : List Open) (old cur mid : FeedValue) (before : List Open)
     → TakesLeft format p round s groups rest more old cur before → TookLine cur (Ok (item.Takes codes)) mid
-    → (tree : Tree) × (others : Takes) × AreReadable format (take codes tree others) × (mid.course.items ≡ items_of_tree tree ++ (items_to_mark others ++ rest))
+    → (tree : Tree) × (others : Takes) × AreReadable format (take codes tree others) × (mid.reading.items ≡ items_of_tree tree ++ (items_to_mark others ++ rest))
     × Reaches p round old cur before (some_takes (take codes tree others) s groups ∷ more)
 take_first format p round s codes groups rest more old cur mid before h took =
-    let e : item.Takes codes ∷ mid.course.items ≡ items_to_mark h.0 ++ rest = sym (ap (λ c. c.items) took.0) ∙ h.2 in
-    let v = view_take h.0 codes rest mid.course.items e in
+    let e : item.Takes codes ∷ mid.reading.items ≡ items_to_mark h.0 ++ rest = sym (ap (λ c. c.items) took.0) ∙ h.2 in
+    let v = view_take h.0 codes rest mid.reading.items e in
     (v.0, v.1, subst (AreReadable format) v.2 h.1, v.3, subst (λ t. Reaches p round old cur before (some_takes t s groups ∷ more)) v.2 h.3)
 
 -- the judging of the take stopped
@@ -134,8 +134,8 @@ take_off format p round s closed codes groups rest more old cur mid new before s
 pub mark_on : (format : Format) (p : Problem) (round : Round) (s : State) (groups : List (List ℕ)) (rest : List Item) (more : List Open) (old cur mid : FeedValue) (before : List Open)
     → TakesLeft format p round s groups rest more old cur before → TookLine cur (Ok item.Mark) mid → groups ≡ [] → IsJudged {X = Unit {0}} p round before more rest old (Ok tt) mid
 mark_on format p round s groups rest more old cur mid before h took none =
-    let e : item.Mark ∷ mid.course.items ≡ items_to_mark h.0 ++ rest = sym (ap (λ c. c.items) took.0) ∙ h.2 in
-    let v = view_mark h.0 rest mid.course.items e in
+    let e : item.Mark ∷ mid.reading.items ≡ items_to_mark h.0 ++ rest = sym (ap (λ c. c.items) took.0) ∙ h.2 in
+    let v = view_mark h.0 rest mid.reading.items e in
     let r = subst (λ g. Reaches p round old cur before (some_takes no_take s g ∷ more)) none (subst (λ t. Reaches p round old cur before (some_takes t s groups ∷ more)) v.0 h.3) in
     (sym v.1, reaches_twice p round old cur mid before (some_takes no_take s [] ∷ more) more r (mark_reaches p round s more cur mid item.Mark took))
 
@@ -143,8 +143,8 @@ mark_on format p round s groups rest more old cur mid before h took none =
 pub mark_stops : (format : Format) (p : Problem) (round : Round) (s : State) (groups : List (List ℕ)) (rest : List Item) (more : List Open) (old cur mid : FeedValue) (before : List Open)
     → TakesLeft format p round s groups rest more old cur before → TookLine cur (Ok item.Mark) mid → groups ≢ [] → Halts p round old before rest (stop.Fault MissingGroup mid.line)
 mark_stops format p round s groups rest more old cur mid before h took some =
-    let e : item.Mark ∷ mid.course.items ≡ items_to_mark h.0 ++ rest = sym (ap (λ c. c.items) took.0) ∙ h.2 in
-    let v = view_mark h.0 rest mid.course.items e in
+    let e : item.Mark ∷ mid.reading.items ≡ items_to_mark h.0 ++ rest = sym (ap (λ c. c.items) took.0) ∙ h.2 in
+    let v = view_mark h.0 rest mid.reading.items e in
     let r = subst (λ t. Reaches p round old cur before (some_takes t s groups ∷ more)) v.0 h.3 in
     (fault.MissingGroup, refl, r.ends (faulty fault.MissingGroup mid.line) (subst (λ n. WorkEnds (some_takes no_take s groups ∷ more) p round (cur.line + 1) (faulty fault.MissingGroup n)) (sym took.1) (lines_carry.mark_fault p round s groups more (cur.line + 1) fault.MissingGroup (refl, some))))
 

@@ -7,7 +7,7 @@ use Rattle.certificate_data.specs.Round.{Round}
 use Rattle.certificate_laws.specs.State.{State}
 use Rattle.certificate_data.specs.Tree.{stuck, seats, bound, Tree, leaf, branch}
 use Rattle.certificate_data.specs.declared.format.Format.{Format}
-use Rattle.certificate_lines.specs.Courses.{tree_course}
+use Rattle.certificate_lines.specs.ItemReadings.{tree_reading}
 use Rattle.certificate_lines.specs.Fitting.{AllFit}
 use Rattle.certificate_lines.specs.declared.item.Item.{Item}
 use Rattle.certificate_lines.specs.declared.item.Wanted.TheVariants as want
@@ -46,15 +46,15 @@ some_line (leaf (bound lines)) = omega arith
 some_line (branch c limit takes raised) = omega arith
 
 module _ (p : Problem) (round : Round) (s : State) (tree : Tree) (old new : FeedValue) (line : old.line ≡ 0) (used : old.used ≡ 0) (numbers : AreTreeNumbers tree)
-    (course : old.course ≡ tree_course round.format (length round.order) (lines_of_tree tree)) (none : (tree_course round.format (length round.order) (lines_of_tree tree)).fault ≡ None) where
+    (reading : old.reading ≡ tree_reading round.format (length round.order) (lines_of_tree tree)) (none : (tree_reading round.format (length round.order) (lines_of_tree tree)).fault ≡ None) where
   spelled : IsSpelledTree round tree
   spelled = (spell.spelled round.format (length round.order) tree numbers none).0
 
-  items : old.course.items ≡ items_of_tree tree
-  items = ap (λ c. c.items) course ∙ (spell.spelled round.format (length round.order) tree numbers none).1
+  items : old.reading.items ≡ items_of_tree tree
+  items = ap (λ c. c.items) reading ∙ (spell.spelled round.format (length round.order) tree numbers none).1
 
   abbrev Judges : Result (Unit {0}) Halt → Type 0
-  Judges judged = (t : Tree) (rest : List Item) → IsReadable round.format t → old.course.items ≡ items_of_tree t ++ rest → IsJudged p round (a_tree t s ∷ []) [] rest old judged new
+  Judges judged = (t : Tree) (rest : List Item) → IsReadable round.format t → old.reading.items ≡ items_of_tree t ++ rest → IsJudged p round (a_tree t s ∷ []) [] rest old judged new
 
   judges : (judged : Result (Unit {0}) Halt) → Judges judged → IsJudged p round (a_tree tree s ∷ []) [] [] old judged new
   judges judged h = h tree [] (spelled_readable round.format (length round.order) (lines_of_tree tree) tree spelled) (items ∙ sym (append-nil (items_of_tree tree)))
@@ -75,7 +75,7 @@ module _ (p : Problem) (round : Round) (s : State) (tree : Tree) (old new : Feed
       let j = judges (Err stop.Budget) h in
       subst (λ r. IfOk r (IsTreeAnswer p round s tree old.limit)) (sym is)
       (λ cost costs.
-      let few = looks_alone p round tree s costs.0 costs.1 (old.limit + 0) (old.used + length old.course.items + 2 * costs.0) (λ m w same. omega (arith, j m w, same)) in
+      let few = looks_alone p round tree s costs.0 costs.1 (old.limit + 0) (old.used + length old.reading.items + 2 * costs.0) (λ m w same. omega (arith, j m w, same)) in
       omega (arith, few, used, costs.2, ap length items, tree_length tree, some_line tree))
   tree_said (Err stop.Refused) (Ok said) h is = absurd is
   tree_said (Err stop.Refused) (Err e) h is = tt

@@ -5,8 +5,8 @@ use Rattle.grouping_laws.specs.Problem.{Problem}
 use Rattle.grouping_laws.specs.Grouping.{IsBest, IsImpossible}
 use Rattle.field_lines.specs.Source.{Given}
 use Rattle.field_lines.specs.HeldBytes.{MayCome}
-use Rattle.certificate_lines.specs.Courses.{certificate_course}
-use Rattle.certificate_lines.specs.ItemsLeft.{ItemsLeft, Foresees, course_by}
+use Rattle.certificate_lines.specs.ItemReadings.{certificate_reading}
+use Rattle.certificate_lines.specs.ItemsLeft.{ItemsLeft, Foresees, reading_by}
 use Rattle.certificate_lines.specs.declared.fault.TextFault.{TextFault}
 use Rattle.std.specs.declared.alloc.AllocError.{AllocError}
 use Rattle.checker_laws.specs.Fault.{Fault}
@@ -46,7 +46,7 @@ IsCheckAnswer p text budget Budget = (cost : ℕ) → TextCosts p text cost → 
 
 -- how many lines of a text stand in front of its end, or of the first fault of its words
 abbrev pub lines_in_front : List ℕ → ℕ
-lines_in_front text = length (certificate_course text).items
+lines_in_front text = length (certificate_reading text).items
 
 -- An answer other than Budget comes only where the lines in front, with one more for the end or for the line at fault,
 -- are no more than the budget.
@@ -67,7 +67,7 @@ abbrev pub ChecksItems : Problem → ItemsLeft → Given → ℕ → Result Verd
 ChecksItems p left before budget result after =
     (all : List ℕ) → Foresees after all
     → Foresees before all
-    × ((text : List ℕ) → course_by left before all ≡ certificate_course text
+    × ((text : List ℕ) → reading_by left before all ≡ certificate_reading text
     → IfOk result (IsBudgetedAnswer p text budget))
 
 -- The source gave bytes meanwhile. They have this verdict, with whatever bytes may come later: with none, if the source

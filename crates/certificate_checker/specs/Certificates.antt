@@ -5,7 +5,7 @@ use Rattle.grouping_laws.specs.Problem.{Problem}
 use Rattle.grouping_laws.specs.Grouping.{Grouping, counts, sets_of}
 use Rattle.county_problem.specs.CountList.{count_at}
 use Rattle.county_codes.specs.declared.group.Grouping.{Grouping as GroupingHeld}
-use Rattle.grouping_laws.specs.Allowance.{HasWindow}
+use Rattle.grouping_laws.specs.Tolerance.{HasTolerance}
 use Rattle.grouping_laws.specs.GroupsFrom.{IsOrder}
 use Rattle.certificate_data.specs.Round.{Round}
 use Rattle.certificate_data.specs.RoundValue.{target_of}
@@ -32,7 +32,7 @@ use Rattle.certificate_checker.specs.declared.feed.Halt.TheVariants as stop
 abbrev pub AreTaken : {X : Type 0} → (X → Type 0) → List Item → List Item → FeedValue → Result X Halt → FeedValue
     → Type 0
 AreTaken Gave xs rest old (Ok x) new =
-    Gave x × (new.course.items ≡ rest) × (new.line ≡ old.line + length xs) × (new.used ≡ old.used + length xs)
+    Gave x × (new.reading.items ≡ rest) × (new.line ≡ old.line + length xs) × (new.used ≡ old.used + length xs)
 AreTaken Gave xs rest old (Err stop.Budget) new = old.limit < old.used + length xs
 AreTaken Gave xs rest old (Err stop.Refused) new = ⊤
 AreTaken Gave xs rest old (Err stop.Unspelled) new = ⊥
@@ -42,7 +42,7 @@ AreTaken Gave xs rest old (Err (stop.Fault fault line)) new = ⊥
 -- the items of a certificate in front of its tree
 abbrev pub round_items : Certificate → List Item
 round_items c =
-    items_of_head c.round.format c.round.window
+    items_of_head c.round.format c.round.tolerance
     ++ (item.Order c.round.order ∷ item.Limit c.round.limit ∷ items_of_target c.round.target)
 
 -- the judging of a line stopped at its fault
@@ -69,23 +69,23 @@ AreCounts None (Some list) = ⊥
 AreCounts (Some target) None = ⊥
 AreCounts (Some target) (Some list) = (i : ℕ) → count_at list i ≡ counts (sets_of target) i
 
--- how many sets are looked through for a tree at the beginning, where allowance, order, limit and target are fine
+-- how many sets are looked through for a tree at the beginning, where tolerance, order, limit and target are fine
 abbrev pub FirstLooks : Problem → Round → Tree → ℕ → Type 0
 FirstLooks p round tree n =
-    Where (HasWindow p round.window × IsOrder p round.order × IsLargeEnough round.limit round.target
+    Where (HasTolerance p round.tolerance × IsOrder p round.order × IsLargeEnough round.limit round.target
     × IsLawfulTarget p round.target) (TreeLooks tree p round (empty_state p)) n
 
--- Behind allowance, order, limit and target a tree was judged, up to the rest behind it; or the judging stopped at the
+-- Behind tolerance, order, limit and target a tree was judged, up to the rest behind it; or the judging stopped at the
 -- first fault, or where the limit of steps is not enough.
 abbrev pub IsRoundJudged : Problem → Round → Tree → List Item → FeedValue → Result (Unit {0}) Halt → FeedValue → Type 0
 IsRoundJudged p round tree rest old (Ok done) new =
-    (rest ≡ new.course.items)
+    (rest ≡ new.reading.items)
     × ((next : ℕ) × CertificateEnds p round tree (fine next))
     × ((n : ℕ) → FirstLooks p round tree n → new.used + old.line ≤ old.used + new.line + 2 * n)
 IsRoundJudged p round tree rest old (Err (stop.Fault fault line)) new =
     (named : Fault) × (fault_of fault ≡ Some named) × CertificateEnds p round tree (faulty named line)
 IsRoundJudged p round tree rest old (Err stop.Budget) new =
-    (n : ℕ) → FirstLooks p round tree n → old.limit + length rest ≤ old.used + length old.course.items + 2 * n
+    (n : ℕ) → FirstLooks p round tree n → old.limit + length rest ≤ old.used + length old.reading.items + 2 * n
 IsRoundJudged p round tree rest old (Err stop.Refused) new = ⊤
 IsRoundJudged p round tree rest old (Err stop.Unspelled) new = ⊥
 IsRoundJudged p round tree rest old (Err (stop.Text fault)) new = ⊥

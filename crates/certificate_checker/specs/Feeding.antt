@@ -5,9 +5,9 @@ use Rattle.grouping_laws.specs.Problem.{Problem}
 use Rattle.field_lines.specs.Source.{Given}
 use Rattle.certificate_data.specs.Round.{Round}
 use Rattle.certificate_data.specs.Tree.{Takes}
-use Rattle.certificate_lines.specs.Courses.{Unread, nothing, only_fault, first}
+use Rattle.certificate_lines.specs.ItemReadings.{Unread, nothing, only_fault, first}
 use Rattle.certificate_text.specs.Trees.{items_of_takes}
-use Rattle.certificate_lines.specs.ItemsLeft.{ItemsLeft, Foresees, course_by}
+use Rattle.certificate_lines.specs.ItemsLeft.{ItemsLeft, Foresees, reading_by}
 use Rattle.certificate_lines.specs.Rest.{IsUnread}
 use Rattle.certificate_lines.specs.declared.fault.TextFault.{TextFault}
 use Rattle.certificate_lines.specs.declared.item.Item.{Item}
@@ -23,14 +23,14 @@ use Rattle.certificate_checker.specs.declared.feed.Halt.TheVariants as stop
 
 -- what is to come, how many lines were read, and how many steps may be taken and were
 pub record FeedValue : Type 0 where
-  pub course : Unread
+  pub reading : Unread
   pub line : ℕ
   pub limit : ℕ
   pub used : ℕ
 
 -- a feed where this is to come
 abbrev pub feed_at : {S : Type 0} → Unread → Feed S → FeedValue
-feed_at course feed = record { course = course; line = feed.line; limit = feed.steps.limit; used = feed.steps.used }
+feed_at reading feed = record { reading = reading; line = feed.line; limit = feed.steps.limit; used = feed.steps.used }
 
 -- what is to come by the bytes that the source gives later, with the lines that were read and the steps
 pub record Stream : Type 0 where
@@ -52,7 +52,7 @@ stream_of left given feed from =
 
 -- the feed where the source gives this text in the end
 abbrev pub fed_by : Stream → List ℕ → FeedValue
-fed_by s all = record { course = course_by s.left s.given all; line = s.line; limit = s.limit; used = s.used }
+fed_by s all = record { reading = reading_by s.left s.given all; line = s.line; limit = s.limit; used = s.used }
 
 -- Whatever text the source may give in the end, this holds of the two feeds.
 abbrev pub ForEach : Stream → Stream → (FeedValue → FeedValue → Type 0) → Type 0
@@ -77,15 +77,15 @@ TakesStep old (Err found) new = ⊤
 
 -- Lines were read from the one to the other, each a step at least.
 pub record Fed (old new : FeedValue) : Type 0 where
-  pub fault : new.course.fault ≡ old.course.fault
+  pub fault : new.reading.fault ≡ old.reading.fault
   pub limit : new.limit ≡ old.limit
-  pub lines : new.line + length new.course.items ≡ old.line + length old.course.items
+  pub lines : new.line + length new.reading.items ≡ old.line + length old.reading.items
   pub later : old.line ≤ new.line
   pub counted : new.line + old.used ≤ new.used + old.line
 
 -- The first fault of the text was met. The lines in front of it were a step each at least, and one more was left.
 abbrev pub MetFault : FeedValue → TextFault → Type 0
-MetFault old fault = (old.course.fault ≡ Some fault) × (old.used + length old.course.items < old.limit)
+MetFault old fault = (old.reading.fault ≡ Some fault) × (old.used + length old.reading.items < old.limit)
 
 -- Lines were read from the one to the other, unless the text has a fault there or could not be read.
 abbrev pub IsFed : {X : Type 0} → FeedValue → Result X Halt → FeedValue → Type 0
@@ -110,7 +110,7 @@ Halts p round old work rest (stop.Fault fault line) =
 Halts p round old work rest stop.Unspelled = ⊥
 Halts p round old work rest (stop.Text fault) = ⊥
 Halts p round old work rest stop.Budget =
-    (n : ℕ) → WorkLooks work p round n → old.limit + length rest ≤ old.used + length old.course.items + 2 * n
+    (n : ℕ) → WorkLooks work p round n → old.limit + length rest ≤ old.used + length old.reading.items + 2 * n
 Halts p round old work rest stop.Refused = ⊤
 
 -- the lines of takes with their mark
@@ -120,10 +120,10 @@ items_to_mark takes = items_of_takes takes ++ Mark ∷ []
 -- A line was read; or there was none, or no step was left.
 abbrev pub TookLine : FeedValue → Result Item Halt → FeedValue → Type 0
 TookLine old (Ok item) new =
-    (old.course ≡ first item new.course) × (new.line ≡ old.line + 1) × (new.used ≡ old.used + 1)
-TookLine old (Err stop.Unspelled) new = old.course ≡ nothing
+    (old.reading ≡ first item new.reading) × (new.line ≡ old.line + 1) × (new.used ≡ old.used + 1)
+TookLine old (Err stop.Unspelled) new = old.reading ≡ nothing
 TookLine old (Err stop.Budget) new = old.used ≡ old.limit
-TookLine old (Err (stop.Text fault)) new = old.course ≡ only_fault fault
+TookLine old (Err (stop.Text fault)) new = old.reading ≡ only_fault fault
 TookLine old (Err (stop.Fault fault line)) new = ⊥
 TookLine old (Err stop.Refused) new = ⊤
 
@@ -142,9 +142,9 @@ Passes old (Err fault) new = (IsUnread fault → ⊥) → old ≡ only_fault fau
 -- All lines were read: the text has no fault, or this one, and a step was left for the end or for the line at fault; or
 -- there are as many lines as steps, where the end counts as one more.
 abbrev pub IsRestRead : FeedValue → Result (Unit {0}) Halt → Type 0
-IsRestRead old (Ok done) = (old.course.fault ≡ None) × (old.line + length old.course.items < old.limit)
+IsRestRead old (Ok done) = (old.reading.fault ≡ None) × (old.line + length old.reading.items < old.limit)
 IsRestRead old (Err (stop.Text fault)) =
-    (old.course.fault ≡ Some fault) × (old.line + length old.course.items < old.limit)
-IsRestRead old (Err stop.Budget) = old.limit ≤ old.line + length old.course.items
+    (old.reading.fault ≡ Some fault) × (old.line + length old.reading.items < old.limit)
+IsRestRead old (Err stop.Budget) = old.limit ≤ old.line + length old.reading.items
 IsRestRead old (Err stop.Refused) = ⊤
 IsRestRead old (Err _) = ⊥

@@ -13,7 +13,7 @@ use Rattle.certificate_laws.specs.Proving.{NamesLimit, limit_of}
 use Rattle.certificate_data.specs.TreeValue.{declared_allowance}
 use Rattle.certificate_text.specs.Trees.{items_of_tree}
 use Rattle.certificate_lines.specs.declared.item.Item.TheVariants.{Allows}
-use Rattle.certificate_lines.specs.Courses.{only_fault}
+use Rattle.certificate_lines.specs.ItemReadings.{only_fault}
 use Rattle.certificate_lines.specs.declared.item.Item.{Item}
 use Rattle.std.specs.Borrow.{Bor}
 use Rattle.county_codes.specs.Limits.{most_counties}
@@ -53,9 +53,9 @@ pub record IsCheckInput {C : Type 0} (places : ℕ) (test : C → ℕ → Bool) 
 -- A line of one form was read; or there was none, or one of another form, or no step was left.
 abbrev pub TookForm : {X Y : Type 0} → (X → Item) → (Y → X) → FeedValue → Result Y Halt → FeedValue → Type 0
 TookForm wrap view old (Ok y) new = TookLine old (Ok (wrap (view y))) new
-TookForm {X = X} wrap view old (Err stop.Unspelled) new = (x : X) (xs : List Item) → old.course.items ≡ wrap x ∷ xs → ⊥
+TookForm {X = X} wrap view old (Err stop.Unspelled) new = (x : X) (xs : List Item) → old.reading.items ≡ wrap x ∷ xs → ⊥
 TookForm wrap view old (Err stop.Budget) new = old.used ≡ old.limit
-TookForm wrap view old (Err (stop.Text fault)) new = old.course ≡ only_fault fault
+TookForm wrap view old (Err (stop.Text fault)) new = old.reading ≡ only_fault fault
 TookForm wrap view old (Err (stop.Fault fault line)) new = ⊥
 TookForm wrap view old (Err stop.Refused) new = ⊤
 
@@ -75,14 +75,14 @@ IsJudgedAt line _ _ = ⊥
 -- What is left was judged, up to the rest behind it and to what is left then; or the reading stopped in it.
 abbrev pub IsJudged : {X : Type 0} → Problem → Round → List Open → List Open → List Item → FeedValue → Result X Halt
     → FeedValue → Type 0
-IsJudged p round before after rest old (Ok done) new = (rest ≡ new.course.items) × Reaches p round old new before after
+IsJudged p round before after rest old (Ok done) new = (rest ≡ new.reading.items) × Reaches p round old new before after
 IsJudged p round before after rest old (Err found) new = Halts p round old before rest found
 
 -- A leaf was judged, whose first line was read last, up to the rest behind it; or the reading stopped in it.
 abbrev pub IsLeafJudged : {X : Type 0} → Problem → Round → State → Leaf → List Item → FeedValue → Result X Halt
     → FeedValue → Type 0
 IsLeafJudged p round s last rest old (Ok done) new =
-    (rest ≡ new.course.items)
+    (rest ≡ new.reading.items)
     × LeafEnds last p round s old.line (fine (new.line + 1))
     × ((n : ℕ) → LeafLooks last p round s n → new.used + old.line ≤ old.used + new.line + 2 * n)
 IsLeafJudged p round s last rest old (Err (stop.Fault fault line)) new =
@@ -90,13 +90,13 @@ IsLeafJudged p round s last rest old (Err (stop.Fault fault line)) new =
 IsLeafJudged p round s last rest old (Err stop.Unspelled) new = ⊥
 IsLeafJudged p round s last rest old (Err (stop.Text fault)) new = ⊥
 IsLeafJudged p round s last rest old (Err stop.Budget) new =
-    (n : ℕ) → LeafLooks last p round s n → old.limit + length rest ≤ old.used + length old.course.items + 2 * n
+    (n : ℕ) → LeafLooks last p round s n → old.limit + length rest ≤ old.used + length old.reading.items + 2 * n
 IsLeafJudged p round s last rest old (Err stop.Refused) new = ⊤
 
 -- a leaf of one line was judged, whose line was read last
 abbrev pub IsShortLeafJudged : Problem → Round → State → Leaf → ℕ → Result (Unit {0}) Halt → Type 0
 IsShortLeafJudged p round s last line result =
-    (feed : FeedValue) → feed.line ≡ line → IsLeafJudged p round s last feed.course.items feed result feed
+    (feed : FeedValue) → feed.line ≡ line → IsLeafJudged p round s last feed.reading.items feed result feed
 
 -- the items of lines of a bound leaf
 abbrev pub line_items : List Allowance → List Item
@@ -119,7 +119,7 @@ abbrev pub IsLineJudged : Problem → Round → State → (ℕ → ℕ) → ℕ 
     → Result Allowed Halt → FeedValue → Type 0
 IsLineJudged p round s wanted i used [] rest old result new = ⊤
 IsLineJudged p round s wanted i used (line ∷ lines) rest old (Ok allowed) new =
-    (new.course.items ≡ line_items lines ++ rest)
+    (new.reading.items ≡ line_items lines ++ rest)
     × (new.line ≡ old.line + 1)
     × IsAllowed round.format p s wanted i used line allowed
     × ((m : ℕ) → LineLooks line p round s i m → new.used ≤ old.used + 1 + 2 * m)
@@ -154,7 +154,7 @@ IsBranchRefused p round s county limit mid found =
     → TookLine old (Ok x) mid
     → mid.limit ≡ old.limit
     → NamesLimit round.format limit
-    → old.course.items ≡ items_of_tree (branch county limit takes raised) ++ rest
+    → old.reading.items ≡ items_of_tree (branch county limit takes raised) ++ rest
     → Halts p round old (a_tree (branch county limit takes raised) s ∷ more) rest found
 
 -- A branch's line was judged, which was read last: its takes are left then, of groups in these sets; or the judging

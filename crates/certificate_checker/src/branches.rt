@@ -8,7 +8,7 @@ ghost use Rattle.certificate_data.specs.RoundValue.{round_of};
 ghost use Rattle.certificate_laws.specs.{State.close, Proving.{limit_of, CanBranch}, Groups.IsGroupAt};
 ghost use Rattle.checker_laws.specs.Branches.{IsNextTake};
 ghost use Rattle.state_groups.specs.PlacedValues.{state_at, codes_of_sets, IsPlaced, IsClosable};
-ghost use Rattle.certificate_lines.specs.Courses.{Unread};
+ghost use Rattle.certificate_lines.specs.ItemReadings.{Unread};
 ghost use Rattle.certificate_checker.specs.{Feeding.{feed_at, CountsSteps, IsFed}, Knowing.IsKnownAt};
 ghost use Rattle.certificate_checker.specs.Judging.{IsCheckInput, IsBranchJudged, IsTakeStop};
 ghost use Rattle.search_groups.specs.PartLists.{AreListsOf};
@@ -45,23 +45,23 @@ pub(crate) fn listed_groups<C: CountySet, S>(
         result
         (λ b. All (IsGroupAt (graph_problem input.now.graph.now) (round_of input.now.round.now) (state_at (graph_order input.now.graph.now) C.test state.now) county b.limit) (codes_of_sets (graph_order input.now.graph.now) C.test b.groups.items)) }
     ensures counts { CountsSteps feed.old feed.new }
-    ensures fed { (course : Unread) → IsFed (feed_at course feed.old) result (feed_at course feed.new) }
+    ensures fed { (reading : Unread) → IsFed (feed_at reading feed.old) result (feed_at reading feed.new) }
     ensures same { feed.new.source ≡ feed.old.source }
     ensures place { IfOk result (λ b. (b.place < graph_places input.now.graph.now)
         × (code_at (graph_order input.now.graph.now) b.place ≡ county)) }
     ensures size { IfOk result (λ b. (b.limit ≡ limit_of (round_of input.now.round.now) limit)
         × (b.limit ≤ most_counties)) }
     ensures groups { IfOk result (λ b. All (IsClosable C.test state.now) b.groups.items) }
-    ensures judged { (course : Unread) → IsBranchJudged
+    ensures judged { (reading : Unread) → IsBranchJudged
         (λ b. codes_of_sets (graph_order input.now.graph.now) C.test b.groups.items)
         (graph_problem input.now.graph.now)
         (round_of input.now.round.now)
         (state_at (graph_order input.now.graph.now) C.test state.now)
         county
         limit
-        (feed_at course feed.old)
+        (feed_at reading feed.old)
         result
-        (feed_at course feed.new) }
+        (feed_at reading feed.new) }
 {
     let judged = knowing_branch(
         input,

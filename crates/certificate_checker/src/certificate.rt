@@ -3,7 +3,7 @@
 ghost use Rattle.std.specs.Prelude.{◌≡◌, ◌≤◌, ◌<◌, ◌+◌, ◌∷◌, [], ◌++◌, List, length, nat_lt, IfOk, MatchResult};
 ghost use Rattle.std.specs.List.{list_any};
 ghost use Rattle.county_codes.specs.Limits.{most_counties};
-ghost use Rattle.grouping_laws.specs.{Allowance.HasWindow, GroupsFrom.IsOrder};
+ghost use Rattle.grouping_laws.specs.{Allowance.HasTolerance, GroupsFrom.IsOrder};
 ghost use Rattle.county_problem.specs.ProblemValue.{problem_of};
 ghost use Rattle.certificate_data.specs.{RoundValue.{round_of, target_of}, Tree.Tree, TreeValue.Certificate};
 ghost use Rattle.certificate_laws.specs.State.{empty_state};
@@ -11,8 +11,8 @@ ghost use Rattle.certificate_lines.specs.Fitting.{AllFit};
 ghost use Rattle.certificate_lines.specs.declared.item.Item.{Item as ItemValue};
 ghost use Rattle.certificate_lines.specs.declared.item.Wanted.TheVariants as want;
 ghost use Rattle.certificate_text.specs.Trees.{items_of_tree, items_of_certificate};
-ghost use Rattle.checker_laws.specs.Lines.{window_line, target_lines};
-ghost use Rattle.checker_laws.specs.Verdict.{IsWindowFault, IsOrderFault, IsLargeEnough, IsLimitFault, IsLawfulTarget, IsTargetFault};
+ghost use Rattle.checker_laws.specs.Lines.{tolerance_line, target_lines};
+ghost use Rattle.checker_laws.specs.Verdict.{IsToleranceFault, IsOrderFault, IsLargeEnough, IsLimitFault, IsLawfulTarget, IsTargetFault};
 ghost use Rattle.checker_laws.specs.Work.{a_tree};
 ghost use Rattle.certificate_checker.specs.ReadableTrees.{IsReadable};
 ghost use Rattle.certificate_checker.specs.Feeding.{stream_of, CountsSteps, IsFed, FeedsThrough, ForEach};
@@ -28,7 +28,7 @@ use crate::tree::judge_tree;
 use certificate_data::Round;
 use certificate_lines::{ItemSource, MOST};
 use connected_sets::CountyGraph;
-use county_codes::{Group, Grouping, Window};
+use county_codes::{Group, Grouping, Tolerance};
 use county_problem::{Counts, GroupingFault, OrderFault, Ordered, Problem, judge};
 use place_sets::CountySet;
 use search_groups::PartLists;
@@ -37,24 +37,24 @@ use state_judge::CheckFault;
 use std::alloc::{AllocError, Global};
 
 /// Returns the line of the tolerance: the second, or the head's if no tolerance is named.
-fn window_line(round: &Round) -> u64
-    ensures { result ≡ window_line round.now.window }
+fn tolerance_line(round: &Round) -> u64
+    ensures { result ≡ tolerance_line round.now.tolerance }
 {
-    match round.window {
+    match round.tolerance {
         Some(_) => 2,
         None => 1,
     }
 }
 
 /// Checks that the tolerance of a certificate is the problem's, which it is if the fractions are equal.
-fn judge_window(problem: &Problem, round: &Round) -> Result<(), Halt>
-    ensures { MatchResult result (λ _. HasWindow (problem_of problem.now) round.now.window) (StopsAt (IsWindowFault (problem_of problem.now) (round_of round.now)) (window_line round.now.window)) }
+fn judge_tolerance(problem: &Problem, round: &Round) -> Result<(), Halt>
+    ensures { MatchResult result (λ _. HasTolerance (problem_of problem.now) round.now.tolerance) (StopsAt (IsToleranceFault (problem_of problem.now) (round_of round.now)) (tolerance_line round.now.tolerance)) }
 {
-    let window = round.window.unwrap_or(Window::twentieth());
-    if window.same_as(problem.window()) {
+    let tolerance = round.tolerance.unwrap_or(Tolerance::twentieth());
+    if tolerance.same_as(problem.tolerance()) {
         Ok(())
     } else {
-        Err(Halt::Fault(CheckFault::WrongWindow, window_line(round)))
+        Err(Halt::Fault(CheckFault::WrongWindow, tolerance_line(round)))
     }
 }
 
@@ -65,12 +65,12 @@ pub(crate) fn judge_order<'a>(
     round: &Round,
 ) -> Result<Ordered<'a>, Halt>
     ensures value { IfOk result (λ o. o ≡ record { problem = problem.now; order = round.now.order }) }
-    ensures order { MatchResult result (λ _. IsOrder (problem_of problem.now) round.now.order) (StopsAt (IsOrderFault (problem_of problem.now) (round_of round.now)) (window_line round.now.window + 1)) }
+    ensures order { MatchResult result (λ _. IsOrder (problem_of problem.now) round.now.order) (StopsAt (IsOrderFault (problem_of problem.now) (round_of round.now)) (tolerance_line round.now.tolerance + 1)) }
 {
     match Ordered::build(alloc, problem, round.order.as_slice()) {
         Ok(ordered) => Ok(ordered),
         Err(OrderFault::WrongOrder) => {
-            Err(Halt::Fault(CheckFault::WrongOrder, window_line(round) + 1))
+            Err(Halt::Fault(CheckFault::WrongOrder, tolerance_line(round) + 1))
         }
         Err(OrderFault::Memory) => Err(Halt::Refused),
     }
@@ -87,12 +87,12 @@ fn has_larger(groups: &[Group], limit: u16) -> bool
 
 /// Judges the limit, which stands behind the order. No group of the target may have more counties.
 fn judge_limit(round: &Round) -> Result<(), Halt>
-    ensures { MatchResult result (λ _. IsLargeEnough round.now.limit (target_of round.now.target)) (StopsAt (IsLimitFault round.now.limit (target_of round.now.target)) (window_line round.now.window + 2)) }
+    ensures { MatchResult result (λ _. IsLargeEnough round.now.limit (target_of round.now.target)) (StopsAt (IsLimitFault round.now.limit (target_of round.now.target)) (tolerance_line round.now.tolerance + 2)) }
 {
     match &round.target {
         Some(target) => {
             if has_larger(&target.groups, round.limit) {
-                return Err(Halt::Fault(CheckFault::LimitTooSmall, window_line(round) + 2));
+                return Err(Halt::Fault(CheckFault::LimitTooSmall, tolerance_line(round) + 2));
             }
             Ok(())
         }
@@ -116,12 +116,12 @@ fn judge_target(alloc: Global, problem: &Problem, round: &Round) -> Result<Optio
         result
         (λ wanted. IsLawfulTarget (problem_of problem.now) (target_of round.now.target)
         × AreCounts (target_of round.now.target) wanted)
-        (StopsAt (IsTargetFault (problem_of problem.now) (target_of round.now.target)) (window_line round.now.window + 3)) }
+        (StopsAt (IsTargetFault (problem_of problem.now) (target_of round.now.target)) (tolerance_line round.now.tolerance + 3)) }
 {
     match &round.target {
         Some(grouping) => match judge(alloc, problem, grouping) {
             Ok(counts) => Ok(Some(counts)),
-            Err(fault) => Err(target_stop(fault, window_line(round) + 3)),
+            Err(fault) => Err(target_stop(fault, tolerance_line(round) + 3)),
         },
         None => Ok(None),
     }
@@ -164,7 +164,7 @@ fn judge_first<C: CountySet, F, S: ItemSource<F>>(
     ensures fed { FeedsThrough (stream_of S.left S.given feed.old from.old) (stream_of S.left S.given feed.new from.new) (λ a b. IsFed a result b) }
     ensures judged { ForEach (stream_of S.left S.given feed.old from.old) (stream_of S.left S.given feed.new from.new) (λ a b. (tree : Tree) (rest : List ItemValue)
         → IsReadable round.now.format tree
-        → a.course.items ≡ items_of_tree tree ++ rest
+        → a.reading.items ≡ items_of_tree tree ++ rest
         → IsJudged
         (problem_of ordered.now.problem)
         (round_of round.now)
@@ -201,12 +201,12 @@ fn judge_round<C: CountySet, F, S: ItemSource<F>>(
     ensures counts { CountsSteps feed.old feed.new }
     ensures fed { FeedsThrough (stream_of S.left S.given feed.old from.old) (stream_of S.left S.given feed.new from.new) (λ a b. IsFed a result b) }
     ensures judged { ForEach (stream_of S.left S.given feed.old from.old) (stream_of S.left S.given feed.new from.new) (λ a b. (tree : Tree) (rest : List ItemValue)
-        → feed.old.line ≡ window_line round.now.window + 3 + target_lines (target_of round.now.target)
+        → feed.old.line ≡ tolerance_line round.now.tolerance + 3 + target_lines (target_of round.now.target)
         → IsReadable round.now.format tree
-        → a.course.items ≡ items_of_tree tree ++ rest
+        → a.reading.items ≡ items_of_tree tree ++ rest
         → IsRoundJudged (problem_of problem.now) (round_of round.now) tree rest a result b) }
 {
-    match judge_window(problem, round) {
+    match judge_tolerance(problem, round) {
         Ok(()) => match judge_order(alloc, problem, round) {
             Ok(ordered) => match judge_limit(round) {
                 Ok(()) => match judge_target(alloc, problem, round) {
@@ -237,7 +237,7 @@ pub(crate) fn judge_certificate<C: CountySet, F, S: ItemSource<F>>(
     ensures fed { FeedsThrough (stream_of S.left S.given feed.old from.old) (stream_of S.left S.given feed.new from.new) (λ a b. IsFed a result b) }
     ensures judged { ForEach (stream_of S.left S.given feed.old from.old) (stream_of S.left S.given feed.new from.new) (λ a b. (c : Certificate)
         → AllFit (want.Head ∷ []) (items_of_certificate c)
-        → a.course.items ≡ items_of_certificate c
+        → a.reading.items ≡ items_of_certificate c
         → IsCertificateJudged (problem_of problem.now) c feed.old.steps.limit result) }
 {
     match read_round(alloc, feed, from) {

@@ -3,7 +3,7 @@
 ghost use Rattle.std.specs.Prelude.{◌≡◌, ℕ, ◌≤◌, false, List, None, length, IfOk};
 ghost use Rattle.grouping_laws.specs.Problem.{Problem as ProblemOf};
 ghost use Rattle.county_problem.specs.ProblemValue.{problem_of};
-ghost use Rattle.certificate_lines.specs.Courses.{certificate_course};
+ghost use Rattle.certificate_lines.specs.ItemReadings.{certificate_reading};
 ghost use Rattle.certificate_checker.specs.Feeding.{FeedValue, Fed, stream_of, FeedsThrough};
 ghost use Rattle.certificate_checker.specs.Answers.{IsCheckAnswer, CheckIsRight, ShowsImpossible, ChecksItems, IsBudgetedAnswer, lines_in_front, IsWithinBudget, ChecksBytes, is_read_fault};
 
@@ -14,7 +14,7 @@ use crate::verdict::Verdict;
 use certificate_lines::{ItemSource, Items, ItemsFrom};
 use county_problem::{Problem, Steps};
 use field_lines::Source;
-use place_sets::{CountySet, MaskSet, Places, fits_mask};
+use place_sets::{CountySet, MaskSet, WideSet, fits_mask};
 use state_judge::CheckFault;
 use std::alloc::{AllocError, Global};
 
@@ -35,10 +35,10 @@ fn verdict_after<F, S: ItemSource<F>>(
     line: &mut Vec<u8>,
 ) -> Result<Verdict, AllocError>
     ensures { FeedsThrough (stream_of S.left S.given feed.old from.old) (stream_of S.left S.given feed.new from.new) (λ a _. (p : ProblemOf) (text : List ℕ) (start : FeedValue)
-        → start.course ≡ certificate_course text
+        → start.reading ≡ certificate_reading text
         → start.line ≡ 0
         → Fed start a
-        → ((certificate_course text).fault ≡ None → IsCheckAnswer p text start.limit found)
+        → ((certificate_reading text).fault ≡ None → IsCheckAnswer p text start.limit found)
         → IfOk result (IsBudgetedAnswer p text start.limit)) }
 {
     match read_rest(feed, from) {
@@ -147,7 +147,7 @@ pub fn check(
     if fits_mask(problem.counties().len()) {
         check_over::<MaskSet>(alloc, problem, text, budget)
     } else {
-        check_over::<Places>(alloc, problem, text, budget)
+        check_over::<WideSet>(alloc, problem, text, budget)
     }
 }
 
@@ -217,7 +217,7 @@ pub fn check_from_keeping<S: Source>(
     if fits_mask(problem.counties().len()) {
         check_from_over::<MaskSet, S>(alloc, problem, source, budget, line)
     } else {
-        check_from_over::<Places, S>(alloc, problem, source, budget, line)
+        check_from_over::<WideSet, S>(alloc, problem, source, budget, line)
     }
 }
 

@@ -9,7 +9,7 @@ ghost use Rattle.certificate_checker.specs.Judging.{TookForm, IsStopAt, IsJudged
 use crate::feed::{Feed, Halt, next_line};
 use certificate_data::{Allowance, Format};
 use certificate_lines::{Item, ItemSource, Opening, Version};
-use county_codes::{Codes, Group, Window};
+use county_codes::{Codes, Group, Tolerance};
 use state_judge::LineStop;
 
 /// Reads the next line, which has to open a tree.
@@ -81,17 +81,17 @@ pub(crate) fn next_head<F, S: ItemSource<F>>(
 }
 
 /// Reads the next line, which has to be that of the tolerance.
-pub(crate) fn next_window<F, S: ItemSource<F>>(
+pub(crate) fn next_tolerance<F, S: ItemSource<F>>(
     feed: &mut Feed<S>,
     from: &mut F,
-) -> Result<Window, Halt>
+) -> Result<Tolerance, Halt>
     requires { feed.old.line ≤ feed.old.steps.used }
     ensures counts { CountsSteps feed.old feed.new }
     ensures fed { FeedsThrough (stream_of S.left S.given feed.old from.old) (stream_of S.left S.given feed.new from.new) (λ a b. IsFed a result b) }
     ensures took { ForEach (stream_of S.left S.given feed.old from.old) (stream_of S.left S.given feed.new from.new) (λ a b. TookForm item.Within (λ w. w) a result b) }
 {
     match next_line(feed, from)? {
-        Item::Within(window) => Ok(window),
+        Item::Within(tolerance) => Ok(tolerance),
         _ => Err(Halt::Unspelled),
     }
 }

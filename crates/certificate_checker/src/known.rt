@@ -12,7 +12,7 @@ ghost use Rattle.certificate_data.specs.TreeValue.{allowance_of};
 ghost use Rattle.certificate_laws.specs.State.{close, raise, IsState, State as StateValue};
 ghost use Rattle.certificate_laws.specs.{Fitting.Fits, Groups.{AreGroupsAt, IsSetAt}};
 ghost use Rattle.certificate_laws.specs.Proving.{CanBranch, NamesLimit, limit_of};
-ghost use Rattle.checker_laws.specs.{Branches.IsBranchFault, Leaves.IsAllowanceFault, Cost.{AreSoMany, LineLooks}};
+ghost use Rattle.checker_laws.specs.{Branches.IsBranchFault, Leaves.IsAllowanceFault, Cost.{IsSetCount, LineLooks}};
 ghost use Rattle.state_judge.specs.{LineStops.StopsAt, AllowanceVerdicts.{AllowanceIsSpelled, IsAllowed}};
 ghost use Rattle.state_judge.specs.{Candidates.AreListed, declared.fault.LineStop.LineStop};
 ghost use Rattle.state_groups.specs.PlacedValues.{state_at, codes_of_set, codes_of_sets, IsPlaced, IsClosable};
@@ -468,7 +468,7 @@ pub fn knowing_branch<C: CountySet>(
     ensures steps { IfOk
         result
         (λ b. (m : ℕ)
-        → AreSoMany (graph_order input.now.graph.now) (IsSetAt (graph_problem input.now.graph.now) (graph_order input.now.graph.now) (state_at (graph_order input.now.graph.now) C.test state.now) county (limit_of (round_of input.now.round.now) limit)) m
+        → IsSetCount (graph_order input.now.graph.now) (IsSetAt (graph_problem input.now.graph.now) (graph_order input.now.graph.now) (state_at (graph_order input.now.graph.now) C.test state.now) county (limit_of (round_of input.now.round.now) limit)) m
         → steps.new.used ≤ steps.old.used + 2 * m) }
     ensures limit { steps.new.limit ≡ steps.old.limit }
     ensures more { steps.old.used ≤ steps.new.used }
@@ -476,7 +476,7 @@ pub fn knowing_branch<C: CountySet>(
         → NamesLimit input.now.round.now.format limit
         × CanBranch (round_of input.now.round.now) (state_at (graph_order input.now.graph.now) C.test state.now) county (limit_of (round_of input.now.round.now) limit)
         × ((m : ℕ)
-        → AreSoMany (graph_order input.now.graph.now) (IsSetAt (graph_problem input.now.graph.now) (graph_order input.now.graph.now) (state_at (graph_order input.now.graph.now) C.test state.now) county (limit_of (round_of input.now.round.now) limit)) m
+        → IsSetCount (graph_order input.now.graph.now) (IsSetAt (graph_problem input.now.graph.now) (graph_order input.now.graph.now) (state_at (graph_order input.now.graph.now) C.test state.now) county (limit_of (round_of input.now.round.now) limit)) m
         → steps.old.limit ≤ steps.old.used + 2 * m) }
 {
     if let Some(branching) = told_branch(input, state, known, county, limit, lists, spare)? {

@@ -104,7 +104,7 @@ fn judge_line<C: CountySet, F, S: ItemSource<F>>(
     ensures judged { ForEach (stream_of S.left S.given feed.old from.old) (stream_of S.left S.given feed.new from.new) (λ a b. (counts : ℕ → ℕ) (lines : List AllowanceValue) (rest : List ItemValue)
         → counts size ≡ wanted
         → AllowancesAreSpelled lines
-        → a.course.items ≡ line_items lines ++ rest
+        → a.reading.items ≡ line_items lines ++ rest
         → IsLineJudged
         (graph_problem input.now.graph.now)
         (round_of input.now.round.now)
@@ -155,7 +155,7 @@ pub(crate) fn judge_bound_leaf<C: CountySet, F, S: ItemSource<F>>(
     ensures judged { ForEach (stream_of S.left S.given feed.old from.old) (stream_of S.left S.given feed.new from.new) (λ a b. (lines : List AllowanceValue) (rest : List ItemValue)
         → AllowancesAreSpelled lines
         → length lines ≡ count
-        → a.course.items ≡ line_items lines ++ rest
+        → a.reading.items ≡ line_items lines ++ rest
         → IsLeafJudged
         (graph_problem input.now.graph.now)
         (round_of input.now.round.now)

@@ -3,7 +3,7 @@
 ghost use Rattle.std.specs.Prelude.{◌≡◌, ◌≤◌, ◌∷◌, [], ◌++◌, List, Option, length, map};
 ghost use Rattle.grouping_laws.specs.Grouping.{Grouping as GroupingValue};
 ghost use Rattle.county_codes.specs.declared.group.Group.{Group as GroupValue};
-ghost use Rattle.county_codes.specs.declared.window.Window.{Window as WindowValue};
+ghost use Rattle.county_codes.specs.declared.tolerance.Tolerance.{Tolerance as ToleranceValue};
 ghost use Rattle.certificate_data.specs.declared.format.Format.{Format as FormatValue};
 ghost use Rattle.certificate_data.specs.{RoundValue.{round_of, target_of}, TreeValue.Certificate};
 ghost use Rattle.certificate_lines.specs.declared.item.Item.{Item as ItemValue};
@@ -13,10 +13,10 @@ ghost use Rattle.certificate_checker.specs.Feeding.{stream_of, CountsSteps, IsFe
 ghost use Rattle.certificate_checker.specs.Certificates.{AreTaken, round_items};
 
 use crate::feed::{Feed, Halt};
-use crate::forms::{next_group, next_head, next_limit, next_order, next_target, next_window};
+use crate::forms::{next_group, next_head, next_limit, next_order, next_target, next_tolerance};
 use certificate_data::{Format, Round};
 use certificate_lines::{ItemSource, Version};
-use county_codes::{Group, Grouping, Window};
+use county_codes::{Group, Grouping, Tolerance};
 use std::alloc::Global;
 
 /// Reads `count` groups of a target.
@@ -31,7 +31,7 @@ fn read_groups<F, S: ItemSource<F>>(
     ensures fed { FeedsThrough (stream_of S.left S.given feed.old from.old) (stream_of S.left S.given feed.new from.new) (λ a b. IsFed a result b) }
     ensures taken { ForEach (stream_of S.left S.given feed.old from.old) (stream_of S.left S.given feed.new from.new) (λ a b. (groups : List GroupValue) (rest : List ItemValue)
         → length groups ≡ count
-        → a.course.items ≡ map item.Grouped groups ++ rest
+        → a.reading.items ≡ map item.Grouped groups ++ rest
         → AreTaken (λ v. v.items ≡ groups) (map item.Grouped groups) rest a result b) }
 {
     let mut groups = Vec::new(alloc);
@@ -54,7 +54,7 @@ fn read_target<F, S: ItemSource<F>>(
     ensures counts { CountsSteps feed.old feed.new }
     ensures fed { FeedsThrough (stream_of S.left S.given feed.old from.old) (stream_of S.left S.given feed.new from.new) (λ a b. IsFed a result b) }
     ensures taken { ForEach (stream_of S.left S.given feed.old from.old) (stream_of S.left S.given feed.new from.new) (λ a b. (target : Option GroupingValue) (rest : List ItemValue)
-        → a.course.items ≡ items_of_target target ++ rest
+        → a.reading.items ≡ items_of_target target ++ rest
         → AreTaken (λ t. target_of t ≡ target) (items_of_target target) rest a result b) }
 {
     match next_target(feed, from) {
@@ -71,18 +71,18 @@ fn read_target<F, S: ItemSource<F>>(
 fn read_head<F, S: ItemSource<F>>(
     feed: &mut Feed<S>,
     from: &mut F,
-) -> Result<(Format, Option<Window>), Halt>
+) -> Result<(Format, Option<Tolerance>), Halt>
     requires { feed.old.line ≤ feed.old.steps.used }
     ensures counts { CountsSteps feed.old feed.new }
     ensures fed { FeedsThrough (stream_of S.left S.given feed.old from.old) (stream_of S.left S.given feed.new from.new) (λ a b. IsFed a result b) }
-    ensures taken { ForEach (stream_of S.left S.given feed.old from.old) (stream_of S.left S.given feed.new from.new) (λ a b. (format : FormatValue) (window : Option WindowValue) (rest : List ItemValue)
-        → a.course.items ≡ items_of_head format window ++ rest
-        → AreTaken (λ r. (r.0 ≡ format) × (r.1 ≡ window)) (items_of_head format window) rest a result b) }
+    ensures taken { ForEach (stream_of S.left S.given feed.old from.old) (stream_of S.left S.given feed.new from.new) (λ a b. (format : FormatValue) (tolerance : Option ToleranceValue) (rest : List ItemValue)
+        → a.reading.items ≡ items_of_head format tolerance ++ rest
+        → AreTaken (λ r. (r.0 ≡ format) × (r.1 ≡ tolerance)) (items_of_head format tolerance) rest a result b) }
 {
     match next_head(feed, from) {
         Ok((format, Version::One)) => Ok((format, None)),
-        Ok((format, Version::Two)) => match next_window(feed, from) {
-            Ok(window) => Ok((format, Some(window))),
+        Ok((format, Version::Two)) => match next_tolerance(feed, from) {
+            Ok(tolerance) => Ok((format, Some(tolerance))),
             Err(stop) => Err(stop),
         },
         Err(stop) => Err(stop),
@@ -99,12 +99,12 @@ pub(crate) fn read_round<F, S: ItemSource<F>>(
     ensures counts { CountsSteps feed.old feed.new }
     ensures fed { FeedsThrough (stream_of S.left S.given feed.old from.old) (stream_of S.left S.given feed.new from.new) (λ a b. IsFed a result b) }
     ensures taken { ForEach (stream_of S.left S.given feed.old from.old) (stream_of S.left S.given feed.new from.new) (λ a b. (c : Certificate)
-        → a.course.items ≡ items_of_certificate c
+        → a.reading.items ≡ items_of_certificate c
         → AreTaken (λ round. round_of round
         ≡ c.round) (round_items c) (items_of_tree c.tree ++ item.End ∷ []) a result b) }
 {
     match read_head(feed, from) {
-        Ok((format, window)) => {
+        Ok((format, tolerance)) => {
             let order = next_order(feed, from)?;
             let limit = next_limit(feed, from)?;
             match read_target(alloc, feed, from) {
@@ -113,7 +113,7 @@ pub(crate) fn read_round<F, S: ItemSource<F>>(
                     limit,
                     target,
                     format,
-                    window,
+                    tolerance,
                 }),
                 Err(stop) => Err(stop),
             }

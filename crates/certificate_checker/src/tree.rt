@@ -47,7 +47,7 @@ fn judge_takes<C: CountySet, F, S: ItemSource<F>>(
     ensures fed { FeedsThrough (stream_of S.left S.given feed.old from.old) (stream_of S.left S.given feed.new from.new) (λ a b. IsFed a result b) }
     ensures judged { ForEach (stream_of S.left S.given feed.old from.old) (stream_of S.left S.given feed.new from.new) (λ a b. (takes : Takes) (rest : List ItemValue) (more : List Open)
         → AreReadable input.now.round.now.format takes
-        → a.course.items ≡ items_to_mark takes ++ rest
+        → a.reading.items ≡ items_to_mark takes ++ rest
         → IsJudged
         (graph_problem input.now.graph.now)
         (round_of input.now.round.now)
@@ -104,7 +104,7 @@ pub(crate) fn judge_tree<C: CountySet, F, S: ItemSource<F>>(
     ensures fed { FeedsThrough (stream_of S.left S.given feed.old from.old) (stream_of S.left S.given feed.new from.new) (λ a b. IsFed a result b) }
     ensures judged { ForEach (stream_of S.left S.given feed.old from.old) (stream_of S.left S.given feed.new from.new) (λ a b. (tree : Tree) (rest : List ItemValue) (more : List Open)
         → IsReadable input.now.round.now.format tree
-        → a.course.items ≡ items_of_tree tree ++ rest
+        → a.reading.items ≡ items_of_tree tree ++ rest
         → IsJudged
         (graph_problem input.now.graph.now)
         (round_of input.now.round.now)

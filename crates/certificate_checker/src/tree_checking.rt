@@ -7,7 +7,7 @@ ghost use Rattle.county_problem.specs.{OrderedValue.problem_at, ProblemValue.pro
 ghost use Rattle.connected_sets.specs.Graphs.{graph_problem, graph_order, graph_places, place_problem, IsGraph};
 ghost use Rattle.certificate_data.specs.{RoundValue.{round_of, target_of}, TreeValue.tree_of};
 ghost use Rattle.certificate_data.specs.Tree.{Tree as TreeValue};
-ghost use Rattle.certificate_lines.specs.{Courses.tree_course, Lines.most};
+ghost use Rattle.certificate_lines.specs.{ItemReadings.tree_reading, Lines.most};
 ghost use Rattle.certificate_laws.specs.State.{IsState};
 ghost use Rattle.certificate_text.specs.{Ranges.AreTreeNumbers, TreeFault.lines_of_tree};
 ghost use Rattle.checker_laws.specs.Verdict.{IsLawfulTarget};
@@ -54,7 +54,7 @@ fn fault_in(
     places: u16,
 ) -> Result<Option<TextFault>, AllocError>
     requires { places ≤ most }
-    ensures { IfOk result (λ fault. fault ≡ (tree_course format places lines.now).fault) }
+    ensures { IfOk result (λ fault. fault ≡ (tree_reading format places lines.now).fault) }
 {
     let mut items = Items::of_tree(alloc, lines, format, places);
     first_fault(&mut items)

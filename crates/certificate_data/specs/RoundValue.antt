@@ -9,7 +9,7 @@ use Rattle.certificate_data.specs.Round.{Round}
 abbrev pub target_of : Option GroupingHeld → Option Grouping
 target_of target = option_map (λ g. g.groups.items) target
 
--- the order's codes, the limit, the target's groups, the format and the allowance that is named
+-- the order's codes, the limit, the target's groups, the format and the tolerance that is named
 abbrev pub round_of : RoundHeld → Round
 round_of r =
-    record { order = r.order; limit = r.limit; target = target_of r.target; format = r.format; window = r.window }
+    record { order = r.order; limit = r.limit; target = target_of r.target; format = r.format; tolerance = r.tolerance }

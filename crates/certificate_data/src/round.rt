@@ -1,10 +1,10 @@
-//! Rounds: an order, a limit, a target, a format and an allowance.
+//! Rounds: an order, a limit, a target, a format and a tolerance.
 
 ghost use Rattle.std.specs.Prelude.{◌≡◌, IfOk};
 ghost use Rattle.certificate_data.specs.RoundValue.{round_of, target_of};
 
 use crate::format::Format;
-use county_codes::{Codes, Grouping, Window};
+use county_codes::{Codes, Grouping, Tolerance};
 use std::alloc::AllocError;
 
 /// The terms of a search for groupings greater than a target, and of the tree of a certificate.
@@ -21,8 +21,8 @@ pub struct Round {
     pub target: Option<Grouping>,
     /// The format of the certificate.
     pub format: Format,
-    /// The allowance that the certificate names. A certificate that names none is for a twentieth.
-    pub window: Option<Window>,
+    /// The tolerance that the certificate names. A certificate that names none is for a twentieth.
+    pub tolerance: Option<Tolerance>,
 }
 
 impl Round {
@@ -35,7 +35,7 @@ impl Round {
             limit: self.limit,
             target: copy_target(&self.target)?,
             format: self.format,
-            window: self.window,
+            tolerance: self.tolerance,
         })
     }
 }

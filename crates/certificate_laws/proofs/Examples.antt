@@ -65,8 +65,8 @@ ends_apart c =
     from_a x y e f t = ap (λ z. stranding.adjacent z 37005) (sym e) ∙ (ap (stranding.adjacent x) f ∙ t)
 
 -- what n people ask of seats
-window : (k n m : ℕ) → Suits stranding m k → m ≡ n → (1 ≤ k) × (19 * k * 200 ≤ 20 * 2 * n) × (20 * 2 * n ≤ 21 * k * 200)
-window k n m s e = (s.some_seat, omega (arith, s.enough, e), omega (arith, s.not_more, e))
+seat_window : (k n m : ℕ) → Suits stranding m k → m ≡ n → (1 ≤ k) × (19 * k * 200 ≤ 20 * 2 * n) × (20 * 2 * n ≤ 21 * k * 200)
+seat_window k n m s e = (s.some_seat, omega (arith, s.enough, e), omega (arith, s.not_more, e))
 
 -- the counties of the path that three tests keep
 abbrev chosen : Bool → Bool → Bool → List ℕ
@@ -81,12 +81,12 @@ lawful_ones g l = go (contains g 37001) (contains g 37003) (contains g 37005) ke
 
     go : (a b c : Bool) → LawfulGroup stranding (chosen a b c) → (chosen a b c ≡ path) ⊎ (chosen a b c ≡ 37003 ∷ [])
     go true true true k = inl refl
-    go true true false k = let r = window k.seats 150 (people_of stranding (37001 ∷ 37003 ∷ [])) k.suits refl in absurd (omega arith)
+    go true true false k = let r = seat_window k.seats 150 (people_of stranding (37001 ∷ 37003 ∷ [])) k.suits refl in absurd (omega arith)
     go true false true k = absurd (ends_apart k.connected)
-    go true false false k = let r = window k.seats 50 (people_of stranding (37001 ∷ [])) k.suits refl in absurd (omega arith)
-    go false true true k = let r = window k.seats 150 (people_of stranding (37003 ∷ 37005 ∷ [])) k.suits refl in absurd (omega arith)
+    go true false false k = let r = seat_window k.seats 50 (people_of stranding (37001 ∷ [])) k.suits refl in absurd (omega arith)
+    go false true true k = let r = seat_window k.seats 150 (people_of stranding (37003 ∷ 37005 ∷ [])) k.suits refl in absurd (omega arith)
     go false true false k = inr refl
-    go false false true k = let r = window k.seats 50 (people_of stranding (37005 ∷ [])) k.suits refl in absurd (omega arith)
+    go false false true k = let r = seat_window k.seats 50 (people_of stranding (37005 ∷ [])) k.suits refl in absurd (omega arith)
     go false false false k = absurd (omega (arith, k.connected.some_county))
 
 -- the plain certificate
@@ -114,7 +114,7 @@ whole_part = record { once = path_once; connected = connected; inside = λ c e. 
 
 pub plain_certificate : IsCertificate stranding plain_round plain_tree
 plain_certificate = record {
-  window = refl;
+  tolerance = refl;
   order = order;
   target = target;
   proof = (
@@ -147,7 +147,7 @@ end_part = record {
     alone y false e false c r t = false≢true t
 
 middle_dead : IsDead stranding (empty_state stranding) (37003 ∷ [])
-middle_dead = record { part = 37001 ∷ []; is_part = end_part; stuck = inl (λ k s. let r = window k 50 (people_of stranding (37001 ∷ [])) s refl in omega arith) }
+middle_dead = record { part = 37001 ∷ []; is_part = end_part; stuck = inl (λ k s. let r = seat_window k 50 (people_of stranding (37001 ∷ [])) s refl in omega arith) }
 
 none_alone : (g : List ℕ) → IsGroupAt stranding wide_round (empty_state stranding) 37003 1 g → ⊥
 none_alone g f =
@@ -181,7 +181,7 @@ fair i small g f e = absurd (none_fit g i f e small)
 
 pub wide_certificate : IsCertificate stranding wide_round wide_tree
 wide_certificate = record {
-  window = refl;
+  tolerance = refl;
   order = order;
   target = target;
   proof = (
@@ -210,7 +210,7 @@ fair_at_first i small g f e = absurd (none_at_first g i f e small)
 
 pub lone_certificate : IsCertificate stranding wide_round lone_leaf
 lone_certificate = record {
-  window = refl;
+  tolerance = refl;
   order = order;
   target = target;
   proof = (together, refl, ((lit≤ tt, λ k d h. absurd (omega arith), fair_at_first 1 (lit≤ tt)), inl (refl, ((lit≤ tt, λ k d h. absurd (omega arith), fair_at_first 2 (lit≤ tt)), inl (refl, (tt, inl (refl, refl)))))));

@@ -4,7 +4,7 @@ use Rattle.std.specs.Prelude.{ℕ, ◌≤◌, length, All, Option, Some, None, �
 use Rattle.grouping_laws.specs.Problem.{Problem}
 use Rattle.grouping_laws.specs.Grouping.{Grouping, Lawful, counts, sets_of, IsGreater, IsBest, IsImpossible}
 use Rattle.grouping_laws.specs.GroupsFrom.{IsOrder}
-use Rattle.grouping_laws.specs.Allowance.{HasWindow}
+use Rattle.grouping_laws.specs.Tolerance.{HasTolerance}
 use Rattle.certificate_data.specs.Round.{Round}
 use Rattle.certificate_laws.specs.State.{State, IsState, empty_state}
 use Rattle.certificate_laws.specs.Agreement.{Agrees}
@@ -27,7 +27,7 @@ TargetFits p limit (Some t) = Lawful p t × HasGroupsWithin limit t
 
 -- the problem's allowance, an order of its counties, a target that fits, and a proof tree at the empty state
 pub record IsCertificate (p : Problem) (round : Round) (tree : Tree) : Type 0 where
-  pub window : HasWindow p round.window
+  pub tolerance : HasTolerance p round.tolerance
   pub order : IsOrder p round.order
   pub target : TargetFits p round.limit round.target
   pub proof : Proves tree p round (empty_state p)

@@ -20,8 +20,8 @@ stranding = record {
   total_people = 200;
   chamber = 2;
   seats_left = 2;
-  tolerance = 1;
-  scale = 20;
+  numerator = 1;
+  denominator = 20;
 }
 
 abbrev pub together : Grouping
@@ -29,7 +29,7 @@ together = record { seats = 2; codes = path } ∷ []
 
 -- The plain certificate: the first county is in a group of all three, or stuck.
 abbrev pub plain_round : Round
-plain_round = record { order = path; limit = 3; target = Some together; format = Plain; window = None }
+plain_round = record { order = path; limit = 3; target = Some together; format = Plain; tolerance = None }
 
 abbrev pub plain_tree : Tree
 plain_tree = branch 37001 None (take path (leaf (bound (room ∷ room ∷ room ∷ []))) no_take) (leaf (stuck 37001))
@@ -37,7 +37,7 @@ plain_tree = branch 37001 None (take path (leaf (bound (room ∷ room ∷ room �
 -- The wide certificate: the middle county alone leaves a stuck part, so it is not alone, no group of one or two fits,
 -- and there is room for one of three.
 abbrev pub wide_round : Round
-wide_round = record { order = path; limit = 3; target = Some together; format = Wide; window = None }
+wide_round = record { order = path; limit = 3; target = Some together; format = Wide; tolerance = None }
 
 abbrev pub wide_tree : Tree
 wide_tree = branch 37003 (Some 1) no_take (leaf (bound (weigh 1 [] ∷ weigh 1 [] ∷ room ∷ [])))

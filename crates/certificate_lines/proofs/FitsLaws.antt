@@ -15,7 +15,7 @@ use Rattle.county_codes.specs.Digits.{five_digits}
 use Rattle.certificate_lines.specs.Spelling.{item_words}
 use Rattle.certificate_lines.specs.Fitting.{AreCodes, IsSet, IsWanted, AllFit}
 use Rattle.certificate_lines.proofs.WordLaws.{bind_ok}
-use Rattle.certificate_lines.proofs.FormLaws.{counted_ok, number_at_ok, code_at_ok, codes_ok, weights_ok, order_few, window_fits, length_map}
+use Rattle.certificate_lines.proofs.FormLaws.{counted_ok, number_at_ok, code_at_ok, codes_ok, weights_ok, order_few, tolerance_fits, length_map}
 use Rattle.certificate_lines.proofs.TextLaws.{item_ok, seen_ok, in_front_ok}
 use Rattle.certificate_lines.specs.declared.fault.TextKind.{TextKind}
 use Rattle.certificate_lines.specs.declared.fault.TextKind.TheVariants.{BadWord, NotCanonical, CutShort, TooDeep}
@@ -260,7 +260,7 @@ pub item_fits : (wanted : Wanted) (piece : RawLine) (item : Item) → item_on wa
 item_fits want.Head piece item h =
     let s = seen_ok headed (head_in piece.bytes piece.ended) item h in
     subst (λ (i : Item). IsWanted want.Head i) s.view_is tt
-item_fits (want.Window format) piece item h = said_fits (want.Window format) line.window_on Within piece item window_fits h
+item_fits (want.Tolerance format) piece item h = said_fits (want.Tolerance format) line.tolerance_on Within piece item tolerance_fits h
 item_fits (want.Order format) piece item h = said_fits (want.Order format) line.order_on Order piece item (λ words cs e. (order_few words cs e, order_codes words cs e)) h
 item_fits want.Limit piece item h = said_fits want.Limit line.limit_on Limit piece item limit_fits h
 item_fits want.Target piece item h = said_fits want.Target line.target_on Target piece item target_fits h

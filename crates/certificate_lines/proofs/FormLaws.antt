@@ -6,11 +6,11 @@ use Rattle.std.specs.List.{AllByRecursion}
 use Rattle.std.specs.Cmp.Lexicographic.{bytes_decides}
 use Rattle.std.proofs.lemmas.Bool.{and_parts, and_from, le-leb, leb-true}
 use Rattle.field_lines.specs.Chain.{◌>>=◌}
-use Rattle.county_codes.specs.Windows.{is_window}
+use Rattle.county_codes.specs.Tolerances.{is_tolerance}
 use Rattle.county_codes.specs.declared.group.Group.{Group}
-use Rattle.county_codes.specs.declared.window.Window.{Window}
+use Rattle.county_codes.specs.declared.tolerance.Tolerance.{Tolerance}
 use Rattle.certificate_lines.specs.Words.{number, code, pair}
-use Rattle.certificate_lines.specs.Lines.{most, begins, named, counted, number_at, code_word_at, each, ascend, window_on, order_on, limit_on, target_on, group_on, branch_on, stuck_on, bound_on, opening_on, take_on, weigh_on, allowance_on, end_on, part_on}
+use Rattle.certificate_lines.specs.Lines.{most, begins, named, counted, number_at, code_word_at, each, ascend, tolerance_on, order_on, limit_on, target_on, group_on, branch_on, stuck_on, bound_on, opening_on, take_on, weigh_on, allowance_on, end_on, part_on}
 use Rattle.county_codes.specs.Digits.{five_digits}
 use Rattle.certificate_lines.specs.Spelling.{weight_word, item_words}
 use Rattle.certificate_lines.specs.Items.{taken, parted}
@@ -96,14 +96,14 @@ empty [] few = refl
 empty (word ∷ words) few = absurd (omega (arith, few))
 
 -- the forms
-half_go : (part whole : ℕ) (w : Window) (t : Bool) → nat_le (2 * part) whole ≡ t → cond t (Ok (record { part = part; whole = whole })) (Err BadNumber) ≡ Ok w
-    → ◌≡◌ {A = Window} (record { part = part; whole = whole }) w × (2 * part ≤ whole)
-half_go part whole w true e h = (cc, leb-true (2 * part) whole e)
-half_go part whole w false e h = cc
+half_go : (numerator denominator : ℕ) (w : Tolerance) (t : Bool) → nat_le (2 * numerator) denominator ≡ t → cond t (Ok (record { numerator = numerator; denominator = denominator })) (Err BadNumber) ≡ Ok w
+    → ◌≡◌ {A = Tolerance} (record { numerator = numerator; denominator = denominator }) w × (2 * numerator ≤ denominator)
+half_go numerator denominator w true e h = (cc, leb-true (2 * numerator) denominator e)
+half_go numerator denominator w false e h = cc
 
-pub window_ok : (line : List (List ℕ)) (w : Window) → window_on line ≡ Ok w → line ≡ item_words (Within w)
-unfolding window_on
-window_ok line w h =
+pub tolerance_ok : (line : List (List ℕ)) (w : Tolerance) → tolerance_on line ≡ Ok w → line ≡ item_words (Within w)
+unfolding tolerance_on
+tolerance_ok line w h =
     let a = bind_ok (named (codes "window") line) _ w h in
     let b = bind_ok (counted 2 2 a.value) _ w a.then in
     let p = bind_ok (number_at 0 500 b.value) _ w b.then in
@@ -117,12 +117,12 @@ window_ok line w h =
     let none : q.value.1 ≡ [] = empty q.value.1 (omega (arith, few.to, long, less)) in
     named_ok (codes "window") line a.value a.first
     ∙ ap (λ (ws : List (List ℕ)). codes "window" ∷ ws) (few.same ∙ m.words_are ∙ ap (λ (ws : List (List ℕ)). decimal p.value.0 ∷ ws) (n.words_are ∙ ap (λ (ws : List (List ℕ)). decimal q.value.0 ∷ ws) none))
-    ∙ ap (λ (v : Window). item_words (Within v)) same
+    ∙ ap (λ (v : Tolerance). item_words (Within v)) same
 
--- an allowance that was read is in its range
-pub window_fits : (line : List (List ℕ)) (w : Window) → window_on line ≡ Ok w → is_window w ≡ true
-unfolding window_on
-window_fits line w h =
+-- a tolerance that was read is in its range
+pub tolerance_fits : (line : List (List ℕ)) (w : Tolerance) → tolerance_on line ≡ Ok w → is_tolerance w ≡ true
+unfolding tolerance_on
+tolerance_fits line w h =
     let a = bind_ok (named (codes "window") line) _ w h in
     let b = bind_ok (counted 2 2 a.value) _ w a.then in
     let p = bind_ok (number_at 0 500 b.value) _ w b.then in
@@ -133,7 +133,7 @@ window_fits line w h =
     let low = le-leb 1 whole n.from in
     let high = le-leb whole 1000 n.to in
     let few = le-leb (2 * p.value.0) whole half.1 in
-    subst (λ (v : Window). is_window v ≡ true) half.0 (and_from (nat_le 1 whole) (nat_le whole 1000 && nat_le (2 * p.value.0) whole) low (and_from (nat_le whole 1000) (nat_le (2 * p.value.0) whole) high few))
+    subst (λ (v : Tolerance). is_tolerance v ≡ true) half.0 (and_from (nat_le 1 whole) (nat_le whole 1000 && nat_le (2 * p.value.0) whole) low (and_from (nat_le whole 1000) (nat_le (2 * p.value.0) whole) high few))
 
 pub order_ok : (line : List (List ℕ)) (cs : List ℕ) → order_on line ≡ Ok cs → line ≡ item_words (Order cs)
 unfolding order_on

@@ -4,7 +4,7 @@ pub mod FormLaws
 pub mod TextLaws
 pub mod FitsLaws
 pub mod ReadLaws
-pub mod CourseLaws
+pub mod ItemReadingLaws
 pub mod ReaderLaws
 pub mod StackLaws
 pub mod EachLaws

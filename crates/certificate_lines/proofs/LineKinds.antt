@@ -86,9 +86,9 @@ pub each_said : {X : Type 0} (read : List ℕ → Result X TextKind) → ((word 
 each_said read h [] = tt
 each_said read h (word ∷ words) = bind_said (read word) _ (h word) (λ x. bind_said (each read words) _ (each_said read h words) (λ xs. tt))
 
-pub window_said : (words : List (List ℕ)) → Said (line.window_on words)
-unfolding line.window_on
-window_said words =
+pub tolerance_said : (words : List (List ℕ)) → Said (line.tolerance_on words)
+unfolding line.tolerance_on
+tolerance_said words =
     bind_said (named (codes "window") words) _ (named_said (codes "window") words)
     (λ ws. bind_said (counted 2 2 ws) _ (counted_said 2 2 ws)
     (λ vs. bind_said (number_at 0 500 vs) _ (number_at_said 0 500 vs) (λ p. bind_said (number_at 1 1000 p.1) _ (number_at_said 1 1000 p.1) (λ q. cond_said (nat_le (2 * p.0) q.0) _ _ tt tt))))

@@ -13,13 +13,13 @@ use Rattle.field_lines.specs.declared.fault.LineFault.{LineFault}
 use Rattle.field_lines.specs.declared.fault.LineFault.TheVariants as of_line
 use Rattle.certificate_lines.specs.Rest.{text_fault_at}
 use Rattle.certificate_lines.specs.Items.{item_on, wanted_after}
-use Rattle.certificate_lines.specs.Courses.{only_fault, first, course_from}
+use Rattle.certificate_lines.specs.ItemReadings.{only_fault, first, reading_from}
 use Rattle.certificate_lines.specs.ItemsLeft.{ItemsLeft, left_at, unless_found, Foresees, ReadsItem, ReadsEnd, ReadsNext, IsNextItemOf, fault_of_reader}
 use Rattle.certificate_lines.specs.declared.fault.TextKind.TheVariants.{CutShort, AfterEnd, BadWord, Memory}
 use Rattle.certificate_lines.specs.declared.fault.TextFault.{TextFault}
 use Rattle.certificate_lines.specs.declared.item.Item.{Item}
 use Rattle.certificate_lines.specs.declared.item.Wanted.{Wanted}
-use Rattle.certificate_lines.proofs.CourseLaws.{course_first, course_fault, too_long}
+use Rattle.certificate_lines.proofs.ItemReadingLaws.{reading_first, reading_fault, too_long}
 
 -- What a source gave is in front of what it gives then.
 pub record Goes (before after : Given) (pulled all later : List ℕ) : Type 0 where
@@ -41,11 +41,11 @@ abbrev pieces : LinesHeld → List ℕ → List RawLine
 pieces h later = raw_lines_from h.number (h.bytes ++ later)
 
 -- a line, where something is wanted and where the end is wanted
-long_line : (w : Wanted) (more : List Wanted) (n number : ℕ) (lines : List RawLine) → BeginsTooLong number lines → course_from (w ∷ more) n lines ≡ only_fault (text_fault_at BadWord n)
+long_line : (w : Wanted) (more : List Wanted) (n number : ℕ) (lines : List RawLine) → BeginsTooLong number lines → reading_from (w ∷ more) n lines ≡ only_fault (text_fault_at BadWord n)
 long_line w more n number [] long = absurd long
-long_line w more n number (p ∷ ps) long = course_fault w more n p ps BadWord (too_long w p long.1)
+long_line w more n number (p ∷ ps) long = reading_fault w more n p ps BadWord (too_long w p long.1)
 
-long_end : (n number : ℕ) (lines : List RawLine) → BeginsTooLong number lines → course_from [] n lines ≡ only_fault (text_fault_at AfterEnd n)
+long_end : (n number : ℕ) (lines : List RawLine) → BeginsTooLong number lines → reading_from [] n lines ≡ only_fault (text_fault_at AfterEnd n)
 long_end n number [] long = absurd long
 long_end n number (p ∷ ps) long = refl
 
@@ -57,11 +57,11 @@ module _ (old new : LinesHeld) (before after : Given) (failed failed_then : Bool
     read_found p next item stack e stacked all sees =
         let g = goes before after next.pulled all next.given next.end sees in (
           g.back,
-          ap (λ (t : List ℕ). course_from (w ∷ reverse below) number (pieces old t)) g.was
-              ∙ ap (course_from (w ∷ reverse below) number) (next.answers sees.later sees.may)
-              ∙ course_first w (reverse below) number (raw_of p) (pieces new sees.later) item e
-              ∙ ap (λ (l : List Wanted). first item (course_from l (number + 1) (pieces new sees.later))) (sym stacked)
-              ∙ ap (λ (t : List ℕ). first item (course_from (reverse stack) (number + 1) (pieces new t))) (sym g.is),
+          ap (λ (t : List ℕ). reading_from (w ∷ reverse below) number (pieces old t)) g.was
+              ∙ ap (reading_from (w ∷ reverse below) number) (next.answers sees.later sees.may)
+              ∙ reading_first w (reverse below) number (raw_of p) (pieces new sees.later) item e
+              ∙ ap (λ (l : List Wanted). first item (reading_from l (number + 1) (pieces new sees.later))) (sym stacked)
+              ∙ ap (λ (t : List ℕ). first item (reading_from (reverse stack) (number + 1) (pieces new t))) (sym g.is),
         )
 
     pub read_wrong : (p : Piece) → IsNextPieceFrom (pieces_left old) before failed (Ok (Some p)) (pieces_left new) after failed_then
@@ -71,9 +71,9 @@ module _ (old new : LinesHeld) (before after : Given) (failed failed_then : Bool
         let g = goes before after next.pulled all next.given next.end sees in (
           g.back,
           λ unread.
-              ap (λ (t : List ℕ). course_from (w ∷ reverse below) number (pieces old t)) g.was
-              ∙ ap (course_from (w ∷ reverse below) number) (next.answers sees.later sees.may)
-              ∙ course_fault w (reverse below) number (raw_of p) (pieces new sees.later) fault.kind (e (λ memory. unread (inl memory)))
+              ap (λ (t : List ℕ). reading_from (w ∷ reverse below) number (pieces old t)) g.was
+              ∙ ap (reading_from (w ∷ reverse below) number) (next.answers sees.later sees.may)
+              ∙ reading_fault w (reverse below) number (raw_of p) (pieces new sees.later) fault.kind (e (λ memory. unread (inl memory)))
               ∙ ap (λ (n : ℕ). only_fault (text_fault_at fault.kind n)) (sym line),
         )
 
@@ -84,8 +84,8 @@ module _ (old new : LinesHeld) (before after : Given) (failed failed_then : Bool
         let none : next.pulled ++ sees.later ≡ next.pulled = ap (λ (t : List ℕ). next.pulled ++ t) (sees.may next.answers.0) ∙ append-nil next.pulled in (
           g.back,
           λ unread.
-              ap (λ (t : List ℕ). course_from (w ∷ reverse below) number (pieces old t)) (g.was ∙ none)
-              ∙ ap (course_from (w ∷ reverse below) number) next.answers.1,
+              ap (λ (t : List ℕ). reading_from (w ∷ reverse below) number (pieces old t)) (g.was ∙ none)
+              ∙ ap (reading_from (w ∷ reverse below) number) next.answers.1,
         )
 
     pub read_off : (fault : LineFault) → IsNextPieceFrom (pieces_left old) before failed (Err fault) (pieces_left new) after failed_then
@@ -94,7 +94,7 @@ module _ (old new : LinesHeld) (before after : Given) (failed failed_then : Bool
         let g = goes before after next.pulled all next.given next.end sees in (
           g.back,
           λ unread.
-              ap (λ (t : List ℕ). course_from (w ∷ reverse below) number (pieces old t)) g.was
+              ap (λ (t : List ℕ). reading_from (w ∷ reverse below) number (pieces old t)) g.was
               ∙ long_line w (reverse below) number found (pieces old (next.pulled ++ sees.later)) (next.answers sees.later sees.may),
         )
     read_off (of_line.ReadFault found) next then m all sees = ((goes before after next.pulled all next.given next.end sees).back, λ unread. absurd (unread (inr refl)))
@@ -110,8 +110,8 @@ module _ (old new : LinesHeld) (before after : Given) (failed failed_then : Bool
         let none : next.pulled ++ sees.later ≡ next.pulled = ap (λ (t : List ℕ). next.pulled ++ t) later ∙ append-nil next.pulled in (
           g.back,
           (
-            ap (λ (t : List ℕ). course_from [] number (pieces old t)) (g.was ∙ none) ∙ ap (course_from [] number) next.answers.1,
-            ap (λ (t : List ℕ). course_from [] number (pieces new t)) (g.is ∙ later) ∙ ap (course_from [] number) next.answers.2,
+            ap (λ (t : List ℕ). reading_from [] number (pieces old t)) (g.was ∙ none) ∙ ap (reading_from [] number) next.answers.1,
+            ap (λ (t : List ℕ). reading_from [] number (pieces new t)) (g.is ∙ later) ∙ ap (reading_from [] number) next.answers.2,
           ),
         )
 
@@ -120,7 +120,7 @@ module _ (old new : LinesHeld) (before after : Given) (failed failed_then : Bool
     end_passed p next all sees =
         let g = goes before after next.pulled all next.given next.end sees in (
           g.back,
-          λ unread. ap (λ (t : List ℕ). course_from [] number (pieces old t)) g.was ∙ ap (course_from [] number) (next.answers sees.later sees.may),
+          λ unread. ap (λ (t : List ℕ). reading_from [] number (pieces old t)) g.was ∙ ap (reading_from [] number) (next.answers sees.later sees.may),
         )
 
     pub end_off : (fault : LineFault) → IsNextPieceFrom (pieces_left old) before failed (Err fault) (pieces_left new) after failed_then
@@ -129,7 +129,7 @@ module _ (old new : LinesHeld) (before after : Given) (failed failed_then : Bool
         let g = goes before after next.pulled all next.given next.end sees in (
           g.back,
           λ unread.
-              ap (λ (t : List ℕ). course_from [] number (pieces old t)) g.was
+              ap (λ (t : List ℕ). reading_from [] number (pieces old t)) g.was
               ∙ long_end number found (pieces old (next.pulled ++ sees.later)) (next.answers sees.later sees.may),
         )
     end_off (of_line.ReadFault found) next all sees = ((goes before after next.pulled all next.given next.end sees).back, λ unread. absurd (unread (inr refl)))

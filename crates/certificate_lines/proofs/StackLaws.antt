@@ -33,7 +33,7 @@ module _ (below : List Wanted) where
   pub bounded_after : (w : Wanted) (item : Item) → IsWanted w item → HasRoom (length below) w → greatest_place below ≤ most + 1 → greatest_place (wanted_after w item ++ below) ≤ most + 1
   bounded_after want.Head (Head format One) fits room h = omega arith
   bounded_after want.Head (Head format Two) fits room h = omega arith
-  bounded_after (want.Window format) (Within window) fits room h = omega arith
+  bounded_after (want.Tolerance format) (Within tolerance) fits room h = omega arith
   bounded_after (want.Order format) (Order county_codes) fits room h = omega arith
   bounded_after want.Target (Target (Some groups)) fits room h = counted_go (want.Groups groups) below (nat_lt 0 groups) room h
   bounded_after (want.Groups left) item fits room h = counted_go (want.Groups (left - 1)) below (nat_lt 0 (left - 1)) room h

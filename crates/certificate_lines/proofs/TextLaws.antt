@@ -13,7 +13,7 @@ use Rattle.certificate_lines.specs.Items.{by_words, head_in, headed, seen, taken
 use Rattle.certificate_lines.specs.Rest.{text_fault_at}
 use Rattle.certificate_lines.specs.Spelling.{item_words, item_line, text_of_items}
 use Rattle.certificate_lines.proofs.WordLaws.{bind_ok}
-use Rattle.certificate_lines.proofs.FormLaws.{window_ok, order_ok, limit_ok, target_ok, group_ok, opening_ok, part_ok, take_ok, allowance_ok, end_ok}
+use Rattle.certificate_lines.proofs.FormLaws.{tolerance_ok, order_ok, limit_ok, target_ok, group_ok, opening_ok, part_ok, take_ok, allowance_ok, end_ok}
 use Rattle.certificate_lines.specs.declared.fault.TextKind.{TextKind}
 use Rattle.certificate_lines.specs.declared.fault.TextKind.TheVariants.{BadWord, NotCanonical, CutShort}
 use Rattle.certificate_lines.specs.declared.fault.TextFault.{TextFault}
@@ -101,7 +101,7 @@ item_ok want.Head piece item h =
     let b = bind_ok (line_bytes piece.bytes piece.ended) line.head_on s.value s.first in
     let l = line_bytes_ok piece.bytes b.value piece.ended b.first in
     record { ended = l.0; bytes = ap (λ (i : Item). join_with_byte 32 (item_words i)) (sym s.view_is) ∙ head_ok b.value s.value b.then ∙ sym l.1 }
-item_ok (want.Window format) piece item h = by_words_ok line.window_on Within piece item window_ok h
+item_ok (want.Tolerance format) piece item h = by_words_ok line.tolerance_on Within piece item tolerance_ok h
 item_ok (want.Order format) piece item h = by_words_ok line.order_on Order piece item order_ok h
 item_ok want.Limit piece item h = by_words_ok line.limit_on Limit piece item limit_ok h
 item_ok want.Target piece item h = by_words_ok line.target_on Target piece item target_ok h

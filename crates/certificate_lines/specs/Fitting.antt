@@ -2,7 +2,7 @@
 use Rattle.std.specs.Prelude.{◌≡◌, ℕ, ◌<◌, ◌≤◌, true, List, [], ◌∷◌, ◌++◌, length, Some, None}
 use Rattle.std.specs.List.{AllByRecursion, join_with_byte}
 use Rattle.field_lines.specs.Fault.{most_bytes}
-use Rattle.county_codes.specs.Windows.{is_window}
+use Rattle.county_codes.specs.Tolerances.{is_tolerance}
 use Rattle.certificate_lines.specs.Lines.{most, ascend}
 use Rattle.certificate_lines.specs.Items.{wanted_after}
 use Rattle.certificate_lines.specs.Spelling.{item_words}
@@ -52,7 +52,7 @@ IsOpening format levels first = ⊥
 -- the item may stand where this is wanted, and its numbers are in their ranges
 abbrev pub IsWanted : Wanted → Item → Type 0
 IsWanted want.Head (Head format version) = Unit {0}
-IsWanted (want.Window format) (Within window) = is_window window ≡ true
+IsWanted (want.Tolerance format) (Within tolerance) = is_tolerance tolerance ≡ true
 IsWanted (want.Order format) (Order county_codes) = (length county_codes ≤ most) × AreCodes county_codes
 IsWanted want.Limit (Limit limit) = limit ≤ most
 IsWanted want.Target (Target None) = Unit {0}

@@ -55,7 +55,7 @@ headed head = Head head.0 head.1
 -- the item on a line, where something is wanted
 abbrev pub item_on : Wanted → RawLine → Result Item TextKind
 item_on want.Head piece = seen headed (head_in piece.bytes piece.ended)
-item_on (want.Window format) piece = seen Within (by_words line.window_on piece)
+item_on (want.Tolerance format) piece = seen Within (by_words line.tolerance_on piece)
 item_on (want.Order format) piece = seen Order (by_words line.order_on piece)
 item_on want.Limit piece = seen Limit (by_words line.limit_on piece)
 item_on want.Target piece = seen Target (by_words line.target_on piece)
@@ -77,8 +77,8 @@ allowances_wanted n = if nat_lt 0 n then want.Allowances n ∷ [] else []
 -- what is wanted in the place of what was wanted, after an item
 abbrev pub wanted_after : Wanted → Item → List Wanted
 wanted_after want.Head (Head format One) = want.Order format ∷ []
-wanted_after want.Head (Head format Two) = want.Window format ∷ []
-wanted_after (want.Window format) (Within window) = want.Order format ∷ []
+wanted_after want.Head (Head format Two) = want.Tolerance format ∷ []
+wanted_after (want.Tolerance format) (Within tolerance) = want.Order format ∷ []
 wanted_after (want.Order format) (Order county_codes) =
     want.Limit ∷ want.Target ∷ want.Tree format (length county_codes) ∷ want.End ∷ []
 wanted_after want.Target (Target (Some groups)) = groups_wanted groups

@@ -8,7 +8,7 @@ use Rattle.field_lines.specs.LinesFrom.{LinesHeld, nothing_read}
 use Rattle.field_lines.specs.declared.fault.LineFault.{LineFault}
 use Rattle.field_lines.specs.declared.fault.LineFault.TheVariants as line
 use Rattle.certificate_lines.specs.Rest.{text_fault_at, IsUnread}
-use Rattle.certificate_lines.specs.Courses.{Unread, nothing, only_fault, first, course_from, IsNextItem, IsNextItemRead}
+use Rattle.certificate_lines.specs.ItemReadings.{Unread, nothing, only_fault, first, reading_from, IsNextItem, IsNextItemRead}
 use Rattle.certificate_lines.specs.declared.fault.TextKind.{TextKind}
 use Rattle.certificate_lines.specs.declared.fault.TextKind.TheVariants.{ReadFault, Memory}
 use Rattle.certificate_lines.specs.declared.fault.TextFault.{TextFault}
@@ -22,11 +22,11 @@ ItemsLeft = List ℕ → Unread
 
 -- of a text in memory: no byte comes later
 abbrev pub in_memory : Unread → ItemsLeft
-in_memory course = λ later. course
+in_memory reading = λ later. reading
 
 -- of a text that is read, where these things are wanted in turn, the first on a line of this number
 abbrev pub left_at : List Wanted → ℕ → LinesHeld → ItemsLeft
-left_at wanted number held = λ later. course_from wanted number (raw_lines_from held.number (held.bytes ++ later))
+left_at wanted number held = λ later. reading_from wanted number (raw_lines_from held.number (held.bytes ++ later))
 
 -- what a reader of items has: what is wanted, on a stack, whose top is its last; the number of the next line; what its
 -- reader of lines has; and the fault that was answered
@@ -49,15 +49,15 @@ abbrev pub left_of_reader : ItemsHeld → ItemsLeft
 left_of_reader h = unless_found (left_at (reverse h.wanted) h.number h.held) h.fault
 
 -- what is to come where the source gave so much so far, and gives this text in the end
-abbrev pub course_by : ItemsLeft → Given → List ℕ → Unread
-course_by left given all = left (drop (length given.bytes) all)
+abbrev pub reading_by : ItemsLeft → Given → List ℕ → Unread
+reading_by left given all = left (drop (length given.bytes) all)
 
 -- Whatever text the source may give in the end: it might before, and of what was to come and what is to come this
 -- holds.
 abbrev pub Through : ItemsLeft → Given → ItemsLeft → Given → (Unread → Unread → Type 0) → Type 0
 Through old before new after Holds =
     (all : List ℕ) → Foresees after all
-    → Foresees before all × Holds (course_by old before all) (course_by new after all)
+    → Foresees before all × Holds (reading_by old before all) (reading_by new after all)
 
 -- what a call of a source of items answers
 abbrev pub IsNextItemOf : ItemsLeft → Given → Result (Option Item) TextFault → ItemsLeft → Given → Type 0

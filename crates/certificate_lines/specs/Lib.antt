@@ -7,7 +7,7 @@ pub mod Spelling
 pub mod Fitting
 pub mod Reading
 pub mod Writing
-pub mod Courses
+pub mod ItemReadings
 pub mod ItemsLeft
 pub mod Stacks
 pub mod KindWords

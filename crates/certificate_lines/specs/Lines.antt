@@ -6,7 +6,7 @@ use Rattle.std.specs.Cmp.Lexicographic.{pointwise}
 use Rattle.field_lines.specs.Chain.{◌>>=◌}
 use Rattle.county_codes.specs.Limits.{most_counties}
 use Rattle.county_codes.specs.declared.group.Group.{Group}
-use Rattle.county_codes.specs.declared.window.Window.{Window}
+use Rattle.county_codes.specs.declared.tolerance.Tolerance.{Tolerance}
 use Rattle.certificate_lines.specs.Words.{number, code, pair}
 use Rattle.certificate_lines.specs.declared.fault.TextKind.{TextKind}
 use Rattle.certificate_lines.specs.declared.fault.TextKind.TheVariants.{BadHead, BadWord, BadNumber, NotCanonical}
@@ -74,9 +74,9 @@ head_on bytes =
     else if pointwise nat_eq bytes (codes "county-groups wide certificate 2") then Ok (Wide, Two)
     else Err BadHead
 
--- the allowance that a certificate names: a fraction of at most a half
-unfoldable pub window_on : List (List ℕ) → Result Window TextKind
-window_on line = do
+-- the tolerance that a certificate names: a fraction of at most a half
+unfoldable pub tolerance_on : List (List ℕ) → Result Tolerance TextKind
+tolerance_on line = do
   words ← named (codes "window") line
   words ← counted 2 2 words
   part ← number_at 0 500 words

@@ -8,7 +8,7 @@ use Rattle.certificate_lines.specs.declared.item.Wanted.TheVariants as want
 -- groups of a branch put one tree above their own place, even where no level is left.
 abbrev pub room_of : Wanted → ℕ
 room_of want.Head = most + 1
-room_of (want.Window format) = most + 1
+room_of (want.Tolerance format) = most + 1
 room_of (want.Order format) = most + 1
 room_of (want.Tree format levels) = levels
 room_of (want.Takes format levels) = 1 + (levels - 1)

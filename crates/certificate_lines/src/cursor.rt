@@ -9,11 +9,11 @@ use crate::fault::{TextFault, TextKind};
 use crate::item::{Opening, Version};
 use crate::lines::{
     allowance_on, end_on, group_on, head_on, limit_on, opening_on, order_on, part_on, take_on,
-    target_on, window_on,
+    target_on, tolerance_on,
 };
 use crate::words::{Words, bytes_of_line};
 use certificate_data::{Allowance, Format};
-use county_codes::{Codes, Group, Window};
+use county_codes::{Codes, Group, Tolerance};
 use field_lines::split_piece;
 use std::alloc::Global;
 use std::marker::Model;
@@ -137,13 +137,13 @@ impl<'a> Cursor<'a> {
         }
     }
 
-    /// Reads the allowance that the certificate names.
-    pub fn window(&mut self) -> Result<Window, TextFault>
-        ensures { ReadsLine (λ r. r) (by_words line.window_on) self.old result self.new }
+    /// Reads the tolerance that the certificate names.
+    pub fn tolerance(&mut self) -> Result<Tolerance, TextFault>
+        ensures { ReadsLine (λ r. r) (by_words line.tolerance_on) self.old result self.new }
     {
         let (mut words, line) = self.next_words()?;
-        match window_on(&mut words) {
-            Ok(window) => Ok(window),
+        match tolerance_on(&mut words) {
+            Ok(tolerance) => Ok(tolerance),
             Err(kind) => Err(TextFault { kind, line }),
         }
     }

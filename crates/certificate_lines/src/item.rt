@@ -1,7 +1,7 @@
 //! What a line of a certificate says, and what is wanted of the next line.
 
 use certificate_data::{Allowance, Format};
-use county_codes::{Codes, CountyCode, Group, Window};
+use county_codes::{Codes, CountyCode, Group, Tolerance};
 
 /// The line that opens a tree, or that is all of it.
 #[derive(Clone, Copy, Debug, PartialEq, Eq)]
@@ -23,7 +23,7 @@ pub enum Opening {
 
 /// The version that a head names.
 ///
-/// A certificate of version 2 names its allowance on the second line. One of version 1 has no such line: its allowance
+/// A certificate of version 2 names its tolerance on the second line. One of version 1 has no such line: its tolerance
 /// is a twentieth.
 #[derive(Clone, Copy, Debug, PartialEq, Eq)]
 pub enum Version {
@@ -38,8 +38,8 @@ pub enum Version {
 pub enum Item {
     /// The head of a certificate.
     Head(Format, Version),
-    /// The allowance that the certificate names.
-    Within(Window),
+    /// The tolerance that the certificate names.
+    Within(Tolerance),
     /// The counties in their order.
     Order(Codes),
     /// The greatest size of a group of the target.
@@ -68,8 +68,8 @@ pub enum Wanted {
     /// The head.
     #[default]
     Head,
-    /// The line that names the allowance.
-    Window(Format),
+    /// The line that names the tolerance.
+    Tolerance(Format),
     /// The order.
     Order(Format),
     /// The limit.

@@ -3,7 +3,7 @@
 ghost use Rattle.std.specs.Prelude.{◌≡◌, ◌≤◌, [], ◌∷◌, None};
 ghost use Rattle.field_lines.specs.{RawPieces.raw_lines, Source.{Given, nothing_comes}};
 ghost use Rattle.certificate_lines.specs.{Lines.most, Stacks.{HasRoom, IsBounded}};
-ghost use Rattle.certificate_lines.specs.Courses.{certificate_course, tree_course, course_from, course_left, IsNextItemRead};
+ghost use Rattle.certificate_lines.specs.ItemReadings.{certificate_reading, tree_reading, reading_from, reading_left, IsNextItemRead};
 ghost use Rattle.certificate_lines.specs.ItemsLeft.{ItemsLeft, in_memory, IsNextItemOf};
 ghost use Rattle.certificate_lines.specs.declared.item.Wanted.TheVariants as want;
 
@@ -43,7 +43,7 @@ pub trait ItemSource<F> {
 /// is its last element.
 fn next_at(alloc: Global, cursor: &mut Cursor, stack: &mut Stack) -> Result<Option<Item>, TextFault>
     requires { IsBounded stack.old.items }
-    ensures next { IsNextItemRead (course_left stack.old.items cursor.old None) result (course_left stack.new.items cursor.new None) }
+    ensures next { IsNextItemRead (reading_left stack.old.items cursor.old None) result (reading_left stack.new.items cursor.new None) }
     ensures bounded { IsBounded stack.new.items }
 {
     match stack.pop() {
@@ -77,12 +77,12 @@ pub struct Items<'a> {
 }
 
 impl<'a> Model for Items<'a> {
-    ghost use Rattle.certificate_lines.specs.{Courses.{Unread, course_left}, Stacks.IsBounded};
+    ghost use Rattle.certificate_lines.specs.{ItemReadings.{Unread, reading_left}, Stacks.IsBounded};
 
     /// The items to come, and the fault that ends them.
     ghost Value = { Unread };
 
-    ghost view = { λ s. course_left s.wanted.items s.cursor s.fault };
+    ghost view = { λ s. reading_left s.wanted.items s.cursor s.fault };
 
     ghost invariant = { λ s. IsBounded s.wanted.items };
 }
@@ -90,7 +90,7 @@ impl<'a> Model for Items<'a> {
 impl<'a> Items<'a> {
     /// Creates the items of a certificate's `text`.
     pub fn of_certificate(alloc: Global, text: &'a [u8]) -> Self
-        ensures { result ≡ certificate_course text.now }
+        ensures { result ≡ certificate_reading text.now }
     {
         Items::wanting(alloc, text, Wanted::Head)
     }
@@ -98,7 +98,7 @@ impl<'a> Items<'a> {
     /// Creates the items of a tree's `text`, for an order of `counties` counties.
     pub fn of_tree(alloc: Global, text: &'a [u8], format: Format, counties: u16) -> Self
         requires { counties ≤ most }
-        ensures { result ≡ tree_course format counties text.now }
+        ensures { result ≡ tree_reading format counties text.now }
     {
         Items::wanting(alloc, text, Wanted::Tree(format, counties))
     }
@@ -106,7 +106,7 @@ impl<'a> Items<'a> {
     /// Creates the items of a `text`, where `wanted` says what is wanted first.
     fn wanting(alloc: Global, text: &'a [u8], wanted: Wanted) -> Self
         requires { HasRoom 0 wanted }
-        ensures { result ≡ course_from (wanted ∷ []) 1 (raw_lines text.now) }
+        ensures { result ≡ reading_from (wanted ∷ []) 1 (raw_lines text.now) }
     {
         let mut stack = Stack::new();
         stack.push(wanted);

@@ -22,7 +22,7 @@ mod writing_lines;
 mod writing_words;
 
 pub use certificate_data::{Allowance, Weight, Weights};
-pub use county_codes::Window;
+pub use county_codes::Tolerance;
 pub use cursor::{Cursor, ended, push_on};
 pub use fault::{TextFault, TextKind, WriteFault};
 pub use fitting::{
@@ -34,7 +34,7 @@ pub use items_from::ItemsFrom;
 pub use lines::{MOST, ascend, levels_after};
 pub use words::Words;
 pub use writing_lines::{
-    push_group, push_group_line, push_head, push_limit, push_order, push_target_line, push_window,
+    push_group, push_group_line, push_head, push_limit, push_order, push_target_line, push_tolerance,
 };
 pub use writing_words::{
     push_code_and_number_line, push_code_line, push_codes_line, push_count_line,

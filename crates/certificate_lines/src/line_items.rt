@@ -2,7 +2,7 @@
 
 ghost use Rattle.std.specs.Prelude.{◌≡◌, ◌-◌, List, [], ◌∷◌, ◌++◌, reverse};
 ghost use Rattle.arrayvec.specs.ArrayVec.{array_vec_len};
-ghost use Rattle.certificate_lines.specs.{Stacks.HasRoom, Items.{wanted_after, parted}, Courses.{HasItem, IsStacked}};
+ghost use Rattle.certificate_lines.specs.{Stacks.HasRoom, Items.{wanted_after, parted}, ItemReadings.{HasItem, IsStacked}};
 ghost use Rattle.certificate_lines.specs.declared.item.Item.TheVariants as item;
 ghost use Rattle.certificate_lines.specs.declared.item.Wanted.{Wanted as WantedValue};
 ghost use Rattle.certificate_lines.specs.declared.item.Wanted.TheVariants as want;
@@ -12,7 +12,7 @@ use crate::fault::TextKind;
 use crate::item::{Item, Opening, Version, Wanted};
 use crate::lines::{
     allowance_on, end_on, group_on, levels_after, limit_on, opening_on, order_on, part_on, take_on,
-    target_on, window_on,
+    target_on, tolerance_on,
 };
 use crate::words::Words;
 use arrayvec::ArrayVec;
@@ -33,7 +33,7 @@ fn after_head(format: Format, version: Version) -> Wanted
 {
     match version {
         Version::One => Wanted::Order(format),
-        Version::Two => Wanted::Window(format),
+        Version::Two => Wanted::Tolerance(format),
     }
 }
 
@@ -48,21 +48,21 @@ fn head_item(bytes: &[u8], ended: bool, stack: &mut Stack) -> Result<Item, TextK
     Ok(Item::Head(format, version))
 }
 
-/// Reads the line that names the allowance, and pushes what is wanted after it onto the `stack`.
-fn window_item(
+/// Reads the line that names the tolerance, and pushes what is wanted after it onto the `stack`.
+fn tolerance_item(
     bytes: &[u8],
     ended: bool,
     stack: &mut Stack,
     format: Format,
 ) -> Result<Item, TextKind>
-    requires room { HasRoom (array_vec_len stack.old) (want.Window format) }
-    ensures read { HasItem (want.Window format) bytes.now ended result }
-    ensures stacked { IsStacked (want.Window format) result stack.old.items stack.new.items }
+    requires room { HasRoom (array_vec_len stack.old) (want.Tolerance format) }
+    ensures read { HasItem (want.Tolerance format) bytes.now ended result }
+    ensures stacked { IsStacked (want.Tolerance format) result stack.old.items stack.new.items }
 {
     let mut words = Words::new(bytes, ended)?;
-    let window = window_on(&mut words)?;
+    let tolerance = tolerance_on(&mut words)?;
     stack.push(Wanted::Order(format));
-    Ok(Item::Within(window))
+    Ok(Item::Within(tolerance))
 }
 
 /// Pushes what is wanted after an order of `counties` counties onto the `stack`.
@@ -326,7 +326,7 @@ pub(crate) fn item_at(
 {
     match wanted {
         Wanted::Head => head_item(bytes, ended, stack),
-        Wanted::Window(format) => window_item(bytes, ended, stack, format),
+        Wanted::Tolerance(format) => tolerance_item(bytes, ended, stack, format),
         Wanted::Order(format) => order_item(alloc, bytes, ended, stack, format),
         Wanted::Limit => limit_item(bytes, ended),
         Wanted::Target => target_item(bytes, ended, stack),

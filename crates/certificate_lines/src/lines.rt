@@ -3,7 +3,7 @@
 ghost use Rattle.std.specs.Prelude.{◌≡◌, ℕ, nat_lt, None, Ok, Err, IfOk, if◌then◌else◌};
 ghost use Rattle.field_lines.specs.Values.{GivesUnless};
 ghost use Rattle.certificate_data.specs.{Levels.after_raise, declared.format.Format.TheVariants.{Plain, Wide}};
-ghost use Rattle.certificate_lines.specs.Lines.{head_on, window_on, order_on, limit_on, target_on, group_on, branch_on, stuck_on, bound_on, opening_on, part_on, take_on, weigh_on, allowance_on, end_on, ascend, HasLevel, HasPartLevel};
+ghost use Rattle.certificate_lines.specs.Lines.{head_on, tolerance_on, order_on, limit_on, target_on, group_on, branch_on, stuck_on, bound_on, opening_on, part_on, take_on, weigh_on, allowance_on, end_on, ascend, HasLevel, HasPartLevel};
 ghost use Rattle.certificate_lines.specs.declared.fault.TextKind.TheVariants.{Memory, TooDeep};
 ghost use Rattle.certificate_lines.specs.declared.item.Opening.TheVariants.{Branch};
 
@@ -11,7 +11,7 @@ use crate::fault::TextKind;
 use crate::item::{Opening, Version};
 use crate::words::Words;
 use certificate_data::{Allowance, Format, Weight};
-use county_codes::{Codes, CountyCode, Group, MAX_COUNTIES, Window};
+use county_codes::{Codes, CountyCode, Group, MAX_COUNTIES, Tolerance};
 use std::alloc::Global;
 
 /// The greatest number of counties, groups, lines of a bound leaf and levels of branches.
@@ -47,19 +47,19 @@ pub(crate) fn head_on(bytes: &[u8]) -> Result<(Format, Version), TextKind>
     }
 }
 
-/// Reads the allowance that a certificate names, which is a fraction of at most a half.
-#[tactic(auto, unfolding(crate::specs::Lines::window_on))]
-pub(crate) fn window_on(words: &mut Words) -> Result<Window, TextKind>
-    ensures { result ≡ window_on words.old }
+/// Reads the tolerance that a certificate names, which is a fraction of at most a half.
+#[tactic(auto, unfolding(crate::specs::Lines::tolerance_on))]
+pub(crate) fn tolerance_on(words: &mut Words) -> Result<Tolerance, TextKind>
+    ensures { result ≡ tolerance_on words.old }
 {
     words.named(b"window")?;
     words.counted(2, 2)?;
-    let part = words.number(0, 500)?;
-    let whole = words.number(1, 1000)?;
-    if 2 * part <= whole {
-        Ok(Window {
-            part: part as u16,
-            whole: whole as u16,
+    let numerator = words.number(0, 500)?;
+    let denominator = words.number(1, 1000)?;
+    if 2 * numerator <= denominator {
+        Ok(Tolerance {
+            numerator: numerator as u16,
+            denominator: denominator as u16,
         })
     } else {
         Err(TextKind::BadNumber)

@@ -13,7 +13,7 @@ use crate::writing_words::{
     push_two_numbers_line,
 };
 use certificate_data::Format;
-use county_codes::{CountyCode, Group, Window};
+use county_codes::{CountyCode, Group, Tolerance};
 use std::alloc::AllocError;
 
 /// Appends the head that names the `format` and the `version`.
@@ -29,15 +29,15 @@ pub fn push_head(out: &mut Vec<u8>, format: Format, version: Version) -> Result<
     out.extend_from_slice(b"\n")
 }
 
-/// Appends the line that names the allowance.
-pub fn push_window(out: &mut Vec<u8>, window: Window) -> Result<(), AllocError>
-    ensures { OnOk result (out.new.items ≡ out.old.items ++ item_line (item.Within window)) }
+/// Appends the line that names the tolerance.
+pub fn push_tolerance(out: &mut Vec<u8>, tolerance: Tolerance) -> Result<(), AllocError>
+    ensures { OnOk result (out.new.items ≡ out.old.items ++ item_line (item.Within tolerance)) }
 {
     push_two_numbers_line(
         out,
         b"window ",
-        u32::from(window.part),
-        u32::from(window.whole),
+        u32::from(tolerance.numerator),
+        u32::from(tolerance.denominator),
     )
 }
 

@@ -1,6 +1,6 @@
 -- A certificate is read part by part.
 use Rattle.std.proofs.Common.{◌≡◌, ℕ, List, [], ◌∷◌, ◌++◌, length, Option, Ok, Err, refl, ap, sym, subst, ◌∙◌, append_assoc, append-nil}
-use Rattle.county_codes.specs.declared.window.Window.{Window}
+use Rattle.county_codes.specs.declared.tolerance.Tolerance.{Tolerance}
 use Rattle.grouping_laws.specs.Grouping.{Grouping}
 use Rattle.certificate_lines.specs.Lines as line
 use Rattle.certificate_lines.specs.Items.{by_words, items_in_front, certificate_items}
@@ -22,18 +22,18 @@ refuses_with a more x fault h mem later = ap (λ (w : List Wanted). items_at w x
 pub refused : (text : List ℕ) (start : Rest) → start ≡ record { number = 1; text = text } → (fault : TextFault) → Refuses (want.Head ∷ []) start fault → (IsTextMemory fault → ⊥) → certificate_items text ≡ Err fault
 refused text start is fault h mem = ap (items_at (want.Head ∷ [])) (sym is) ∙ h mem []
 
-module _ (text : List ℕ) (start a b c : Rest) (is : start ≡ record { number = 1; text = text }) (format : Format) (window : Option Window) (cs : List ℕ) (limit : ℕ)
-    (head : ReadsItems (want.Head ∷ []) start (items_of_head format window) (want.Order format ∷ []) a) (order : TakesTextLine (by_words line.order_on) cs a b) (limited : TakesTextLine (by_words line.limit_on) limit b c) where
+module _ (text : List ℕ) (start a b c : Rest) (is : start ≡ record { number = 1; text = text }) (format : Format) (tolerance : Option Tolerance) (cs : List ℕ) (limit : ℕ)
+    (head : ReadsItems (want.Head ∷ []) start (items_of_head format tolerance) (want.Order format ∷ []) a) (order : TakesTextLine (by_words line.order_on) cs a b) (limited : TakesTextLine (by_words line.limit_on) limit b c) where
   abbrev after_limit : List Wanted
   after_limit = want.Target ∷ want.Tree format (length cs) ∷ want.End ∷ []
 
   abbrev head_items : List Item
-  head_items = (items_of_head format window ++ item.Order cs ∷ []) ++ item.Limit limit ∷ []
+  head_items = (items_of_head format tolerance ++ item.Order cs ∷ []) ++ item.Limit limit ∷ []
 
   head_read : ReadsItems (want.Head ∷ []) start head_items after_limit c
   head_read =
-      reads_then (want.Head ∷ []) (want.Limit ∷ after_limit) after_limit start b c (items_of_head format window ++ item.Order cs ∷ []) (item.Limit limit ∷ [])
-      (reads_then (want.Head ∷ []) (want.Order format ∷ []) (want.Limit ∷ after_limit) start a b (items_of_head format window) (item.Order cs ∷ []) head
+      reads_then (want.Head ∷ []) (want.Limit ∷ after_limit) after_limit start b c (items_of_head format tolerance ++ item.Order cs ∷ []) (item.Limit limit ∷ [])
+      (reads_then (want.Head ∷ []) (want.Order format ∷ []) (want.Limit ∷ after_limit) start a b (items_of_head format tolerance) (item.Order cs ∷ []) head
       (reads_line (want.Order format) (by_words line.order_on) item.Order (λ piece. refl) cs a b order))
       (reads_with (want.Limit ∷ []) [] after_limit b c (item.Limit limit ∷ []) (reads_line want.Limit (by_words line.limit_on) item.Limit (λ piece. refl) limit b c limited))
 

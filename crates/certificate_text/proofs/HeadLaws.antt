@@ -1,6 +1,6 @@
--- The first lines are read: the head, and the allowance if one is named.
+-- The first lines are read: the head, and the tolerance if one is named.
 use Rattle.std.proofs.Common.{◌≡◌, [], ◌∷◌, Some, None, refl, subst}
-use Rattle.county_codes.specs.declared.window.Window.{Window}
+use Rattle.county_codes.specs.declared.tolerance.Tolerance.{Tolerance}
 use Rattle.certificate_lines.specs.Lines as line
 use Rattle.certificate_lines.specs.Items.{by_words, head_in, headed, wanted_after}
 use Rattle.certificate_lines.specs.Rest.{Rest, TakesTextLine}
@@ -23,8 +23,8 @@ module _ (old mid : Rest) (format : Format) (version : Version) (head : TakesTex
   pub bare_read : version ≡ One → ReadsItems (want.Head ∷ []) old (items_of_head format None) (want.Order format ∷ []) mid
   bare_read is = head_read One is
 
-  -- a head, and the line of the allowance
-  pub window_read : version ≡ Two → (w : Window) (new : Rest) → TakesTextLine (by_words line.window_on) w mid new → ReadsItems (want.Head ∷ []) old (items_of_head format (Some w)) (want.Order format ∷ []) new
-  window_read is w new taken =
-      reads_then (want.Head ∷ []) (want.Window format ∷ []) (want.Order format ∷ []) old mid new (item.Head format Two ∷ []) (item.Within w ∷ []) (head_read Two is)
-      (reads_line (want.Window format) (by_words line.window_on) item.Within (λ piece. refl) w mid new taken)
+  -- a head, and the line of the tolerance
+  pub tolerance_read : version ≡ Two → (w : Tolerance) (new : Rest) → TakesTextLine (by_words line.tolerance_on) w mid new → ReadsItems (want.Head ∷ []) old (items_of_head format (Some w)) (want.Order format ∷ []) new
+  tolerance_read is w new taken =
+      reads_then (want.Head ∷ []) (want.Tolerance format ∷ []) (want.Order format ∷ []) old mid new (item.Head format Two ∷ []) (item.Within w ∷ []) (head_read Two is)
+      (reads_line (want.Tolerance format) (by_words line.tolerance_on) item.Within (λ piece. refl) w mid new taken)

@@ -1,9 +1,9 @@
 -- Items whose numbers are in range fit where they are wanted, if branches aren't too deep.
 use Rattle.std.proofs.Common.{◌≡◌, ℕ, zero, suc, ◌-◌, ◌≤◌, List, [], ◌∷◌, ◌++◌, length, map, Option, Some, None, refl, sym, subst, append_assoc, arith}
 use Rattle.std.specs.List.{AllByRecursion}
-use Rattle.county_codes.specs.Windows.{FitsRange}
+use Rattle.county_codes.specs.Tolerances.{FitsRange}
 use Rattle.county_codes.specs.declared.group.Group.{Group}
-use Rattle.county_codes.specs.declared.window.Window.{Window}
+use Rattle.county_codes.specs.declared.tolerance.Tolerance.{Tolerance}
 use Rattle.grouping_laws.specs.Grouping.{Grouping}
 use Rattle.certificate_data.specs.declared.format.Format.{Format}
 use Rattle.certificate_data.specs.declared.format.Format.TheVariants.{Plain, Wide}
@@ -100,6 +100,6 @@ pub target_fits : (target : Option Grouping) (more : List Wanted) (rest : List I
 target_fits None more rest h f = (tt, f)
 target_fits (Some groups) more rest h f = (h.few, groups_fit (length groups) groups more rest refl h.each f)
 
-pub head_fits : (format : Format) (window : Option Window) (rest : List Item) → FitsRange window → AllFit (want.Order format ∷ []) rest → AllFit (want.Head ∷ []) (items_of_head format window ++ rest)
+pub head_fits : (format : Format) (tolerance : Option Tolerance) (rest : List Item) → FitsRange tolerance → AllFit (want.Order format ∷ []) rest → AllFit (want.Head ∷ []) (items_of_head format tolerance ++ rest)
 head_fits format None rest h f = (tt, f)
 head_fits format (Some w) rest h f = (tt, (h, f))

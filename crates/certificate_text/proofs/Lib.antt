@@ -10,7 +10,7 @@ pub mod FrontLaws
 pub mod GiveLaws
 pub mod FitLaws
 pub mod WriteLaws
-pub mod CourseLaws
+pub mod ItemReadingLaws
 pub mod TextKinds
 pub mod OneSpelling
 pub mod TreeFits

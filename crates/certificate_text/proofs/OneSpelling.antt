@@ -2,7 +2,7 @@
 use Rattle.std.proofs.Common.{◌≡◌, ℕ, List, [], ◌∷◌, ◌++◌, length, map, Option, Some, None, Result, Ok, refl, ap, sym, subst, ◌∙◌, append-nil}
 use Rattle.field_lines.specs.RawPieces.{raw_lines_from}
 use Rattle.county_codes.specs.declared.group.Group.{Group}
-use Rattle.county_codes.specs.declared.window.Window.{Window}
+use Rattle.county_codes.specs.declared.tolerance.Tolerance.{Tolerance}
 use Rattle.grouping_laws.specs.Grouping.{Grouping}
 use Rattle.certificate_data.specs.Tree.{Tree}
 use Rattle.certificate_data.specs.declared.format.Format.{Format}
@@ -42,7 +42,7 @@ target_back (Some gs) (Some hs) xs ys h =
     let groups = groups_back gs hs xs ys long first.1 in
     (ap (λ (g : Grouping). Some g) groups.0, groups.1)
 
-head_back : (l m : Format) (w v : Option Window) (xs ys : List Item) → items_of_head l w ++ xs ≡ items_of_head m v ++ ys → (l ≡ m) × (w ≡ v) × (xs ≡ ys)
+head_back : (l m : Format) (w v : Option Tolerance) (xs ys : List Item) → items_of_head l w ++ xs ≡ items_of_head m v ++ ys → (l ≡ m) × (w ≡ v) × (xs ≡ ys)
 head_back l m None None xs ys h = (cc ((heads _ _ _ _ h).0), refl, (heads _ _ _ _ h).1)
 head_back l m None (Some v) xs ys h = cc ((heads _ _ _ _ h).0)
 head_back l m (Some w) None xs ys h = cc ((heads _ _ _ _ h).0)
@@ -50,29 +50,29 @@ head_back l m (Some w) (Some v) xs ys h =
     let first = heads _ _ _ _ h in
     let second = heads _ _ _ _ first.1 in
     let format : l ≡ m = cc (first.0) in
-    let window : w ≡ v = cc (second.0) in
-    (format, ap (λ (x : Window). Some x) window, second.1)
+    let tolerance : w ≡ v = cc (second.0) in
+    (format, ap (λ (x : Tolerance). Some x) tolerance, second.1)
 
-made : Format → Option Window → List ℕ → ℕ → Option Grouping → Tree → Certificate
-made format window order limit target tree = record { round = record { order = order; limit = limit; target = target; format = format; window = window }; tree = tree }
+made : Format → Option Tolerance → List ℕ → ℕ → Option Grouping → Tree → Certificate
+made format tolerance order limit target tree = record { round = record { order = order; limit = limit; target = target; format = format; tolerance = tolerance }; tree = tree }
 
-made_same : (l m : Format) (w v : Option Window) (o p : List ℕ) (j k : ℕ) (g h : Option Grouping) (t u : Tree) → l ≡ m → w ≡ v → o ≡ p → j ≡ k → g ≡ h → t ≡ u → made l w o j g t ≡ made m v p k h u
+made_same : (l m : Format) (w v : Option Tolerance) (o p : List ℕ) (j k : ℕ) (g h : Option Grouping) (t u : Tree) → l ≡ m → w ≡ v → o ≡ p → j ≡ k → g ≡ h → t ≡ u → made l w o j g t ≡ made m v p k h u
 made_same l m w v o p j k g h t u a f b c d e =
-    ap (λ (x : Format). made x w o j g t) a ∙ ap (λ (x : Option Window). made m x o j g t) f ∙ ap (λ (x : List ℕ). made m v x j g t) b ∙ ap (λ (x : ℕ). made m v p x g t) c ∙ ap (λ (x : Option Grouping). made m v p k x t) d
+    ap (λ (x : Format). made x w o j g t) a ∙ ap (λ (x : Option Tolerance). made m x o j g t) f ∙ ap (λ (x : List ℕ). made m v x j g t) b ∙ ap (λ (x : ℕ). made m v p x g t) c ∙ ap (λ (x : Option Grouping). made m v p k x t) d
     ∙ ap (λ (x : Tree). made m v p k h x) e
 
 -- a certificate is told from its items
 pub certificate_back : (c d : Certificate) → items_of_certificate c ≡ items_of_certificate d → c ≡ d
 unfolding made
 certificate_back c d h =
-    let head = head_back c.round.format d.round.format c.round.window d.round.window _ _ h in
+    let head = head_back c.round.format d.round.format c.round.tolerance d.round.tolerance _ _ h in
     let order = heads _ _ _ _ head.2 in
     let limit = heads _ _ _ _ order.1 in
     let target = target_back c.round.target d.round.target (items_of_tree c.tree ++ item.End ∷ []) (items_of_tree d.tree ++ item.End ∷ []) limit.1 in
     let tree = tree_back c.tree d.tree (item.End ∷ []) (item.End ∷ []) target.1 in
     let order_is : c.round.order ≡ d.round.order = cc (order.0) in
     let limit_is : c.round.limit ≡ d.round.limit = cc (limit.0) in
-    made_same c.round.format d.round.format c.round.window d.round.window c.round.order d.round.order c.round.limit d.round.limit c.round.target d.round.target c.tree d.tree head.0 head.1 order_is limit_is target.0 tree.0
+    made_same c.round.format d.round.format c.round.tolerance d.round.tolerance c.round.order d.round.order c.round.limit d.round.limit c.round.target d.round.target c.tree d.tree head.0 head.1 order_is limit_is target.0 tree.0
 
 pub tree_told : (t u : Tree) → items_of_tree t ≡ items_of_tree u → t ≡ u
 tree_told t u h = (tree_back t u [] [] (append-nil (items_of_tree t) ∙ h ∙ sym (append-nil (items_of_tree u)))).0

@@ -2,9 +2,9 @@
 use Rattle.std.proofs.Common.{◌≡◌, ℕ, ◌≤◌, Bool, true, false, List, [], ◌∷◌, length, map, Some, None, refl, sym}
 use Rattle.std.specs.Prelude.{nat_le}
 use Rattle.std.proofs.lemmas.Bool.{le-leb, leb-true}
-use Rattle.county_codes.specs.Windows.{is_window}
+use Rattle.county_codes.specs.Tolerances.{is_tolerance}
 use Rattle.county_codes.specs.declared.group.Group.{Group}
-use Rattle.county_codes.specs.declared.window.Window.{Window}
+use Rattle.county_codes.specs.declared.tolerance.Tolerance.{Tolerance}
 use Rattle.certificate_data.specs.declared.format.Format.{Format}
 use Rattle.certificate_data.specs.Tree.{Tree, bound}
 use Rattle.certificate_lines.specs.Lines.{most}
@@ -43,13 +43,13 @@ bound_tested format levels ks false few h = bound_refused format levels ks few h
 pub plain_head : (format : Format) → Fitting (want.Head ∷ []) (items_of_head format None) (want.Order format ∷ [])
 plain_head format = fitting_line want.Head (item.Head format One) tt
 
-pub head_tested : (format : Format) (window : Window) (r : Bool) → r ≡ is_window window → Tests (want.Head ∷ []) (items_of_head format (Some window)) (want.Order format ∷ []) r
-head_tested format window true is =
-    fitting_then (want.Head ∷ []) (want.Window format ∷ []) (want.Order format ∷ []) (item.Head format Two ∷ []) (item.Within window ∷ []) (fitting_line want.Head (item.Head format Two) tt)
-    (fitting_line (want.Window format) (item.Within window) (sym is))
-head_tested format window false is =
-    refused_after (want.Head ∷ []) (want.Window format ∷ []) (item.Head format Two ∷ []) (item.Within window ∷ []) (fitting_line want.Head (item.Head format Two) tt)
-    (line_refused (want.Window format) [] (item.Within window) [] (λ fit. cc (is, fit)))
+pub head_tested : (format : Format) (tolerance : Tolerance) (r : Bool) → r ≡ is_tolerance tolerance → Tests (want.Head ∷ []) (items_of_head format (Some tolerance)) (want.Order format ∷ []) r
+head_tested format tolerance true is =
+    fitting_then (want.Head ∷ []) (want.Tolerance format ∷ []) (want.Order format ∷ []) (item.Head format Two ∷ []) (item.Within tolerance ∷ []) (fitting_line want.Head (item.Head format Two) tt)
+    (fitting_line (want.Tolerance format) (item.Within tolerance) (sym is))
+head_tested format tolerance false is =
+    refused_after (want.Head ∷ []) (want.Tolerance format ∷ []) (item.Head format Two ∷ []) (item.Within tolerance ∷ []) (fitting_line want.Head (item.Head format Two) tt)
+    (line_refused (want.Tolerance format) [] (item.Within tolerance) [] (λ fit. cc (is, fit)))
 
 -- what a test tells of a target
 pub no_target : Fitting (want.Target ∷ []) (items_of_target None) []

@@ -11,7 +11,7 @@ use Rattle.std.proofs.lemmas.List.Splits.{slice_split_none, slice_split_at}
 use Rattle.field_lines.specs.Chain.{◌>>=◌}
 use Rattle.field_lines.specs.Fault.{most_bytes}
 use Rattle.certificate_lines.specs.Words.{words_of, has_bytes, is_printable, is_canonical, line_bytes, line_words, code, pair}
-use Rattle.certificate_lines.specs.Lines.{most, begins, counted, number_at, code_word_at, each, order_on, window_on, limit_on, target_on, group_on, branch_on, stuck_on, bound_on, opening_on, take_on, weigh_on, allowance_on}
+use Rattle.certificate_lines.specs.Lines.{most, begins, counted, number_at, code_word_at, each, order_on, tolerance_on, limit_on, target_on, group_on, branch_on, stuck_on, bound_on, opening_on, take_on, weigh_on, allowance_on}
 use Rattle.county_codes.specs.Digits.{five_digits}
 use Rattle.certificate_lines.specs.Spelling.{weight_word, item_words}
 use Rattle.certificate_lines.specs.Fitting.{AreCodes, IsSet, FitsWeight, AreWeights}
@@ -20,10 +20,10 @@ use Rattle.certificate_lines.proofs.BackLaws.{number_back, code_back, pair_back,
 use Rattle.certificate_data.specs.declared.format.Format.{Format}
 use Rattle.certificate_data.specs.declared.format.Format.TheVariants.{Plain, Wide}
 use Rattle.certificate_data.specs.declared.weights.Weight.{Weight}
-use Rattle.county_codes.specs.Windows.{is_window}
-use Rattle.county_codes.proofs.WindowLemmas.{in_range}
+use Rattle.county_codes.specs.Tolerances.{is_tolerance}
+use Rattle.county_codes.proofs.ToleranceLemmas.{in_range}
 use Rattle.county_codes.specs.declared.group.Group.{Group}
-use Rattle.county_codes.specs.declared.window.Window.{Window}
+use Rattle.county_codes.specs.declared.tolerance.Tolerance.{Tolerance}
 use Rattle.certificate_data.specs.declared.allowance.Allowance.TheVariants.{Weigh}
 use Rattle.certificate_lines.specs.declared.item.Opening.TheVariants.{Branch, Stuck, Bound}
 use Rattle.certificate_lines.specs.declared.item.Item.TheVariants.{Within, Order, Limit, Target, Grouped, Opens, Takes, Allows}
@@ -111,12 +111,12 @@ length_map : {X Y : Type 0} (f : X → Y) (xs : List X) → length (map f xs) �
 length_map f [] = refl
 length_map f (x ∷ xs) = omega (arith, length_map f xs)
 
-pub window_back : (w : Window) → is_window w ≡ true → window_on (item_words (Within w)) ≡ Ok w
-unfolding window_on
-window_back w fits =
+pub tolerance_back : (w : Tolerance) → is_tolerance w ≡ true → tolerance_on (item_words (Within w)) ≡ Ok w
+unfolding tolerance_on
+tolerance_back w fits =
     let is = in_range w fits in
-    let half : nat_le (2 * w.part) w.whole ≡ true = le-leb (2 * w.part) w.whole is.half in
-    rw (number_at_back 0 500 w.part (decimal w.whole ∷ []) (omega arith) (omega (arith, is.half, is.few)) (lit< tt), number_at_back 1 1000 w.whole [] is.some is.few (lit< tt), half) refl
+    let half : nat_le (2 * w.numerator) w.denominator ≡ true = le-leb (2 * w.numerator) w.denominator is.half in
+    rw (number_at_back 0 500 w.numerator (decimal w.denominator ∷ []) (omega arith) (omega (arith, is.half, is.few)) (lit< tt), number_at_back 1 1000 w.denominator [] is.some is.few (lit< tt), half) refl
 
 pub order_back : (cs : List ℕ) → length cs ≤ most → AreCodes cs → order_on (item_words (Order cs)) ≡ Ok cs
 unfolding order_on

@@ -23,16 +23,16 @@ use Rattle.county_codes.proofs.DigitsBack.{code_digits}
 use Rattle.certificate_lines.proofs.WordLaws.{bind_ok}
 use Rattle.certificate_lines.proofs.FormLaws.{opening_ok}
 use Rattle.certificate_lines.proofs.TextLaws.{seen_ok}
-use Rattle.certificate_text.proofs.SpellLaws.{Shown, IsWord, Printed, printed_line, line_words_back, window_back, order_back, limit_back, group_back, take_back, plain_back, wide_back, stuck_back, bound_back, weigh_back, target_back}
+use Rattle.certificate_text.proofs.SpellLaws.{Shown, IsWord, Printed, printed_line, line_words_back, tolerance_back, order_back, limit_back, group_back, take_back, plain_back, wide_back, stuck_back, bound_back, weigh_back, target_back}
 use Rattle.certificate_lines.specs.declared.fault.TextKind.{TextKind}
 use Rattle.certificate_lines.specs.declared.fault.TextFault.{TextFault}
 use Rattle.certificate_data.specs.declared.format.Format.{Format}
 use Rattle.certificate_data.specs.declared.format.Format.TheVariants.{Plain, Wide}
 use Rattle.certificate_data.specs.declared.weights.Weight.{Weight}
-use Rattle.county_codes.specs.Windows.{is_window}
-use Rattle.county_codes.proofs.WindowLemmas.{in_range}
+use Rattle.county_codes.specs.Tolerances.{is_tolerance}
+use Rattle.county_codes.proofs.ToleranceLemmas.{in_range}
 use Rattle.county_codes.specs.declared.group.Group.{Group}
-use Rattle.county_codes.specs.declared.window.Window.{Window}
+use Rattle.county_codes.specs.declared.tolerance.Tolerance.{Tolerance}
 use Rattle.certificate_lines.specs.declared.item.Version.{Version}
 use Rattle.certificate_lines.specs.declared.item.Version.TheVariants.{One, Two}
 use Rattle.certificate_data.specs.declared.allowance.Allowance.TheVariants.{Room, Weigh}
@@ -122,15 +122,15 @@ module _ {X : Type 0} (read : List (List ℕ) → Result X TextKind) (view : X �
   few_said : read (first ∷ words) ≡ Ok x → seen view (by_words read (record { number = n; bytes = join_with_byte 32 (first ∷ words); ended = true })) ≡ Ok (view x)
   few_said h = said read view n first words x a.is_word (words_of_short words b) few_short h
 
-window_line : (n : ℕ) (format : Format) (w : Window) → is_window w ≡ true → IsLine n (want.Window format) (Within w)
-window_line n format w fits =
+tolerance_line : (n : ℕ) (format : Format) (w : Tolerance) → is_tolerance w ≡ true → IsLine n (want.Tolerance format) (Within w)
+tolerance_line n format w fits =
     let is = in_range w fits in
     let name = named_word (codes "window") refl (omega arith) (omega arith) in
-    let part = number_word w.part (omega (arith, is.half, is.few)) in
-    let whole = number_word w.whole (omega (arith, is.few)) in
+    let part = number_word w.numerator (omega (arith, is.half, is.few)) in
+    let whole = number_word w.denominator (omega (arith, is.few)) in
     record {
-      printed = few_printed line.window_on Within n (codes "window") (decimal w.part ∷ decimal w.whole ∷ []) w name (part, (whole, tt)) (omega arith);
-      read = few_said line.window_on Within n (codes "window") (decimal w.part ∷ decimal w.whole ∷ []) w name (part, (whole, tt)) (omega arith) (window_back w fits);
+      printed = few_printed line.tolerance_on Within n (codes "window") (decimal w.numerator ∷ decimal w.denominator ∷ []) w name (part, (whole, tt)) (omega arith);
+      read = few_said line.tolerance_on Within n (codes "window") (decimal w.numerator ∷ decimal w.denominator ∷ []) w name (part, (whole, tt)) (omega arith) (tolerance_back w fits);
     }
 
 order_line : (n : ℕ) (format : Format) (cs : List ℕ) → length cs ≤ most → AreCodes cs → IsLine n (want.Order format) (Order cs)
@@ -331,7 +331,7 @@ head_line n Wide Two = record { printed = printed_by (join_with_byte 32 (item_wo
 -- the line of what fits is read
 pub fits_line : (n : ℕ) (wanted : Wanted) (item : Item) → IsWanted wanted item → IsLine n wanted item
 fits_line n want.Head (Head format version) f = head_line n format version
-fits_line n (want.Window format) (Within w) f = window_line n format w f
+fits_line n (want.Tolerance format) (Within w) f = tolerance_line n format w f
 fits_line n (want.Order format) (Order cs) f = order_line n format cs f.0 f.1
 fits_line n want.Limit (Limit limit) f = limit_line n limit f
 fits_line n want.Target (Target None) f = none_line n

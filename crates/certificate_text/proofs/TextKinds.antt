@@ -7,8 +7,8 @@ use Rattle.field_lines.specs.RawPieces.{RawLine}
 use Rattle.certificate_lines.specs.Words.{line_bytes}
 use Rattle.certificate_lines.specs.Lines as line
 use Rattle.certificate_lines.specs.Items.{by_words, head_in, headed, seen, taken, parted, item_on, wanted_after}
-use Rattle.certificate_lines.proofs.LineKinds.{OfLine, Said, words_then_said, bytes_said, window_said, order_said, limit_said, target_said, group_said, opening_said, part_said, take_said, allowance_said, end_said}
-use Rattle.certificate_lines.specs.Courses.{Unread, only_fault, first, course_from}
+use Rattle.certificate_lines.proofs.LineKinds.{OfLine, Said, words_then_said, bytes_said, tolerance_said, order_said, limit_said, target_said, group_said, opening_said, part_said, take_said, allowance_said, end_said}
+use Rattle.certificate_lines.specs.ItemReadings.{Unread, only_fault, first, reading_from}
 use Rattle.certificate_lines.specs.Rest.{text_fault_at}
 use Rattle.certificate_lines.specs.declared.fault.TextKind.{TextKind}
 use Rattle.certificate_lines.specs.declared.fault.TextKind.TheVariants.{BadHead, BadWord, BadNumber, NotCanonical, CutShort, AfterEnd, TooDeep, ReadFault, Memory}
@@ -68,7 +68,7 @@ by_words_text read view piece h = seen_text view (by_words read piece) (said_tex
 
 item_text : (wanted : Wanted) (piece : RawLine) → SaidText (item_on wanted piece)
 item_text want.Head piece = seen_text headed (head_in piece.bytes piece.ended) (bind_text (line_bytes piece.bytes piece.ended) line.head_on (said_text (line_bytes piece.bytes piece.ended) (bytes_said piece.bytes piece.ended)) head_text)
-item_text (want.Window format) piece = by_words_text line.window_on item.Within piece window_said
+item_text (want.Tolerance format) piece = by_words_text line.tolerance_on item.Within piece tolerance_said
 item_text (want.Order format) piece = by_words_text line.order_on item.Order piece order_said
 item_text want.Limit piece = by_words_text line.limit_on item.Limit piece limit_said
 item_text want.Target piece = by_words_text line.target_on item.Target piece target_said
@@ -84,19 +84,19 @@ abbrev pub SaidFault : Option TextFault → Type 0
 SaidFault None = Unit {0}
 SaidFault (Some fault) = OfText fault.kind
 
-abbrev course_by : Wanted → ℕ → List RawLine → List Wanted → Result Item TextKind → Unread
-course_by w n pieces more r = elim r as (λ _. Unread) [
-  | Ok i ↦ first i (course_from (wanted_after w i ++ more) (n + 1) pieces)
+abbrev reading_by : Wanted → ℕ → List RawLine → List Wanted → Result Item TextKind → Unread
+reading_by w n pieces more r = elim r as (λ _. Unread) [
+  | Ok i ↦ first i (reading_from (wanted_after w i ++ more) (n + 1) pieces)
   | Err kind ↦ only_fault (text_fault_at kind n)
 ]
 
 -- the first fault where things are wanted in turn
-pub course_said : (wanted : List Wanted) (n : ℕ) (pieces : List RawLine) → SaidFault (course_from wanted n pieces).fault
-course_said [] n [] = tt
-course_said [] n (piece ∷ pieces) = tt
-course_said (w ∷ more) n [] = tt
-course_said (w ∷ more) n (piece ∷ pieces) = go (λ i. course_said (wanted_after w i ++ more) (n + 1) pieces) (item_on w piece) (item_text w piece)
+pub reading_said : (wanted : List Wanted) (n : ℕ) (pieces : List RawLine) → SaidFault (reading_from wanted n pieces).fault
+reading_said [] n [] = tt
+reading_said [] n (piece ∷ pieces) = tt
+reading_said (w ∷ more) n [] = tt
+reading_said (w ∷ more) n (piece ∷ pieces) = go (λ i. reading_said (wanted_after w i ++ more) (n + 1) pieces) (item_on w piece) (item_text w piece)
   where
-    go : ((i : Item) → SaidFault (course_from (wanted_after w i ++ more) (n + 1) pieces).fault) → (r : Result Item TextKind) → SaidText r → SaidFault (course_by w n pieces more r).fault
+    go : ((i : Item) → SaidFault (reading_from (wanted_after w i ++ more) (n + 1) pieces).fault) → (r : Result Item TextKind) → SaidText r → SaidFault (reading_by w n pieces more r).fault
     go later (Ok i) said = later i
     go later (Err kind) said = said

@@ -2,7 +2,7 @@
 use Rattle.std.specs.Prelude.{◌≡◌, ◌≢◌, ℕ, List, None, ◌⊎◌}
 use Rattle.certificate_data.specs.Tree.{Tree}
 use Rattle.certificate_data.specs.declared.format.Format.{Format}
-use Rattle.certificate_lines.specs.Courses.{tree_course}
+use Rattle.certificate_lines.specs.ItemReadings.{tree_reading}
 use Rattle.certificate_lines.specs.declared.fault.TextKind.TheVariants.{ReadFault, Memory}
 use Rattle.certificate_lines.specs.declared.fault.TextFault.{TextFault}
 use Rattle.certificate_text.specs.Trees.{items_of_tree}
@@ -14,14 +14,14 @@ use Rattle.certificate_text.specs.TreeFault.{lines_of_tree, HasTreeFault}
 pub record TreesSpell : Type 0 where
   -- lines without a fault spell the tree, and their items are the tree's
   pub spelled : (format : Format) (counties : ℕ) (tree : Tree) → AreTreeNumbers tree
-      → (tree_course format counties (lines_of_tree tree)).fault ≡ None
+      → (tree_reading format counties (lines_of_tree tree)).fault ≡ None
       → IsTreeSpelling format counties (lines_of_tree tree) tree
-      × ((tree_course format counties (lines_of_tree tree)).items ≡ items_of_tree tree)
+      × ((tree_reading format counties (lines_of_tree tree)).items ≡ items_of_tree tree)
   -- a text that spells a tree has its items, and no fault
   pub spelling : (format : Format) (counties : ℕ) (text : List ℕ) (tree : Tree)
       → IsTreeSpelling format counties text tree
-      → ((tree_course format counties text).items ≡ items_of_tree tree)
-      × ((tree_course format counties text).fault ≡ None)
+      → ((tree_reading format counties text).items ≡ items_of_tree tree)
+      × ((tree_reading format counties text).fault ≡ None)
   -- no text spells a tree whose lines have a fault
   pub unspelled : (format : Format) (counties : ℕ) (tree : Tree) (fault : TextFault)
       → HasTreeFault format counties tree fault → (text : List ℕ) → ¬ IsTreeSpelling format counties text tree

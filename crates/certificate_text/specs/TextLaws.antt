@@ -1,7 +1,7 @@
 -- Which proof trees and certificates have a text.
 use Rattle.std.specs.Prelude.{◌≡◌, ℕ, ◌≤◌, true, List, [], ◌∷◌, length}
 use Rattle.std.specs.List.{AllByRecursion}
-use Rattle.county_codes.specs.Windows.{FitsRange}
+use Rattle.county_codes.specs.Tolerances.{FitsRange}
 use Rattle.grouping_laws.specs.Problem.{Problem}
 use Rattle.grouping_laws.specs.GroupsFrom.{IsOrder}
 use Rattle.certificate_data.specs.Round.{Round}
@@ -28,6 +28,6 @@ pub record ProofTreesHaveTexts : Type 0 where
       → Proves tree p round s → HasLines round.format tree
       → AllFit (want.Tree round.format (length round.order) ∷ []) (items_of_tree tree)
   -- a text spells a certificate
-  pub certificate : (p : Problem) (c : Certificate) → IsCertificate p c.round c.tree → FitsRange c.round.window
+  pub certificate : (p : Problem) (c : Certificate) → IsCertificate p c.round c.tree → FitsRange c.round.tolerance
       → length c.round.order ≤ most → AreCodes c.round.order → c.round.limit ≤ most → TargetHasLines c.round.target
       → HasLines c.round.format c.tree → (text : List ℕ) × IsSpelling text c

@@ -1,6 +1,6 @@
 -- The items that trees and certificates are spelled by.
 use Rattle.std.specs.Prelude.{List, [], ◌∷◌, ◌++◌, map, length, Option, Some, None}
-use Rattle.county_codes.specs.declared.window.Window.{Window}
+use Rattle.county_codes.specs.declared.tolerance.Tolerance.{Tolerance}
 use Rattle.grouping_laws.specs.Grouping.{Grouping}
 use Rattle.certificate_data.specs.declared.format.Format.{Format}
 use Rattle.certificate_data.specs.Tree.{Leaf, stuck, seats, bound, Tree, leaf, branch, Takes, no_take, take}
@@ -27,10 +27,10 @@ abbrev mutual
   items_of_takes no_take = []
   items_of_takes (take codes tree others) = item.Takes codes ∷ (items_of_tree tree ++ items_of_takes others)
 
--- the head, and the allowance on the second line if one is named
-abbrev pub items_of_head : Format → Option Window → List Item
+-- the head, and the tolerance on the second line if one is named
+abbrev pub items_of_head : Format → Option Tolerance → List Item
 items_of_head format None = item.Head format One ∷ []
-items_of_head format (Some window) = item.Head format Two ∷ item.Within window ∷ []
+items_of_head format (Some tolerance) = item.Head format Two ∷ item.Within tolerance ∷ []
 
 -- the items of a target
 abbrev pub items_of_target : Option Grouping → List Item
@@ -40,6 +40,6 @@ items_of_target (Some groups) = item.Target (Some (length groups)) ∷ map item.
 -- the items of a certificate
 abbrev pub items_of_certificate : Certificate → List Item
 items_of_certificate c =
-    items_of_head c.round.format c.round.window
+    items_of_head c.round.format c.round.tolerance
     ++ (item.Order c.round.order ∷ item.Limit c.round.limit
     ∷ (items_of_target c.round.target ++ (items_of_tree c.tree ++ item.End ∷ [])))

@@ -14,7 +14,7 @@ use certificate_data::{Allowance, Certificate, Format, Leaf, Take, Tree};
 use certificate_lines::{
     allowance_fits, are_few, branch_fits, group_fits, is_code, levels_after, order_fits, take_fits,
 };
-use county_codes::{Group, Grouping, Window};
+use county_codes::{Group, Grouping, Tolerance};
 
 /// Returns whether the lines of a bound leaf after its first one fit.
 fn allowances_fit(allowances: &[Allowance]) -> bool
@@ -87,14 +87,14 @@ pub fn tree_fits(tree: &Tree, format: Format, levels: u16) -> bool
     leaf_fits(&tree.leaf)
 }
 
-/// Returns whether the head fits, and the line of the allowance if one is named.
-fn head_fits(window: Option<Window>) -> bool
+/// Returns whether the head fits, and the line of the tolerance if one is named.
+fn head_fits(tolerance: Option<Tolerance>) -> bool
     ensures { (format : Format)
-        → Tests (want.Head ∷ []) (items_of_head format window) (want.Order format ∷ []) result }
+        → Tests (want.Head ∷ []) (items_of_head format tolerance) (want.Order format ∷ []) result }
 {
-    match window {
+    match tolerance {
         None => true,
-        Some(window) => window.is_in_range(),
+        Some(tolerance) => tolerance.is_in_range(),
     }
 }
 
@@ -136,7 +136,7 @@ fn certificate_fits(certificate: &Certificate) -> bool
 {
     let round = &certificate.round;
     let order = round.order.as_slice();
-    if !head_fits(round.window) {
+    if !head_fits(round.tolerance) {
         return false;
     }
     if !order_fits(order) {

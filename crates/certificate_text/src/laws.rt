@@ -4,7 +4,7 @@ ghost use Rattle.std.specs.Prelude.{◌≡◌, ℕ, List, [], ◌++◌, Ok};
 ghost use Rattle.field_lines.specs.RawPieces.{RawLine, raw_lines_from};
 ghost use Rattle.certificate_data.specs.{Tree.Tree, declared.format.Format.Format, TreeValue.Certificate};
 ghost use Rattle.certificate_lines.specs.{declared.item.Item.Item, declared.item.Wanted.Wanted, Items.items_from};
-ghost use Rattle.certificate_lines.specs.{Courses.{course_from, whole}, Fitting.AllFit, Spelling.text_of_items};
+ghost use Rattle.certificate_lines.specs.{ItemReadings.{reading_from, whole}, Fitting.AllFit, Spelling.text_of_items};
 ghost use Rattle.certificate_text.specs.{LineLaws.TreesSpell, Spelling.{IsSpelling, IsTreeSpelling}};
 ghost use Rattle.certificate_text.specs.TextLaws.{ProofTreesHaveTexts};
 
@@ -22,7 +22,7 @@ pub fn items_and_texts_agree()
 /// States that the items of a text are those that come one at a time, if no fault ends them.
 pub fn items_come_in_turn()
     ensures { (wanted : List Wanted) (n : ℕ) (lines : List RawLine)
-        → whole (course_from wanted n lines).items (course_from wanted n lines).fault ≡ items_from wanted n lines }
+        → whole (reading_from wanted n lines).items (reading_from wanted n lines).fault ≡ items_from wanted n lines }
 {}
 
 /// States that a certificate has at most one text, and a text spells at most one certificate. No certificate's text

@@ -24,7 +24,7 @@ pub use certificate_data::{Allowance, Branch, Certificate, Leaf, Take, Tree, Wei
 pub use certificate_lines::{
     Item, ItemSource, Items, Opening, TextFault, TextKind, Version, Wanted, Words, WriteFault,
 };
-pub use county_codes::Window;
+pub use county_codes::Tolerance;
 pub use fitting::tree_fits;
 pub use laws::{
     certificates_have_one_text, items_and_texts_agree, items_come_in_turn, proof_trees_have_texts,

@@ -13,9 +13,9 @@ use certificate_data::{Allowance, Branch, Certificate, Format, Leaf, Take, Tree,
 use certificate_lines::{
     Version, push_code_and_number_line, push_code_line, push_codes_line, push_count_line,
     push_group_line, push_head, push_limit, push_number_and_weights, push_order, push_target_line,
-    push_window,
+    push_tolerance,
 };
-use county_codes::{CountyCode, Group, Grouping, Window};
+use county_codes::{CountyCode, Group, Grouping, Tolerance};
 use std::alloc::{AllocError, Global};
 
 /// Appends the first line of a bound leaf, which says how many `lines` follow.
@@ -143,19 +143,19 @@ pub fn tree_lines(alloc: Global, tree: &Tree) -> Result<Vec<u8>, AllocError>
     Ok(out)
 }
 
-/// Appends the head, and the line of the allowance if one is named.
+/// Appends the head, and the line of the tolerance if one is named.
 fn push_head_lines(
     out: &mut Vec<u8>,
     format: Format,
-    window: Option<Window>,
+    tolerance: Option<Tolerance>,
 ) -> Result<(), AllocError>
-    ensures { OnOk result (out.new.items ≡ out.old.items ++ text_of_items (items_of_head format window)) }
+    ensures { OnOk result (out.new.items ≡ out.old.items ++ text_of_items (items_of_head format tolerance)) }
 {
-    match window {
+    match tolerance {
         None => push_head(out, format, Version::One),
-        Some(window) => {
+        Some(tolerance) => {
             push_head(out, format, Version::Two)?;
-            push_window(out, window)
+            push_tolerance(out, tolerance)
         }
     }
 }
@@ -189,7 +189,7 @@ pub(crate) fn lines_of(alloc: Global, certificate: &Certificate) -> Result<Vec<u
 {
     let round = &certificate.round;
     let mut out = Vec::new(alloc);
-    push_head_lines(&mut out, round.format, round.window)?;
+    push_head_lines(&mut out, round.format, round.tolerance)?;
     push_order(&mut out, round.order.as_slice())?;
     push_limit(&mut out, round.limit)?;
     push_target(&mut out, &round.target)?;

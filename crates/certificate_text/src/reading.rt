@@ -17,7 +17,7 @@ ghost use Rattle.certificate_lines.specs.declared.item.Wanted.TheVariants as wan
 
 use certificate_data::{Allowance, Branch, Certificate, Format, Leaf, Round, Take, Tree};
 use certificate_lines::{Cursor, Opening, TextFault, Version, ended, levels_after, push_on};
-use county_codes::{Group, Grouping, Window};
+use county_codes::{Group, Grouping, Tolerance};
 use std::alloc::Global;
 
 /// Reads `count` lines of a bound leaf.
@@ -125,8 +125,8 @@ fn tree_at(
     }
 }
 
-/// Reads the format, and the allowance if one is named.
-fn head_at(cursor: &mut Cursor) -> Result<(Format, Option<Window>), TextFault>
+/// Reads the format, and the tolerance if one is named.
+fn head_at(cursor: &mut Cursor) -> Result<(Format, Option<Tolerance>), TextFault>
     ensures read { IfOk result (λ h. ReadsItems (want.Head ∷ []) cursor.old (items_of_head h.0 h.1) (want.Order h.0
         ∷ []) cursor.new) }
     ensures fault { IfErr result (λ f. Refuses (want.Head ∷ []) cursor.old f) }
@@ -135,8 +135,8 @@ fn head_at(cursor: &mut Cursor) -> Result<(Format, Option<Window>), TextFault>
     match version {
         Version::One => Ok((format, None)),
         Version::Two => {
-            let window = cursor.window()?;
-            Ok((format, Some(window)))
+            let tolerance = cursor.tolerance()?;
+            Ok((format, Some(tolerance)))
         }
     }
 }
@@ -159,7 +159,7 @@ fn certificate_at(alloc: Global, text: &[u8]) -> Result<Certificate, TextFault>
     ensures { GivesItems (λ c. items_of_certificate (certificate_of c)) result (certificate_items text.now) }
 {
     let mut cursor = Cursor::new(text);
-    let (format, window) = head_at(&mut cursor)?;
+    let (format, tolerance) = head_at(&mut cursor)?;
     let order = cursor.order(alloc)?;
     let limit = cursor.limit()?;
     let target = target_at(alloc, &mut cursor)?;
@@ -172,7 +172,7 @@ fn certificate_at(alloc: Global, text: &[u8]) -> Result<Certificate, TextFault>
             limit,
             target,
             format,
-            window,
+            tolerance,
         },
         tree,
     })

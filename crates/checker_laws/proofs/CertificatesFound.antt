@@ -1,6 +1,6 @@
 -- Items that come one after the other from the head on are the items of a certificate.
 use Rattle.std.proofs.Common.{◌≡◌, ℕ, List, [], ◌∷◌, ◌++◌, length, map, Option, Some, None, refl, ap, sym, ◌∙◌}
-use Rattle.county_codes.specs.declared.window.Window.{Window}
+use Rattle.county_codes.specs.declared.tolerance.Tolerance.{Tolerance}
 use Rattle.grouping_laws.specs.Grouping.{Grouping}
 use Rattle.certificate_data.specs.Tree.{Tree}
 use Rattle.certificate_data.specs.declared.format.Format.{Format}
@@ -30,12 +30,12 @@ from_target more (item.Target (Some n) ∷ later) f = target_groups n more later
 from_target more (_ ∷ later) f = absurd f.0
 
 -- the items of a certificate, piece by piece
-joined : (format : Format) (window : Option Window) (order : List ℕ) (limit : ℕ) (target : Option Grouping) (tree : Tree) (a b c d e f : List Item) → a ≡ items_of_head format window ++ b → b ≡ item.Order order ∷ c → c ≡ item.Limit limit ∷ d
-    → d ≡ items_of_target target ++ e → e ≡ items_of_tree tree ++ f → f ≡ item.End ∷ [] → a ≡ items_of_certificate (record { round = record { order = order; limit = limit; target = target; format = format; window = window }; tree = tree })
-joined format window order limit target tree a b c d e f head ordered limited targeted grown ended =
+joined : (format : Format) (tolerance : Option Tolerance) (order : List ℕ) (limit : ℕ) (target : Option Grouping) (tree : Tree) (a b c d e f : List Item) → a ≡ items_of_head format tolerance ++ b → b ≡ item.Order order ∷ c → c ≡ item.Limit limit ∷ d
+    → d ≡ items_of_target target ++ e → e ≡ items_of_tree tree ++ f → f ≡ item.End ∷ [] → a ≡ items_of_certificate (record { round = record { order = order; limit = limit; target = target; format = format; tolerance = tolerance }; tree = tree })
+joined format tolerance order limit target tree a b c d e f head ordered limited targeted grown ended =
     let last : e ≡ items_of_tree tree ++ item.End ∷ [] = grown ∙ ap (λ (l : List Item). items_of_tree tree ++ l) ended in
     let behind : d ≡ items_of_target target ++ (items_of_tree tree ++ item.End ∷ []) = targeted ∙ ap (λ (l : List Item). items_of_target target ++ l) last in
-    head ∙ ap (λ (l : List Item). items_of_head format window ++ l) (ordered ∙ ap (λ (l : List Item). item.Order order ∷ l) (limited ∙ ap (λ (l : List Item). item.Limit limit ∷ l) behind))
+    head ∙ ap (λ (l : List Item). items_of_head format tolerance ++ l) (ordered ∙ ap (λ (l : List Item). item.Order order ∷ l) (limited ∙ ap (λ (l : List Item). item.Limit limit ∷ l) behind))
 
 pub certificate_found : (items : List Item) → AllFit (want.Head ∷ []) items → (c : Certificate) × (items ≡ items_of_certificate c)
 certificate_found items f =
@@ -44,6 +44,6 @@ certificate_found items f =
     let limit = from_limit (want.Target ∷ want.Tree head.format (length order.0) ∷ want.End ∷ []) order.1 order.3 in
     let target = from_target (want.Tree head.format (length order.0) ∷ want.End ∷ []) limit.1 limit.3 in
     let tree = tree_found head.format (length order.0) (want.End ∷ []) target.1 target.3 in (
-      record { round = record { order = order.0; limit = limit.0; target = target.0; format = head.format; window = head.window }; tree = tree.tree },
-      joined head.format head.window order.0 limit.0 target.0 tree.tree items head.later order.1 limit.1 target.1 tree.later head.are order.2 limit.2 target.2 tree.are (from_end tree.later tree.fits),
+      record { round = record { order = order.0; limit = limit.0; target = target.0; format = head.format; tolerance = head.tolerance }; tree = tree.tree },
+      joined head.format head.tolerance order.0 limit.0 target.0 tree.tree items head.later order.1 limit.1 target.1 tree.later head.are order.2 limit.2 target.2 tree.are (from_end tree.later tree.fits),
     )

@@ -2,7 +2,7 @@
 use Rattle.std.proofs.Common.{◌≡◌, ℕ, ◌+◌, ◌*◌, ◌≤◌, List, [], ◌∷◌, map, length, Option, Some, None, refl, sym, ap, ◌∙◌, subst, arith, inl, inr, AllPairs}
 use Rattle.grouping_laws.specs.Problem.{Problem}
 use Rattle.grouping_laws.specs.Grouping.{Grouping, counts, sets_of}
-use Rattle.grouping_laws.specs.Allowance.{HasWindow}
+use Rattle.grouping_laws.specs.Tolerance.{HasTolerance}
 use Rattle.grouping_laws.specs.GroupsFrom.{IsOrder, IsLesser, IsBefore, place}
 use Rattle.grouping_laws.proofs.Elements.{Has, has_from_contains, contains_from_has}
 use Rattle.certificate_data.specs.Round.{Round}
@@ -16,7 +16,7 @@ use Rattle.certificate_laws.proofs.Kept.{head_before, tail_pairs}
 use Rattle.checker_laws.specs.Leaves.{IsEven}
 use Rattle.checker_laws.specs.Branches.{IsNextTake, behind}
 use Rattle.checker_laws.specs.Verdict.{IsLargeEnough, IsLawfulTarget}
-use Rattle.checker_laws.specs.Cost.{AreSoMany, Both, Where, LineLooks, AllowancesLook, BoundLooks, LeafLooks, TreeLooks, TakesLook}
+use Rattle.checker_laws.specs.Cost.{IsSetCount, Both, Where, LineLooks, AllowancesLook, BoundLooks, LeafLooks, TreeLooks, TakesLook}
 use Rattle.checker_laws.specs.Laws.{CostsAreOne}
 
 abbrev One : (ℕ → Type 0) → Type 0
@@ -72,7 +72,7 @@ sorted_same order (x ∷ xs) (y ∷ ys) a b f g = joined first (sorted_same orde
     joined : x ≡ y → xs ≡ ys → x ∷ xs ≡ y ∷ ys
     joined e k = cc
 
-so_many_one : (order : List ℕ) (Kind : List ℕ → Type 0) → One (AreSoMany order Kind)
+so_many_one : (order : List ℕ) (Kind : List ℕ → Type 0) → One (IsSetCount order Kind)
 so_many_one order Kind m n a b =
     a.number ∙ (ap length (sorted_same order a.sets b.sets a.sorted b.sorted
     (λ g h. has_from_contains b.sets g ((b.each g).1 ((a.each g).0 (contains_from_has a.sets g h))))
@@ -118,8 +118,8 @@ mutual
       let fine = NamesLimit round.format limit × CanBranch round s c j in
       let later : List (List ℕ) → ℕ → Type 0 = λ groups. Both (TakesLook takes p round s groups) (Where ((groups_of takes ≡ groups) × EachProves takes p round s) (TreeLooks raised p round (raise c j s))) in
       let inner : ℕ → Type 0 = λ z. (groups : List (List ℕ)) × AreGroupsAt p round s c j groups × later groups z in
-      where_one fine (Both (AreSoMany round.order (IsSetAt p round.order s c j)) inner)
-      (both_one (AreSoMany round.order (IsSetAt p round.order s c j)) inner
+      where_one fine (Both (IsSetCount round.order (IsSetAt p round.order s c j)) inner)
+      (both_one (IsSetCount round.order (IsSetAt p round.order s c j)) inner
       (so_many_one round.order (IsSetAt p round.order s c j))
       (λ x y a b.
       let same = leaves_are_decided.groups_at p round s c j b.0 a.0 b.1 a.1 in
@@ -142,5 +142,5 @@ pub costs_are_one : CostsAreOne
 costs_are_one = record {
   tree = λ tree p round s m n h k. omega (arith, h.2, k.2, tree_one tree p round s h.0 k.0 h.1 k.1);
   certificate = λ p round tree m n h k.
-      omega (arith, h.2, k.2, where_one (HasWindow p round.window × IsOrder p round.order × IsLargeEnough round.limit round.target × IsLawfulTarget p round.target) (TreeLooks tree p round (empty_state p)) (tree_one tree p round (empty_state p)) h.0 k.0 h.1 k.1);
+      omega (arith, h.2, k.2, where_one (HasTolerance p round.tolerance × IsOrder p round.order × IsLargeEnough round.limit round.target × IsLawfulTarget p round.target) (TreeLooks tree p round (empty_state p)) (tree_one tree p round (empty_state p)) h.0 k.0 h.1 k.1);
 }

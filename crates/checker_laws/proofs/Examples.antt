@@ -14,7 +14,7 @@ some_left e = omega (arith, ap length e)
 pub untaken_misses : IsVerdict stranding plain_round untaken (No MissingGroup 7)
 untaken_misses =
     let c = plain_certificate in
-    (faulty MissingGroup 7, inr (2, (c.window, refl), inr (3, (c.order, refl), inr (4, (c.target.1, refl), inr (6, (c.target.0, refl), inr (7, ((c.proof.0, c.proof.1), refl), (path ∷ [], c.proof.2, inl ((refl, some_left), refl))))))), refl)
+    (faulty MissingGroup 7, inr (2, (c.tolerance, refl), inr (3, (c.order, refl), inr (4, (c.target.1, refl), inr (6, (c.target.0, refl), inr (7, ((c.proof.0, c.proof.1), refl), (path ∷ [], c.proof.2, inl ((refl, some_left), refl))))))), refl)
 
 not_alone : Has (path ∷ []) (37001 ∷ []) → ⊥
 not_alone (inl e) = omega (arith, ap length e)
@@ -26,7 +26,7 @@ strayed_strays =
       faulty StrayGroup 7,
       inr (
         2,
-        (c.window, refl),
+        (c.tolerance, refl),
         inr (
           3,
           (c.order, refl),

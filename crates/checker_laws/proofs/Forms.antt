@@ -3,7 +3,7 @@ use Rattle.std.proofs.Common.{◌≡◌, ℕ, List, [], ◌∷◌, ◌++◌, len
 use Rattle.certificate_data.specs.declared.format.Format.{Format}
 use Rattle.certificate_data.specs.declared.format.Format.TheVariants.{Plain, Wide}
 use Rattle.county_codes.specs.declared.group.Group.{Group}
-use Rattle.county_codes.specs.declared.window.Window.{Window}
+use Rattle.county_codes.specs.declared.tolerance.Tolerance.{Tolerance}
 use Rattle.certificate_lines.specs.Items.{taken}
 use Rattle.certificate_lines.specs.Fitting.{IsWanted, AllFit}
 use Rattle.certificate_lines.specs.declared.item.Version.TheVariants.{One, Two}
@@ -34,25 +34,25 @@ pub allows_only : (left : ℕ) (i : Item) → IsWanted (want.Allowances left) i 
 allows_only left (item.Allows a) f = (a, refl)
 allows_only left _ f = absurd f
 
-pub from_window : (format : Format) (items : List Item) → AllFit (want.Window format ∷ []) items → (window : Window) × (later : List Item) × (items ≡ item.Within window ∷ later) × AllFit (want.Order format ∷ []) later
-from_window format [] f = absurd f
-from_window format (item.Within window ∷ later) f = (window, later, refl, f.1)
-from_window format (_ ∷ later) f = absurd f.0
+pub from_tolerance : (format : Format) (items : List Item) → AllFit (want.Tolerance format ∷ []) items → (tolerance : Tolerance) × (later : List Item) × (items ≡ item.Within tolerance ∷ later) × AllFit (want.Order format ∷ []) later
+from_tolerance format [] f = absurd f
+from_tolerance format (item.Within tolerance ∷ later) f = (tolerance, later, refl, f.1)
+from_tolerance format (_ ∷ later) f = absurd f.0
 
--- the head, and the allowance if one is named
+-- the head, and the tolerance if one is named
 pub record HeadFound (items : List Item) : Type 0 where
   pub format : Format
-  pub window : Option Window
+  pub tolerance : Option Tolerance
   pub later : List Item
-  pub are : items ≡ items_of_head format window ++ later
+  pub are : items ≡ items_of_head format tolerance ++ later
   pub fits : AllFit (want.Order format ∷ []) later
 
 pub from_head : (items : List Item) → AllFit (want.Head ∷ []) items → HeadFound items
 from_head [] f = absurd f
-from_head (item.Head format One ∷ later) f = record { format = format; window = None; later = later; are = refl; fits = f.1 }
+from_head (item.Head format One ∷ later) f = record { format = format; tolerance = None; later = later; are = refl; fits = f.1 }
 from_head (item.Head format Two ∷ later) f =
-    let named = from_window format later f.1 in
-    record { format = format; window = Some named.0; later = named.1; are = ap (λ (l : List Item). item.Head format Two ∷ l) named.2; fits = named.3 }
+    let named = from_tolerance format later f.1 in
+    record { format = format; tolerance = Some named.0; later = named.1; are = ap (λ (l : List Item). item.Head format Two ∷ l) named.2; fits = named.3 }
 from_head (_ ∷ later) f = absurd f.0
 
 pub from_order : (format : Format) (items : List Item) → AllFit (want.Order format ∷ []) items

@@ -1,10 +1,10 @@
 -- A certificate has an item for each of its lines.
 use Rattle.std.proofs.Common.{◌≡◌, ◌+◌, [], ◌∷◌, ◌++◌, length, Option, Some, None, arith, length-append}
-use Rattle.county_codes.specs.declared.window.Window.{Window}
+use Rattle.county_codes.specs.declared.tolerance.Tolerance.{Tolerance}
 use Rattle.grouping_laws.specs.Grouping.{Grouping}
 use Rattle.certificate_data.specs.declared.format.Format.{Format}
 use Rattle.certificate_data.specs.Tree.{stuck, seats, bound, Tree, leaf, branch, Takes, no_take, take}
-use Rattle.checker_laws.specs.Lines.{window_line, tree_lines, takes_lines, target_lines, certificate_lines}
+use Rattle.checker_laws.specs.Lines.{tolerance_line, tree_lines, takes_lines, target_lines, certificate_lines}
 use Rattle.certificate_lines.specs.declared.item.Item.TheVariants as item
 use Rattle.certificate_lines.proofs.FormLaws.{length_map}
 use Rattle.certificate_data.specs.TreeValue.{Certificate, declared_allowance}
@@ -26,10 +26,10 @@ pub target_length : (target : Option Grouping) → length (items_of_target targe
 target_length None = omega arith
 target_length (Some groups) = omega (arith, length_map item.Grouped groups)
 
-pub head_length : (format : Format) (window : Option Window) → length (items_of_head format window) ≡ window_line window
+pub head_length : (format : Format) (tolerance : Option Tolerance) → length (items_of_head format tolerance) ≡ tolerance_line tolerance
 head_length format None = omega arith
-head_length format (Some window) = omega arith
+head_length format (Some tolerance) = omega arith
 
 pub certificate_length : (c : Certificate) → length (items_of_certificate c) ≡ certificate_lines c.round c.tree
 certificate_length c =
-    omega (arith, length-append (items_of_head c.round.format c.round.window) (item.Order c.round.order ∷ item.Limit c.round.limit ∷ (items_of_target c.round.target ++ (items_of_tree c.tree ++ item.End ∷ []))), head_length c.round.format c.round.window, length-append (items_of_target c.round.target) (items_of_tree c.tree ++ item.End ∷ []), length-append (items_of_tree c.tree) (item.End ∷ []), target_length c.round.target, tree_length c.tree)
+    omega (arith, length-append (items_of_head c.round.format c.round.tolerance) (item.Order c.round.order ∷ item.Limit c.round.limit ∷ (items_of_target c.round.target ++ (items_of_tree c.tree ++ item.End ∷ []))), head_length c.round.format c.round.tolerance, length-append (items_of_target c.round.target) (items_of_tree c.tree ++ item.End ∷ []), length-append (items_of_tree c.tree) (item.End ∷ []), target_length c.round.target, tree_length c.tree)

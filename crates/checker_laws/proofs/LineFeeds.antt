@@ -6,7 +6,7 @@ use Rattle.std.proofs.lemmas.List.Sums.{sum_by-cons, sum_by-append}
 use Rattle.field_lines.specs.RawPieces.{RawLine, is_lf, bytes_of, raw_lines, text_of as raw_text}
 use Rattle.field_lines.proofs.TextLemmas.{text_of-raw_lines}
 use Rattle.certificate_lines.specs.Items.{item_on, wanted_after}
-use Rattle.certificate_lines.specs.Courses.{Unread, only_fault, first, course_from, certificate_course}
+use Rattle.certificate_lines.specs.ItemReadings.{Unread, only_fault, first, reading_from, certificate_reading}
 use Rattle.certificate_lines.specs.Rest.{text_fault_at}
 use Rattle.certificate_lines.specs.Spelling.{item_words, item_line, text_of_items}
 use Rattle.certificate_lines.specs.Fitting.{AllFit}
@@ -34,21 +34,21 @@ ended_feeds piece e =
     subst (λ (b : Bool). 1 ≤ line_feeds (cond b (piece.bytes ++ 10 ∷ []) piece.bytes)) (sym e) one
 
 -- what a line leads to
-abbrev course_by : Wanted → ℕ → List RawLine → List Wanted → Result Item TextKind → Unread
-course_by w n pieces more r = elim r as (λ _. Unread) [
-  | Ok i ↦ first i (course_from (wanted_after w i ++ more) (n + 1) pieces)
+abbrev reading_by : Wanted → ℕ → List RawLine → List Wanted → Result Item TextKind → Unread
+reading_by w n pieces more r = elim r as (λ _. Unread) [
+  | Ok i ↦ first i (reading_from (wanted_after w i ++ more) (n + 1) pieces)
   | Err kind ↦ only_fault (text_fault_at kind n)
 ]
 
 -- an LF ends each line from which an item is read
-items_few : (wanted : List Wanted) (n : ℕ) (pieces : List RawLine) → length (course_from wanted n pieces).items ≤ line_feeds (raw_text pieces)
+items_few : (wanted : List Wanted) (n : ℕ) (pieces : List RawLine) → length (reading_from wanted n pieces).items ≤ line_feeds (raw_text pieces)
 items_few [] n [] = omega arith
 items_few [] n (piece ∷ pieces) = omega arith
 items_few (w ∷ more) n [] = omega arith
 items_few (w ∷ more) n (piece ∷ pieces) = go (λ i. items_few (wanted_after w i ++ more) (n + 1) pieces) (item_on w piece) refl
   where
-    go : ((i : Item) → length (course_from (wanted_after w i ++ more) (n + 1) pieces).items ≤ line_feeds (raw_text pieces))
-        → (r : Result Item TextKind) → item_on w piece ≡ r → length (course_by w n pieces more r).items ≤ line_feeds (raw_text (piece ∷ pieces))
+    go : ((i : Item) → length (reading_from (wanted_after w i ++ more) (n + 1) pieces).items ≤ line_feeds (raw_text pieces))
+        → (r : Result Item TextKind) → item_on w piece ≡ r → length (reading_by w n pieces more r).items ≤ line_feeds (raw_text (piece ∷ pieces))
     go later (Ok i) e = omega (arith, later i, ended_feeds piece (item_ok w piece i e).ended, feeds_append (bytes_of piece) (raw_text pieces))
     go later (Err kind) e = omega arith
 
@@ -61,22 +61,22 @@ stands_later : (n : ℕ) (i : Item) (items : List Item) (fault : Option TextFaul
 stands_later n i items None h = tt
 stands_later n i items (Some fault) h = omega (arith, h)
 
-fault_behind : (wanted : List Wanted) (n : ℕ) (pieces : List RawLine) → StandsBehind n (course_from wanted n pieces).items (course_from wanted n pieces).fault
+fault_behind : (wanted : List Wanted) (n : ℕ) (pieces : List RawLine) → StandsBehind n (reading_from wanted n pieces).items (reading_from wanted n pieces).fault
 fault_behind [] n [] = tt
 fault_behind [] n (piece ∷ pieces) = omega arith
 fault_behind (w ∷ more) n [] = omega arith
 fault_behind (w ∷ more) n (piece ∷ pieces) = go (λ i. fault_behind (wanted_after w i ++ more) (n + 1) pieces) (item_on w piece)
   where
-    go : ((i : Item) → StandsBehind (n + 1) (course_from (wanted_after w i ++ more) (n + 1) pieces).items (course_from (wanted_after w i ++ more) (n + 1) pieces).fault)
-        → (r : Result Item TextKind) → StandsBehind n (course_by w n pieces more r).items (course_by w n pieces more r).fault
-    go later (Ok i) = stands_later n i (course_from (wanted_after w i ++ more) (n + 1) pieces).items (course_from (wanted_after w i ++ more) (n + 1) pieces).fault (later i)
+    go : ((i : Item) → StandsBehind (n + 1) (reading_from (wanted_after w i ++ more) (n + 1) pieces).items (reading_from (wanted_after w i ++ more) (n + 1) pieces).fault)
+        → (r : Result Item TextKind) → StandsBehind n (reading_by w n pieces more r).items (reading_by w n pieces more r).fault
+    go later (Ok i) = stands_later n i (reading_from (wanted_after w i ++ more) (n + 1) pieces).items (reading_from (wanted_after w i ++ more) (n + 1) pieces).fault (later i)
     go later (Err kind) = omega arith
 
-pub fault_line : (text : List ℕ) (fault : TextFault) → HasTextFault text fault → fault.line ≡ 1 + length (certificate_course text).items
-fault_line text fault h = subst (λ (f : Option TextFault). StandsBehind 1 (certificate_course text).items f) h (fault_behind (want.Head ∷ []) 1 (raw_lines text))
+pub fault_line : (text : List ℕ) (fault : TextFault) → HasTextFault text fault → fault.line ≡ 1 + length (certificate_reading text).items
+fault_line text fault h = subst (λ (f : Option TextFault). StandsBehind 1 (certificate_reading text).items f) h (fault_behind (want.Head ∷ []) 1 (raw_lines text))
 
-pub lines : (text : List ℕ) → length (certificate_course text).items ≤ line_feeds text
-lines text = subst (λ (t : List ℕ). length (certificate_course text).items ≤ line_feeds t) (text_of-raw_lines 1 text) (items_few (want.Head ∷ []) 1 (raw_lines text))
+pub lines : (text : List ℕ) → length (certificate_reading text).items ≤ line_feeds text
+lines text = subst (λ (t : List ℕ). length (certificate_reading text).items ≤ line_feeds t) (text_of-raw_lines 1 text) (items_few (want.Head ∷ []) 1 (raw_lines text))
 
 printed_feeds : (bytes : List ℕ) → AllByRecursion Printed bytes → line_feeds bytes ≡ 0
 printed_feeds [] a = refl

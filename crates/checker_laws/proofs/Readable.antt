@@ -1,7 +1,7 @@
 -- The trees of texts name limits as their format asks, no quota of theirs is 0, and the codes of their weights ascend.
 use Rattle.std.proofs.Common.{true, ℕ, zero, suc, ◌-◌, ◌≡◌, ◌≤◌, List, [], ◌∷◌, ◌++◌, length, map, Option, Some, None, refl, subst, append_assoc, arith}
 use Rattle.county_codes.specs.declared.group.Group.{Group}
-use Rattle.county_codes.specs.declared.window.Window.{Window}
+use Rattle.county_codes.specs.declared.tolerance.Tolerance.{Tolerance}
 use Rattle.grouping_laws.specs.Grouping.{Grouping}
 use Rattle.certificate_data.specs.declared.format.Format.{Format}
 use Rattle.certificate_data.specs.declared.format.Format.TheVariants.{Plain, Wide}
@@ -102,13 +102,13 @@ pub target_over : (target : Option Grouping) (more : List Wanted) (rest : List I
 target_over None more rest f = f.1
 target_over (Some groups) more rest f = groups_over (length groups) groups more rest refl f.1
 
--- what stands behind the head and the allowance fits
-pub head_over : (format : Format) (window : Option Window) (rest : List Item) → AllFit (want.Head ∷ []) (items_of_head format window ++ rest) → AllFit (want.Order format ∷ []) rest
+-- what stands behind the head and the tolerance fits
+pub head_over : (format : Format) (tolerance : Option Tolerance) (rest : List Item) → AllFit (want.Head ∷ []) (items_of_head format tolerance ++ rest) → AllFit (want.Order format ∷ []) rest
 head_over format None rest f = f.1
-head_over format (Some window) rest f = f.1.1
+head_over format (Some tolerance) rest f = f.1.1
 
 pub formed_of_fits : (c : Certificate) → AllFit (want.Head ∷ []) (items_of_certificate c) → IsFormed c.round.format c.tree
 formed_of_fits c f =
-    let order = head_over c.round.format c.round.window (item.Order c.round.order ∷ item.Limit c.round.limit ∷ (items_of_target c.round.target ++ (items_of_tree c.tree ++ item.End ∷ []))) f in
+    let order = head_over c.round.format c.round.tolerance (item.Order c.round.order ∷ item.Limit c.round.limit ∷ (items_of_target c.round.target ++ (items_of_tree c.tree ++ item.End ∷ []))) f in
     let behind = target_over c.round.target (want.Tree c.round.format (length c.round.order) ∷ want.End ∷ []) (items_of_tree c.tree ++ item.End ∷ []) order.1.1 in
     (tree_formed c.round.format (length c.round.order) c.tree (want.End ∷ []) (item.End ∷ []) behind).0

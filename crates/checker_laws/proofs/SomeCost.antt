@@ -4,7 +4,7 @@ use Rattle.grouping_laws.specs.Sets.{contains}
 use Rattle.grouping_laws.specs.Problem.{Problem}
 use Rattle.grouping_laws.specs.Grouping.{Grouping, counts, sets_of}
 use Rattle.grouping_laws.specs.GroupsFrom.{IsOrder}
-use Rattle.grouping_laws.specs.Allowance.{HasWindow}
+use Rattle.grouping_laws.specs.Tolerance.{HasTolerance}
 use Rattle.certificate_data.specs.Round.{Round}
 use Rattle.certificate_laws.specs.State.{State, close, raise, empty_state}
 use Rattle.certificate_laws.specs.Groups.{AreGroupsAt, IsGroupAt, IsSetAt, IsSetWithin}
@@ -18,7 +18,7 @@ use Rattle.checker_laws.specs.Leaves.{IsEven}
 use Rattle.checker_laws.specs.Branches.{IsNextTake, behind}
 use Rattle.checker_laws.specs.Lines.{certificate_lines}
 use Rattle.checker_laws.specs.Verdict.{IsLargeEnough, IsLawfulTarget}
-use Rattle.checker_laws.specs.Cost.{AreSoMany, Both, Where, LineLooks, AllowancesLook, BoundLooks, LeafLooks, TreeLooks, TakesLook, CertificateCosts}
+use Rattle.checker_laws.specs.Cost.{IsSetCount, Both, Where, LineLooks, AllowancesLook, BoundLooks, LeafLooks, TreeLooks, TakesLook, CertificateCosts}
 use Rattle.checker_laws.specs.TextVerdict.{HasTextFault}
 use Rattle.checker_laws.specs.TextCost.{line_feeds, TextCosts}
 use Rattle.checker_laws.proofs.Listings.{NotNone, here, then_some, either_way, listing}
@@ -28,7 +28,7 @@ use Rattle.checker_laws.proofs.Spelling.{either}
 abbrev Number : (ℕ → Type 0) → Type 0
 Number Kind = (n : ℕ) × Kind n
 
-so_many : (order : List ℕ) (Kind : List ℕ → Type 0) → ((g : List ℕ) → Kind g → filter (contains g) order ≡ g) → NotNone (Number (AreSoMany order Kind))
+so_many : (order : List ℕ) (Kind : List ℕ → Type 0) → ((g : List ℕ) → Kind g → filter (contains g) order ≡ g) → NotNone (Number (IsSetCount order Kind))
 so_many order Kind ordered = then_some (listing order Kind ordered) (λ l. here (length l.sets, record { sets = l.sets; each = l.each; sorted = l.sorted; number = refl }))
 
 pub groups_there : (p : Problem) (round : Round) (s : State) (c j : ℕ) → NotNone ((groups : List (List ℕ)) × AreGroupsAt p round s c j groups)
@@ -67,8 +67,8 @@ mutual
       let j = limit_of round limit in
       let later : List (List ℕ) → ℕ → Type 0 = λ groups. Both (TakesLook takes p round s groups) (Where ((groups_of takes ≡ groups) × EachProves takes p round s) (TreeLooks raised p round (raise c j s))) in
       let inner : ℕ → Type 0 = λ m. (groups : List (List ℕ)) × AreGroupsAt p round s c j groups × later groups m in
-      where_number (NamesLimit round.format limit × CanBranch round s c j) (Both (AreSoMany round.order (IsSetAt p round.order s c j)) inner)
-      (λ f. both_numbers (AreSoMany round.order (IsSetAt p round.order s c j)) inner (so_many round.order (IsSetAt p round.order s c j) (λ g h. h.in_order))
+      where_number (NamesLimit round.format limit × CanBranch round s c j) (Both (IsSetCount round.order (IsSetAt p round.order s c j)) inner)
+      (λ f. both_numbers (IsSetCount round.order (IsSetAt p round.order s c j)) inner (so_many round.order (IsSetAt p round.order s c j) (λ g h. h.in_order))
       (then_some (groups_there p round s c j)
       (λ gs. then_some
       (both_numbers (TakesLook takes p round s gs.0) (Where ((groups_of takes ≡ gs.0) × EachProves takes p round s) (TreeLooks raised p round (raise c j s))) (takes_look takes p round s gs.0)
@@ -86,7 +86,7 @@ mutual
 certificate_costs : (p : Problem) (round : Round) (tree : Tree) → NotNone (Number (CertificateCosts p round tree))
 certificate_costs p round tree =
     then_some
-    (where_number (HasWindow p round.window × IsOrder p round.order × IsLargeEnough round.limit round.target × IsLawfulTarget p round.target) (TreeLooks tree p round (empty_state p)) (λ f. tree_looks tree p round (empty_state p)))
+    (where_number (HasTolerance p round.tolerance × IsOrder p round.order × IsLargeEnough round.limit round.target × IsLawfulTarget p round.target) (TreeLooks tree p round (empty_state p)) (λ f. tree_looks tree p round (empty_state p)))
     (λ n. here (3 * (certificate_lines round tree + 1 + n.0), (n.0, n.1, refl)))
 
 pub some_cost : (p : Problem) (text : List ℕ) → NotNone (Number (TextCosts p text))

@@ -5,7 +5,7 @@ use Rattle.grouping_laws.specs.Sets.{sum_by, contains}
 use Rattle.grouping_laws.specs.Problem.{Problem}
 use Rattle.grouping_laws.specs.Grouping.{Grouping, counts, sets_of}
 use Rattle.grouping_laws.specs.GroupsFrom.{IsOrder}
-use Rattle.grouping_laws.specs.Allowance.{HasWindow}
+use Rattle.grouping_laws.specs.Tolerance.{HasTolerance}
 use Rattle.grouping_laws.proofs.Elements.{all_from_has, contains_from_has}
 use Rattle.certificate_data.specs.declared.format.Format.{Format}
 use Rattle.certificate_data.specs.Round.{Round}
@@ -21,9 +21,9 @@ use Rattle.checker_laws.specs.Fault.{Fault, WrongWindow, WrongOrder, LimitTooSma
 use Rattle.checker_laws.specs.End.{End, fine, faulty, LinesEnd, LineEnds, Then}
 use Rattle.checker_laws.specs.Leaves.{IsStuckFault, IsSeatsFault, NamesForeign, HasLightGroup, allowed, IsWithinTarget, IsLoss, IsEven, IsAllowanceFault, AllowancesEnd, BoundedEnds, BoundEnds, LeafEnds}
 use Rattle.checker_laws.specs.Branches.{IsBranchFault, BranchEnds, IsNextTake, behind, IsTakeFault, TakeEnds, IsMarkFault}
-use Rattle.checker_laws.specs.Lines.{window_line, target_lines}
+use Rattle.checker_laws.specs.Lines.{tolerance_line, target_lines}
 use Rattle.checker_laws.specs.Trees.{TreeEnds, TakesEnd}
-use Rattle.checker_laws.specs.Verdict.{IsWindowFault, IsOrderFault, IsLargeEnough, IsLimitFault, IsLawfulTarget, IsTargetFault, RestEnds, CertificateEnds, CertificateVerdict, verdict_of}
+use Rattle.checker_laws.specs.Verdict.{IsToleranceFault, IsOrderFault, IsLargeEnough, IsLimitFault, IsLawfulTarget, IsTargetFault, RestEnds, CertificateEnds, CertificateVerdict, verdict_of}
 use Rattle.checker_laws.specs.TextVerdict.{IsTextVerdict}
 use Rattle.checker_laws.proofs.Listings.{NotNone, here, then_some, either_way}
 use Rattle.checker_laws.proofs.SomeCost.{groups_there}
@@ -184,8 +184,8 @@ rest_ends p round tree second formed =
 
 certificate_ends : (p : Problem) (round : Round) (tree : Tree) → IsFormed round.format tree → NotNone (Ends (CertificateEnds p round tree))
 certificate_ends p round tree formed =
-    then_ends (LineEnds (HasWindow p round.window) (IsWindowFault p round) (window_line round.window)) (RestEnds p round tree)
-    (lines_end 1 (HasWindow p round.window) (IsWindowFault p round) (window_line round.window) (decided (HasWindow p round.window) (IsWindowFault p round) (λ never. here (WrongWindow, (refl, never)))))
+    then_ends (LineEnds (HasTolerance p round.tolerance) (IsToleranceFault p round) (tolerance_line round.tolerance)) (RestEnds p round tree)
+    (lines_end 1 (HasTolerance p round.tolerance) (IsToleranceFault p round) (tolerance_line round.tolerance) (decided (HasTolerance p round.tolerance) (IsToleranceFault p round) (λ never. here (WrongWindow, (refl, never)))))
     (λ second h. rest_ends p round tree second formed)
 
 pub some_verdict : (p : Problem) (text : List ℕ) (c : Certificate) → IsSpelling text c → NotNone ((x : CertificateVerdict) × IsTextVerdict p text x)

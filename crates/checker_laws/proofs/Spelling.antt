@@ -2,7 +2,7 @@
 use Rattle.std.proofs.Common.{◌≡◌, ℕ, List, [], ◌∷◌, length, Option, Some, None, Ok, refl, ap, sym, subst, ◌∙◌, inl, inr, ◌⊎◌}
 use Rattle.field_lines.specs.RawPieces.{raw_lines}
 use Rattle.certificate_lines.specs.Items.{items_from}
-use Rattle.certificate_lines.specs.Courses.{certificate_course, whole}
+use Rattle.certificate_lines.specs.ItemReadings.{certificate_reading, whole}
 use Rattle.certificate_lines.specs.Fitting.{AllFit}
 use Rattle.certificate_lines.specs.Spelling.{text_of_items}
 use Rattle.certificate_lines.specs.declared.fault.TextFault.{TextFault}
@@ -14,7 +14,7 @@ use Rattle.certificate_data.specs.TreeValue.{Certificate}
 use Rattle.certificate_text.specs.Trees.{items_of_certificate}
 use Rattle.certificate_text.specs.Spelling.{IsSpelling}
 use Rattle.certificate_text.proofs.TextBack.{items_back}
-use Rattle.certificate_text.proofs.CourseLaws.{courses_are_items}
+use Rattle.certificate_text.proofs.ItemReadingLaws.{readings_are_items}
 use Rattle.checker_laws.specs.Lines.{certificate_lines}
 use Rattle.checker_laws.specs.TextVerdict.{HasTextFault}
 use Rattle.checker_laws.specs.TextCost.{line_feeds}
@@ -24,10 +24,10 @@ use Rattle.checker_laws.proofs.TextKinds.{faults_of_lines}
 use Rattle.checker_laws.proofs.LineFeeds.{fault_line, lines, text_feeds}
 use Rattle.checker_laws.proofs.Lengths.{certificate_length}
 
-pub spelled : (text : List ℕ) → (certificate_course text).fault ≡ None → (c : Certificate) × IsSpelling text c × ((certificate_course text).items ≡ items_of_certificate c)
+pub spelled : (text : List ℕ) → (certificate_reading text).fault ≡ None → (c : Certificate) × IsSpelling text c × ((certificate_reading text).items ≡ items_of_certificate c)
 spelled text none =
-    let items = (certificate_course text).items in
-    let read : items_from (want.Head ∷ []) 1 (raw_lines text) ≡ Ok items = sym (courses_are_items (want.Head ∷ []) 1 (raw_lines text)) ∙ ap (λ (f : Option TextFault). whole items f) none in
+    let items = (certificate_reading text).items in
+    let read : items_from (want.Head ∷ []) 1 (raw_lines text) ≡ Ok items = sym (readings_are_items (want.Head ∷ []) 1 (raw_lines text)) ∙ ap (λ (f : Option TextFault). whole items f) none in
     let fit = items_fit (want.Head ∷ []) 1 (raw_lines text) items read in
     let found = certificate_found items fit in (
       found.0,
@@ -41,11 +41,11 @@ whole_ok items others (Some fault) e =
     let never : ⊥ = cc in
     absurd never
 
-pub spelling : (text : List ℕ) (c : Certificate) → IsSpelling text c → ((certificate_course text).items ≡ items_of_certificate c) × ((certificate_course text).fault ≡ None)
+pub spelling : (text : List ℕ) (c : Certificate) → IsSpelling text c → ((certificate_reading text).items ≡ items_of_certificate c) × ((certificate_reading text).fault ≡ None)
 spelling text c s =
     let read : items_from (want.Head ∷ []) 1 (raw_lines text) ≡ Ok (items_of_certificate c) =
     ap (λ (t : List ℕ). items_from (want.Head ∷ []) 1 (raw_lines t)) s.text_is ∙ items_back (want.Head ∷ []) 1 (items_of_certificate c) s.fits in
-    whole_ok (certificate_course text).items (items_of_certificate c) (certificate_course text).fault (courses_are_items (want.Head ∷ []) 1 (raw_lines text) ∙ read)
+    whole_ok (certificate_reading text).items (items_of_certificate c) (certificate_reading text).fault (readings_are_items (want.Head ∷ []) 1 (raw_lines text) ∙ read)
 
 pub apart : (text : List ℕ) (fault : TextFault) (c : Certificate) → HasTextFault text fault → IsSpelling text c → ⊥
 apart text fault c h s = never fault (sym h ∙ (spelling text c s).1)
@@ -54,9 +54,9 @@ apart text fault c h s = never fault (sym h ∙ (spelling text c s).1)
     never f e = cc
 
 pub either : (text : List ℕ) → ((c : Certificate) × IsSpelling text c) ⊎ ((fault : TextFault) × HasTextFault text fault)
-either text = go (certificate_course text).fault refl
+either text = go (certificate_reading text).fault refl
   where
-    go : (f : Option TextFault) → (certificate_course text).fault ≡ f → ((c : Certificate) × IsSpelling text c) ⊎ ((fault : TextFault) × HasTextFault text fault)
+    go : (f : Option TextFault) → (certificate_reading text).fault ≡ f → ((c : Certificate) × IsSpelling text c) ⊎ ((fault : TextFault) × HasTextFault text fault)
     go None e =
         let s = spelled text e in
         inl (s.0, s.1)

@@ -5,11 +5,11 @@ use Rattle.certificate_lines.specs.Rest.{IsTextMemory}
 use Rattle.certificate_lines.specs.declared.fault.TextKind.TheVariants.{ReadFault, Memory}
 use Rattle.certificate_lines.specs.declared.fault.TextFault.{TextFault}
 use Rattle.certificate_lines.specs.declared.item.Wanted.TheVariants as want
-use Rattle.certificate_text.proofs.TextKinds.{OfText, SaidFault, course_said}
+use Rattle.certificate_text.proofs.TextKinds.{OfText, SaidFault, reading_said}
 use Rattle.checker_laws.specs.TextVerdict.{HasTextFault}
 
 of_text : (text : List ℕ) (fault : TextFault) → HasTextFault text fault → OfText fault.kind
-of_text text fault h = subst SaidFault h (course_said (want.Head ∷ []) 1 (raw_lines text))
+of_text text fault h = subst SaidFault h (reading_said (want.Head ∷ []) 1 (raw_lines text))
 
 pub not_memory : (text : List ℕ) (fault : TextFault) → HasTextFault text fault → IsTextMemory fault → ⊥
 not_memory text fault h e = subst OfText e (of_text text fault h)

@@ -3,7 +3,7 @@ use Rattle.std.proofs.Common.{◌≡◌, ℕ, ◌+◌, ◌≤◌, length, Option
 use Rattle.grouping_laws.specs.Problem.{Problem}
 use Rattle.grouping_laws.specs.Grouping.{Grouping}
 use Rattle.grouping_laws.specs.GroupsFrom.{IsOrder}
-use Rattle.grouping_laws.specs.Allowance.{HasWindow}
+use Rattle.grouping_laws.specs.Tolerance.{HasTolerance}
 use Rattle.grouping_laws.proofs.Elements.{has_all, has_from_contains}
 use Rattle.county_problem.proofs.JudgeLemmas.{fault_excludes}
 use Rattle.certificate_data.specs.Round.{Round}
@@ -13,9 +13,9 @@ use Rattle.certificate_laws.specs.Certificate.{TargetFits, IsCertificate, Conclu
 use Rattle.certificate_laws.proofs.Agreement.{certificate_shows}
 use Rattle.checker_laws.specs.Fault.{Fault, TargetFault}
 use Rattle.checker_laws.specs.End.{End, fine, faulty, LineEnds, LinesEnd, Then}
-use Rattle.checker_laws.specs.Lines.{window_line, target_lines, tree_lines}
+use Rattle.checker_laws.specs.Lines.{tolerance_line, target_lines, tree_lines}
 use Rattle.checker_laws.specs.Trees.{TreeEnds}
-use Rattle.checker_laws.specs.Verdict.{IsWindowFault, RestEnds, IsOrderFault, IsLargeEnough, IsLimitFault, IsLawfulTarget, IsTargetFault, CertificateEnds, CertificateVerdict, Best, Impossible, No, shown, verdict_of}
+use Rattle.checker_laws.specs.Verdict.{IsToleranceFault, RestEnds, IsOrderFault, IsLargeEnough, IsLimitFault, IsLawfulTarget, IsTargetFault, CertificateEnds, CertificateVerdict, Best, Impossible, No, shown, verdict_of}
 use Rattle.checker_laws.specs.Laws.{VerdictsShow}
 use Rattle.checker_laws.proofs.Ends.{OneEnd, fine_not, lines_one, then_one}
 use Rattle.checker_laws.proofs.GroupingFaults.{fault_one, some_same, some_not_none}
@@ -53,8 +53,8 @@ rest_one p round tree second =
 
 certificate_one : (p : Problem) (round : Round) (tree : Tree) → OneEnd (CertificateEnds p round tree)
 certificate_one p round tree =
-    then_one (LineEnds (HasWindow p round.window) (IsWindowFault p round) (window_line round.window)) (RestEnds p round tree)
-    (lines_one 1 (HasWindow p round.window) (IsWindowFault p round) (window_line round.window) (λ f h k. k.1 h) (λ f g h k. h.0 ∙ sym k.0))
+    then_one (LineEnds (HasTolerance p round.tolerance) (IsToleranceFault p round) (tolerance_line round.tolerance)) (RestEnds p round tree)
+    (lines_one 1 (HasTolerance p round.tolerance) (IsToleranceFault p round) (tolerance_line round.tolerance) (λ f h k. k.1 h) (λ f g h k. h.0 ∙ sym k.0))
     (λ second a. rest_one p round tree second)
 
 target_fits : (p : Problem) (limit : ℕ) (target : Option Grouping) → IsLargeEnough limit target → IsLawfulTarget p target → TargetFits p limit target
@@ -71,7 +71,7 @@ lawful_target p limit (Some t) h = h.0
 
 certificate_proves : (p : Problem) (round : Round) (tree : Tree) (next : ℕ) → CertificateEnds p round tree (fine next) → IsCertificate p round tree
 certificate_proves p round tree next h = record {
-  window = h.1.0;
+  tolerance = h.1.0;
   order = h.2.1.0;
   target = target_fits p round.limit round.target h.2.2.1.0 h.2.2.2.1.0;
   proof = (trees_end.proves tree p round (empty_state p) h.2.2.2.0 next h.2.2.2.2).0;
@@ -79,17 +79,17 @@ certificate_proves p round tree next h = record {
 
 -- the line of the tree, and the one behind it
 abbrev tree_line : Round → ℕ
-tree_line round = window_line round.window + 3 + (1 + target_lines round.target)
+tree_line round = tolerance_line round.tolerance + 3 + (1 + target_lines round.target)
 
 certificate_ends : (p : Problem) (round : Round) (tree : Tree) → IsCertificate p round tree → CertificateEnds p round tree (fine (tree_line round + tree_lines tree))
 certificate_ends p round tree c = (
-  window_line round.window + 1,
-  (c.window, refl),
+  tolerance_line round.tolerance + 1,
+  (c.tolerance, refl),
   (
-    window_line round.window + 2,
+    tolerance_line round.tolerance + 2,
     (c.order, omega arith),
     (
-      window_line round.window + 3,
+      tolerance_line round.tolerance + 3,
       (large_enough p round.limit round.target c.target, omega arith),
       (tree_line round, (lawful_target p round.limit round.target c.target, refl), trees_end.ends tree p round (empty_state p) (tree_line round) c.proof),
     ),

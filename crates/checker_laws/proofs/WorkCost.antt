@@ -9,7 +9,7 @@ use Rattle.certificate_laws.specs.Leaves.{IsValidLeaf}
 use Rattle.certificate_laws.specs.Proving.{limit_of, CanBranch, NamesLimit, Proves, EachProves}
 use Rattle.certificate_laws.proofs.Decided.{leaves_are_decided}
 use Rattle.checker_laws.specs.Branches.{IsNextTake, behind}
-use Rattle.checker_laws.specs.Cost.{AreSoMany, Both, Where, TreeLooks, TakesLook}
+use Rattle.checker_laws.specs.Cost.{IsSetCount, Both, Where, TreeLooks, TakesLook}
 use Rattle.checker_laws.specs.Work.{Open, a_tree, some_takes}
 use Rattle.checker_laws.specs.WorkCost.{WorkLooks, LinesCost}
 use Rattle.checker_laws.proofs.Trees.{next_first}
@@ -29,11 +29,11 @@ where_fine Fine Number n f (inr h) = absurd (h.0 f)
 branch_looks : (c : ℕ) (limit : Option ℕ) (takes : Takes) (raised : Tree) (p : Problem) (round : Round) (s : State) (groups : List (List ℕ)) (more : List Open) (n : ℕ)
     → NamesLimit round.format limit → CanBranch round s c (limit_of round limit) → AreGroupsAt p round s c (limit_of round limit) groups
     → WorkLooks (a_tree (branch c limit takes raised) s ∷ more) p round n
-    → Both (AreSoMany round.order (IsSetAt p round.order s c (limit_of round limit))) (WorkLooks (some_takes takes s groups ∷ a_tree raised (raise c (limit_of round limit) s) ∷ more) p round) n
+    → Both (IsSetCount round.order (IsSetAt p round.order s c (limit_of round limit))) (WorkLooks (some_takes takes s groups ∷ a_tree raised (raise c (limit_of round limit) s) ∷ more) p round) n
 branch_looks c limit takes raised p round s groups more n names can are h =
     let j = limit_of round limit in
     let fine = NamesLimit round.format limit × CanBranch round s c j in
-    let looked = AreSoMany round.order (IsSetAt p round.order s c j) in
+    let looked = IsSetCount round.order (IsSetAt p round.order s c j) in
     let later : List (List ℕ) → ℕ → Type 0 = λ gs. Both (TakesLook takes p round s gs) (Where ((groups_of takes ≡ gs) × EachProves takes p round s) (TreeLooks raised p round (raise c j s))) in
     let inner : ℕ → Type 0 = λ z. (gs : List (List ℕ)) × AreGroupsAt p round s c j gs × later gs z in
     let i = where_fine fine (Both looked inner) h.0 (names, can) h.2 in

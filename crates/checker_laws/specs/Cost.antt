@@ -4,7 +4,7 @@ use Rattle.std.specs.Prelude.{◌⊎◌, ◌↔◌}
 use Rattle.grouping_laws.specs.Problem.{Problem}
 use Rattle.grouping_laws.specs.Grouping.{Grouping, counts, sets_of}
 use Rattle.grouping_laws.specs.GroupsFrom.{IsOrder, IsBefore}
-use Rattle.grouping_laws.specs.Allowance.{HasWindow}
+use Rattle.grouping_laws.specs.Tolerance.{HasTolerance}
 use Rattle.certificate_data.specs.Round.{Round}
 use Rattle.certificate_laws.specs.State.{State, close, raise, empty_state}
 use Rattle.certificate_laws.specs.Groups.{AreGroupsAt, IsSetAt, IsSetWithin}
@@ -18,7 +18,7 @@ use Rattle.checker_laws.specs.Lines.{tree_lines, certificate_lines}
 use Rattle.checker_laws.specs.Verdict.{IsLargeEnough, IsLawfulTarget}
 
 -- there are `n` sets of this kind: the sorted list of them all has `n`
-pub record AreSoMany (order : List ℕ) (Kind : List ℕ → Type 0) (n : ℕ) : Type 0 where
+pub record IsSetCount (order : List ℕ) (Kind : List ℕ → Type 0) (n : ℕ) : Type 0 where
   pub sets : List (List ℕ)
   pub each : (g : List ℕ) → Contains sets g ↔ Kind g
   pub sorted : AllPairs (IsBefore order) sets
@@ -35,7 +35,7 @@ Where Fine Number n = (Fine × Number n) ⊎ ((¬ Fine) × (n ≡ 0))
 -- how many sets are looked through for the line for size i
 abbrev pub LineLooks : Allowance → Problem → Round → State → ℕ → ℕ → Type 0
 LineLooks room p round s i n = n ≡ 0
-LineLooks (weigh quota weights) p round s i n = AreSoMany round.order (IsSetWithin p round.order s i) n
+LineLooks (weigh quota weights) p round s i n = IsSetCount round.order (IsSetWithin p round.order s i) n
 
 -- for the lines of a bound leaf, up to the first that is at fault or a loss
 abbrev pub AllowancesLook : List Allowance → Problem → Round → State → (ℕ → ℕ) → ℕ → ℕ → ℕ → Type 0
@@ -65,7 +65,7 @@ abbrev mutual
   TreeLooks (leaf l) p round s n = LeafLooks l p round s n
   TreeLooks (branch county limit takes raised) p round s n =
       Where (NamesLimit round.format limit × CanBranch round s county (limit_of round limit))
-      (Both (AreSoMany round.order (IsSetAt p round.order s county (limit_of round limit)))
+      (Both (IsSetCount round.order (IsSetAt p round.order s county (limit_of round limit)))
       (λ m. (groups : List (List ℕ)) × AreGroupsAt p round s county (limit_of round limit) groups
       × Both (TakesLook takes p round s groups)
       (Where ((groups_of takes ≡ groups)
@@ -86,10 +86,10 @@ abbrev mutual
 abbrev pub TreeCosts : Tree → Problem → Round → State → ℕ → Type 0
 TreeCosts tree p round s cost = (n : ℕ) × TreeLooks tree p round s n × (cost ≡ 3 * (tree_lines tree + n))
 
--- A text has one line more than LFs. The tree is judged where allowance, order, limit and target are fine.
+-- A text has one line more than LFs. The tree is judged where tolerance, order, limit and target are fine.
 abbrev pub CertificateCosts : Problem → Round → Tree → ℕ → Type 0
 CertificateCosts p round tree cost =
     (n : ℕ)
-    × Where (HasWindow p round.window × IsOrder p round.order × IsLargeEnough round.limit round.target
+    × Where (HasTolerance p round.tolerance × IsOrder p round.order × IsLargeEnough round.limit round.target
     × IsLawfulTarget p round.target) (TreeLooks tree p round (empty_state p)) n
     × (cost ≡ 3 * (certificate_lines round tree + 1 + n))

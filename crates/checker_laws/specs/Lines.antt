@@ -1,6 +1,6 @@
 -- How many lines a tree has in a text.
 use Rattle.std.specs.Prelude.{ℕ, ◌+◌, length, Option, Some, None}
-use Rattle.county_codes.specs.declared.window.Window.{Window}
+use Rattle.county_codes.specs.declared.tolerance.Tolerance.{Tolerance}
 use Rattle.grouping_laws.specs.Grouping.{Grouping}
 use Rattle.certificate_data.specs.Tree.{Leaf, bound, Tree, leaf, branch, Takes, no_take, take, stuck, seats}
 use Rattle.certificate_data.specs.Round.{Round}
@@ -26,11 +26,11 @@ abbrev pub target_lines : Option Grouping → ℕ
 target_lines None = 0
 target_lines (Some target) = length target
 
--- the line of the allowance: the second, or the head's where none is named
-abbrev pub window_line : Option Window → ℕ
-window_line None = 1
-window_line (Some window) = 2
+-- the line of the tolerance: the second, or the head's where none is named
+abbrev pub tolerance_line : Option Tolerance → ℕ
+tolerance_line None = 1
+tolerance_line (Some tolerance) = 2
 
--- head, allowance if one is named, order, limit, target, its groups, the tree, and the end
+-- head, tolerance if one is named, order, limit, target, its groups, the tree, and the end
 abbrev pub certificate_lines : Round → Tree → ℕ
-certificate_lines round tree = window_line round.window + (3 + (target_lines round.target + (tree_lines tree + 1)))
+certificate_lines round tree = tolerance_line round.tolerance + (3 + (target_lines round.target + (tree_lines tree + 1)))

@@ -3,7 +3,7 @@ use Rattle.std.specs.Prelude.{ℕ, ◌+◌, ◌*◌, ◌≡◌, ◌≢◌, ◌�
 use Rattle.grouping_laws.specs.Problem.{Problem}
 use Rattle.grouping_laws.specs.Grouping.{Grouping, IsBest, IsImpossible}
 use Rattle.certificate_laws.specs.Certificate.{IsCertificate}
-use Rattle.certificate_lines.specs.Courses.{certificate_course}
+use Rattle.certificate_lines.specs.ItemReadings.{certificate_reading}
 use Rattle.certificate_lines.specs.declared.fault.TextKind.TheVariants.{ReadFault, Memory}
 use Rattle.certificate_lines.specs.declared.fault.TextFault.{TextFault}
 use Rattle.certificate_data.specs.TreeValue.{Certificate}
@@ -18,11 +18,11 @@ use Rattle.checker_laws.specs.TextCost.{line_feeds, TextCosts}
 -- A text either spells a certificate or has a fault.
 pub record TextsSpell : Type 0 where
   -- a text without a fault spells a certificate, whose items are those of the text
-  pub spelled : (text : List ℕ) → (certificate_course text).fault ≡ None
-      → (c : Certificate) × IsSpelling text c × ((certificate_course text).items ≡ items_of_certificate c)
+  pub spelled : (text : List ℕ) → (certificate_reading text).fault ≡ None
+      → (c : Certificate) × IsSpelling text c × ((certificate_reading text).items ≡ items_of_certificate c)
   -- a text that spells a certificate has its items, and no fault
   pub spelling : (text : List ℕ) (c : Certificate) → IsSpelling text c
-      → ((certificate_course text).items ≡ items_of_certificate c) × ((certificate_course text).fault ≡ None)
+      → ((certificate_reading text).items ≡ items_of_certificate c) × ((certificate_reading text).fault ≡ None)
   -- a text spells a certificate or has a fault, and never both
   pub either : (text : List ℕ)
       → ((c : Certificate) × IsSpelling text c) ⊎ ((fault : TextFault) × HasTextFault text fault)
@@ -32,9 +32,9 @@ pub record TextsSpell : Type 0 where
       → (fault.kind ≢ Memory) × (fault.kind ≢ ReadFault)
   -- the fault stands on the line behind the lines of the items
   pub fault_line : (text : List ℕ) (fault : TextFault) → HasTextFault text fault
-      → fault.line ≡ 1 + length (certificate_course text).items
+      → fault.line ≡ 1 + length (certificate_reading text).items
   -- an item is read from a line that an LF ends
-  pub lines : (text : List ℕ) → length (certificate_course text).items ≤ line_feeds text
+  pub lines : (text : List ℕ) → length (certificate_reading text).items ≤ line_feeds text
   -- a text that spells a certificate has an LF for each item, and an item for each line of the certificate
   pub all_lines : (text : List ℕ) (c : Certificate) → IsSpelling text c
       → (line_feeds text ≡ length (items_of_certificate c))

@@ -6,7 +6,7 @@ use Rattle.county_problem.specs.declared.grouping_fault.GroupingFault.TheVariant
 use Rattle.grouping_laws.specs.Problem.{Problem}
 use Rattle.grouping_laws.specs.Grouping.{Grouping, Lawful}
 use Rattle.grouping_laws.specs.GroupsFrom.{IsOrder}
-use Rattle.grouping_laws.specs.Allowance.{HasWindow}
+use Rattle.grouping_laws.specs.Tolerance.{HasTolerance}
 use Rattle.county_problem.specs.Judging.{IsFault}
 use Rattle.certificate_data.specs.Round.{Round}
 use Rattle.certificate_laws.specs.Certificate.{HasGroupsWithin}
@@ -14,12 +14,12 @@ use Rattle.certificate_laws.specs.State.{empty_state}
 use Rattle.certificate_data.specs.Tree.{Tree}
 use Rattle.checker_laws.specs.Fault.{Fault, WrongWindow, WrongOrder, LimitTooSmall, TargetFault}
 use Rattle.checker_laws.specs.End.{End, fine, faulty, LineEnds, LinesEnd, Then}
-use Rattle.checker_laws.specs.Lines.{window_line, target_lines}
+use Rattle.checker_laws.specs.Lines.{tolerance_line, target_lines}
 use Rattle.checker_laws.specs.Trees.{TreeEnds}
 
--- the allowance isn't the problem's
-abbrev pub IsWindowFault : Problem → Round → Fault → Type 0
-IsWindowFault p round fault = (fault ≡ WrongWindow) × (¬ HasWindow p round.window)
+-- the tolerance isn't the problem's
+abbrev pub IsToleranceFault : Problem → Round → Fault → Type 0
+IsToleranceFault p round fault = (fault ≡ WrongWindow) × (¬ HasTolerance p round.tolerance)
 
 abbrev pub IsOrderFault : Problem → Round → Fault → Type 0
 IsOrderFault p round fault = (fault ≡ WrongOrder) × (¬ IsOrder p round.order)
@@ -45,7 +45,7 @@ IsTargetFault p None fault = ⊥
 IsTargetFault p (Some target) fault =
     (kind : GroupingFault) × (fault ≡ TargetFault kind) × IsFault p target kind × (kind ≢ Memory)
 
--- The order stands on the line after that of the allowance, then come the limit, the target with its groups behind it,
+-- The order stands on the line after that of the tolerance, then come the limit, the target with its groups behind it,
 -- and the tree.
 abbrev pub RestEnds : Problem → Round → Tree → ℕ → End → Type 0
 RestEnds p round tree second end =
@@ -59,11 +59,11 @@ RestEnds p round tree second end =
     after_order)
     end
 
--- The allowance comes first: it stands on line 2, or a certificate without one is at fault on line 1.
+-- The tolerance comes first: it stands on line 2, or a certificate without one is at fault on line 1.
 abbrev pub CertificateEnds : Problem → Round → Tree → End → Type 0
 CertificateEnds p round tree end =
     Then
-    (LineEnds (HasWindow p round.window) (IsWindowFault p round) (window_line round.window))
+    (LineEnds (HasTolerance p round.tolerance) (IsToleranceFault p round) (tolerance_line round.tolerance))
     (RestEnds p round tree)
     end
 

@@ -8,7 +8,7 @@ use Rattle.certificate_data.specs.Tree.{Leaf, Tree, leaf, branch, Takes, no_take
 use Rattle.certificate_laws.specs.Leaves.{IsValidLeaf}
 use Rattle.certificate_laws.specs.Proving.{limit_of, CanBranch, NamesLimit, Proves, EachProves}
 use Rattle.checker_laws.specs.Branches.{IsNextTake, behind}
-use Rattle.checker_laws.specs.Cost.{AreSoMany, Both, Where, LeafLooks, TreeLooks, TakesLook}
+use Rattle.checker_laws.specs.Cost.{IsSetCount, Both, Where, LeafLooks, TreeLooks, TakesLook}
 use Rattle.checker_laws.specs.Work.{Open, a_tree, some_takes}
 
 abbrev pub OpenLooks : Open → Problem → Round → ℕ → Type 0
@@ -37,7 +37,7 @@ pub record LinesCost : Type 0 where
       → NamesLimit round.format limit → CanBranch round s county (limit_of round limit)
       → AreGroupsAt p round s county (limit_of round limit) groups
       → WorkLooks (a_tree (branch county limit takes raised) s ∷ more) p round n
-      → Both (AreSoMany round.order (IsSetAt p round.order s county (limit_of round limit)))
+      → Both (IsSetCount round.order (IsSetAt p round.order s county (limit_of round limit)))
       (WorkLooks
       (some_takes takes s groups ∷ a_tree raised (raise county (limit_of round limit) s) ∷ more) p round) n
   pub take_looks : (codes : List ℕ) (tree : Tree) (others : Takes) (p : Problem) (round : Round) (s : State)

@@ -2,7 +2,7 @@
 //!
 //! A verdict says that the target of a certificate is best, or that no grouping is lawful, or that the certificate has
 //! a first fault at a line. The certificate is a value of `certificate_data`. Its lines are counted as its text would
-//! have them. The head is line 1. The allowance is line 2 if one is named, and the order is the next line. In a branch,
+//! have them. The head is line 1. The tolerance is line 2 if one is named, and the order is the next line. In a branch,
 //! a take, a mark or a leaf the first line at fault counts, and lines behind it are not judged.
 //!
 //! In a bound leaf the lines are judged up to the first that allows fewer groups than the target has. Lines behind that

@@ -28,7 +28,8 @@ fn refuse_text(alloc: Global, file: InputFile, fault: TextFault, outcome: RunOut
 }
 
 /// Returns the refusal of a text of events: `refused events KIND line L` with exit status 4. The line counts from 1.
-/// Returns `Memory` if that is the fault, or if memory for the line was refused.
+/// Returns `Memory` if that is the fault, or if memory for the line was refused. The outcome tells the file as
+/// `refused`, with its `fault`.
 pub fn refuse_events(alloc: Global, fault: TextFault, refused: RefusedFile) -> Refusal
     ensures answer { RefusalShows (events_answer fault) result }
     ensures shown { IsShown result → fault.kind ≢ text.Memory }
@@ -38,7 +39,8 @@ pub fn refuse_events(alloc: Global, fault: TextFault, refused: RefusedFile) -> R
 }
 
 /// Returns the refusal of a text of rounds and open pieces: `refused pieces KIND line L` with exit status 4. The line
-/// counts from 1. Returns `Memory` if that is the fault, or if memory for the line was refused.
+/// counts from 1. Returns `Memory` if that is the fault, or if memory for the line was refused. The outcome tells the
+/// file as `refused`, with its `fault`.
 pub fn refuse_pieces(alloc: Global, fault: TextFault, refused: RefusedFile) -> Refusal
     ensures answer { RefusalShows (pieces_answer fault) result }
     ensures shown { IsShown result → fault.kind ≢ text.Memory }

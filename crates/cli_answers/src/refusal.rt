@@ -190,7 +190,8 @@ pub(crate) fn refuse_input(
 
 /// Returns the refusal of a PL 94-171 file: `refused FILE KIND line L` with exit status 4. The line counts from 1. It
 /// is 0 if the file has too many lines, or if none of its lines is a county or a block of the state. Returns `Memory`
-/// if that is the fault, or if memory for the line was refused.
+/// if that is the fault, or if memory for the line was refused. The outcome tells the file as `refused`, with its
+/// `fault`.
 pub fn refuse_file(alloc: Global, fault: Pl94Fault, refused: RefusedFile) -> Refusal
     ensures answer { RefusalShows (pl94_answer fault) result }
     ensures shown { IsShown result → fault.kind ≢ kinds.Memory }
@@ -211,7 +212,7 @@ pub fn refuse_file(alloc: Global, fault: Pl94Fault, refused: RefusedFile) -> Ref
 
 /// Returns the refusal of the files of a state, or of the NAME of a county. A fault of the files is refused as
 /// `refuse_file` says. If a NAME isn't UTF-8, the refusal is `refused geo BadName line L` with exit status 4. Returns
-/// `Memory` if memory for the line was refused.
+/// `Memory` if memory for the line was refused. The outcome tells the file as `refused`, with its `fault`.
 pub fn refuse_named_counties(alloc: Global, fault: NamedFault, refused: RefusedFile) -> Refusal
     ensures answer { RefusalShows (named_answer fault) result }
     ensures shown { IsShown result → IsNoMemory fault → ⊥ }
@@ -227,7 +228,7 @@ pub fn refuse_named_counties(alloc: Global, fault: NamedFault, refused: RefusedF
 
 /// Returns the refusal of a file whose lines have county codes: `refused FILE KIND line L` with exit status 4. The line
 /// counts from 1. It is 0 if the file has too many lines. Returns `Memory` if that is the fault, or if memory for the
-/// line was refused.
+/// line was refused. The line names `file`. The outcome tells the file as `refused`, with its `fault`.
 pub fn refuse_codes(
     alloc: Global,
     file: InputFile,
@@ -249,7 +250,7 @@ pub fn refuse_codes(
 
 /// Returns the refusal of an assignment file: `refused assignments KIND line L` with exit status 4. The line counts
 /// from 1. It is 0 if the file has too many lines. Returns `Memory` if that is the fault, or if memory for the line was
-/// refused.
+/// refused. The outcome tells the file as `refused`, with its `fault`.
 pub fn refuse_assignments(alloc: Global, fault: AssignmentFault, refused: RefusedFile) -> Refusal
     ensures answer { RefusalShows (assignment_answer fault) result }
     ensures shown { IsShown result → fault.kind ≢ lines_of_assignments.Memory }
@@ -282,7 +283,8 @@ fn fault_text(alloc: Global, fault: GroupingFault) -> Result<Vec<u8>, AllocError
 }
 
 /// Returns the answer to a grouping that isn't lawful: `fault KIND` with exit status 1. The group, the county or the
-/// seats of the fault follow the kind. Returns `Memory` if that is the fault, or if memory for the line was refused.
+/// seats of the fault follow the kind. Returns `Memory` if that is the fault, or if memory for the line was refused. The
+/// outcome tells the `fault`, with the `subject` that was judged.
 pub fn refuse_verdict(alloc: Global, fault: GroupingFault, subject: Subject) -> Refusal
     ensures { RefusalShows (verdict_answer fault) result }
 {

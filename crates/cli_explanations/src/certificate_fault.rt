@@ -6,7 +6,7 @@ use crate::options::{NamedFile, Options};
 use crate::shown_bytes::start_of;
 use certificate_lines::TextKind;
 use cli_answers::{FaultText, FileOption};
-use county_codes::Window;
+use county_codes::Tolerance;
 use county_problem::Problem;
 use field_lines::{Fields, field_at, number_in};
 use state_judge::CheckFault;
@@ -54,32 +54,32 @@ fn target_seats(text: &[u8]) -> u64 {
     seats
 }
 
-/// Returns the tolerance of a line `window PART WHOLE`, or `None` if a number is missing or out of range.
-fn window_on(line: &[u8]) -> Option<Window> {
-    let part = number_in(field_at(line, b' ', 1)?, 0, 500)?;
-    let whole = number_in(field_at(line, b' ', 2)?, 1, 1_000)?;
-    Some(Window {
-        part: part as u16,
-        whole: whole as u16,
+/// Returns the tolerance of a line `tolerance PART WHOLE`, or `None` if a number is missing or out of range.
+fn tolerance_on(line: &[u8]) -> Option<Tolerance> {
+    let numerator = number_in(field_at(line, b' ', 1)?, 0, 500)?;
+    let denominator = number_in(field_at(line, b' ', 2)?, 1, 1_000)?;
+    Some(Tolerance {
+        numerator: numerator as u16,
+        denominator: denominator as u16,
     })
 }
 
 /// Returns the tolerance that a certificate is for: that of its second line, or one twentieth if it names none.
-fn window_in(text: &[u8]) -> Window {
+fn tolerance_in(text: &[u8]) -> Tolerance {
     let line = whole_line(text, 2).unwrap_or(&[]);
     match field_at(line, b' ', 0) {
-        Some(b"window") => window_on(line).unwrap_or(Window::twentieth()),
-        _ => Window::twentieth(),
+        Some(b"window") => tolerance_on(line).unwrap_or(Tolerance::twentieth()),
+        _ => Tolerance::twentieth(),
     }
 }
 
 /// Names the tolerance of a certificate, and that of the problem.
-fn explain_windows(out: &mut String, text: &[u8], problem: &Problem) -> Result<(), AllocError> {
-    let (named, asked) = (window_in(text), problem.window());
+fn explain_tolerances(out: &mut String, text: &[u8], problem: &Problem) -> Result<(), AllocError> {
+    let (named, asked) = (tolerance_in(text), problem.tolerance());
     writeln!(
         out,
-        "countygroups: the certificate is for the allowance {}/{}, and --part and --of ask for {}/{}",
-        named.part, named.whole, asked.part, asked.whole
+        "countygroups: the certificate is for the tolerance {}/{}, and --part and --of ask for {}/{}",
+        named.numerator, named.denominator, asked.numerator, asked.denominator
     )
 }
 
@@ -110,7 +110,7 @@ fn explain_help(
         CheckFault::TargetFault(_) => {
             explain_chamber(out, FileOption::Certificate, target_seats(text), problem)?
         }
-        CheckFault::WrongWindow => explain_windows(out, text, problem)?,
+        CheckFault::WrongWindow => explain_tolerances(out, text, problem)?,
         _ => {}
     }
     out.push_str(

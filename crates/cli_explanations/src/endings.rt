@@ -16,8 +16,8 @@ use crate::warnings::push_warnings;
 use cli::{EndedRun, Notes};
 use cli_answers::{FileOption, RunOutcome, Subject};
 use cli_file_stores::FileStoreFault;
-use cli_words::{WordsEnd, parse};
-use std::alloc::{AllocError, Global};
+use cli_words::WordsEnd;
+use std::alloc::AllocError;
 use std::fmt::Write;
 use std::io::ErrorKind;
 use std::rt::Files;
@@ -78,6 +78,8 @@ fn explain_unlisted(
 pub struct Ended<'a> {
     /// The words after the program's name. There are none at a case.
     pub words: &'a [&'a str],
+    /// What these words ask for.
+    pub options: Options<'a>,
     /// What it came to, and what it noted on its way.
     pub run: &'a EndedRun,
     /// The kind of error that the system gave at the last file that failed.
@@ -86,13 +88,6 @@ pub struct Ended<'a> {
     pub is_unwritten: bool,
     /// Whether standard output is a terminal, so that the answer stands beside what a person is told.
     pub is_at_terminal: bool,
-}
-
-/// Parses `words` as a command. If they aren't one, the command is unknown.
-fn options_of<'a>(alloc: Global, words: &'a [&'a str]) -> Options<'a> {
-    Options {
-        command: parse(alloc, words).ok(),
-    }
 }
 
 /// Returns the file of `option`, named `path`, that could not be read or stored, with what the file store says of it.
@@ -223,7 +218,7 @@ fn warn(
 ///
 /// Returns `AllocError` if memory was refused.
 pub fn explain(rt: &(impl Files + AllocGlobal), ended: Ended<'_>) -> Result<String, AllocError> {
-    let options = options_of(rt.alloc(), ended.words);
+    let options = ended.options;
     let mut out = String::new(rt.alloc());
     if ended.is_unwritten {
         out.push_str(UNWRITTEN)?;
@@ -240,17 +235,17 @@ pub fn explain(rt: &(impl Files + AllocGlobal), ended: Ended<'_>) -> Result<Stri
     Ok(out)
 }
 
-/// Returns what a person is told before a run of these `words`: warnings of the files that it is to store.
+/// Returns what a person is told before a run with these `options`: warnings of the files that it is to store.
 ///
 /// # Errors
 ///
 /// Returns `AllocError` if memory was refused.
 pub fn explain_before(
     rt: &(impl Files + AllocGlobal),
-    words: &[&str],
+    options: Options<'_>,
 ) -> Result<String, AllocError> {
     let mut out = String::new(rt.alloc());
-    if let Some(command) = options_of(rt.alloc(), words).command {
+    if let Some(command) = options.command {
         warn_of_outputs(rt, &mut out, command)?;
     }
     Ok(out)

@@ -23,3 +23,4 @@ mod usage;
 mod warnings;
 
 pub use endings::{Ended, explain, explain_before};
+pub use options::Options;

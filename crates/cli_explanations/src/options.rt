@@ -2,7 +2,8 @@
 
 use crate::shown_bytes::name_of;
 use cli_answers::FileOption;
-use cli_words::{CommandWords, CommonWords, ProblemWords, STANDARD_INPUT};
+use cli_words::{CommandWords, CommonWords, ProblemWords, STANDARD_INPUT, parse};
+use std::alloc::Global;
 use std::fmt;
 
 /// An option with the file that the words give it.
@@ -93,14 +94,22 @@ pub(crate) fn path_in<'a>(command: CommandWords<'a>, option: FileOption) -> Opti
     }
 }
 
-/// The words of a run. They are those of a command, or they are unknown, as at a case.
+/// What the words of a run ask for. They are those of a command, or it is unknown, as at a case.
 #[derive(Clone, Copy)]
-pub(crate) struct Options<'a> {
+pub struct Options<'a> {
     /// The command, if it is known.
     pub(crate) command: Option<CommandWords<'a>>,
 }
 
 impl<'a> Options<'a> {
+    /// Parses `words`, those after the program's name. If they aren't a command's, the command is unknown. The run
+    /// parses them itself, since it promises what they mean.
+    pub fn of(alloc: Global, words: &'a [&'a str]) -> Options<'a> {
+        Options {
+            command: parse(alloc, words).ok(),
+        }
+    }
+
     /// Returns an `option` with the file that the words give it.
     pub(crate) fn file(self, option: FileOption) -> NamedFile<'a> {
         let path = match self.command {

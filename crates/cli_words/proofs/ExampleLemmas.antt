@@ -22,7 +22,7 @@ default_state : option_map (λ p. first_of (codes "state") p.1) (subcommand_in (
 unfolding clap_on_literals countygroups subcommand_in
 default_state = refl
 
--- an allowance of which only the whole is given, or neither number
+-- a tolerance of which only the whole is given, or neither number
 default_part : option_map (λ p. first_of (codes "part") p.1) (subcommand_in (files ++ codes "--chamber" ∷ codes "120" ∷ codes "--of=10" ∷ [])) ≡ Some (Some (codes "1"))
 unfolding clap_on_literals countygroups subcommand_in
 default_part = refl
@@ -32,9 +32,9 @@ unfolding clap_on_literals countygroups subcommand_in
 default_whole = refl
 
 -- a part of more than half of the whole is no fault of the words, but a number out of its range is
-greatest_allowance : takes_words (files ++ codes "--chamber=120" ∷ codes "--part=500" ∷ codes "--of" ∷ codes "1" ∷ []) ≡ true
+greatest_tolerance : takes_words (files ++ codes "--chamber=120" ∷ codes "--part=500" ∷ codes "--of" ∷ codes "1" ∷ []) ≡ true
 unfolding clap_on_literals countygroups takes_words
-greatest_allowance = refl
+greatest_tolerance = refl
 
 too_great_part : faults_of (files ++ codes "--chamber=120" ∷ codes "--part=501" ∷ []) ≡ kind.ValueValidation ∷ []
 unfolding clap_on_literals countygroups faults_of

@@ -36,11 +36,11 @@ chamber_option = of_number 1 1000 (required (text_option (codes "chamber")))
 abbrev pub state_option : Rule
 state_option = with_default (codes "37") (of_number 0 99 (text_option (codes "state")))
 
--- `--part PART`, the part of the allowance, by default 1
+-- `--part PART`, the part of the tolerance, by default 1
 abbrev pub part_option : Rule
 part_option = with_default (codes "1") (of_number 0 500 (text_option (codes "part")))
 
--- `--of OF`, the whole of the allowance, by default 20
+-- `--of OF`, the whole of the tolerance, by default 20
 abbrev pub whole_option : Rule
 whole_option = with_default (codes "20") (of_number 1 1000 (text_option (codes "of")))
 
@@ -56,7 +56,7 @@ limit_option = of_number 0 65535 (text_option (codes "limit"))
 abbrev pub depth_option : Rule
 depth_option = of_number 0 255 (text_option (codes "depth"))
 
--- the options of each subcommand: the two files, the number of seats, the state, the two numbers of the allowance, and
+-- the options of each subcommand: the two files, the number of seats, the state, the two numbers of the tolerance, and
 -- the file of the record, which need not be given
 abbrev pub common_options : List Rule
 common_options = required (text_option (codes "geo")) ∷ required (text_option (codes "segment"))

@@ -4,7 +4,7 @@ use Rattle.std.specs.Borrow.{Bor}
 use Rattle.std.specs.Option.{IsSomeAnd}
 use Rattle.clap.specs.Words.{Kinds, Row, Text, fault_of, first_of, subcommand_of, takes}
 use Rattle.clap.specs.Takes.{is_given}
-use Rattle.county_codes.specs.declared.window.Window.{Window}
+use Rattle.county_codes.specs.declared.tolerance.Tolerance.{Tolerance}
 use Rattle.clap.specs.declared.error.kind.ErrorKind.{ErrorKind}
 use Rattle.clap.specs.declared.error.kind.ErrorKind.TheVariants.{DisplayHelp, DisplayVersion, OutOfMemory}
 use Rattle.cli_words.specs.Command.{countygroups}
@@ -53,16 +53,16 @@ faults_of words = fault_of countygroups words
 abbrev pub GivesNumber : Text → List Row → ℕ → Type 0
 GivesNumber name rows n = IsSomeAnd (first_of name rows) (λ text. Spells text n)
 
--- The values of a subcommand's options say which allowance is meant: a part, 0 to 500, of a whole, 1 to 1,000.
+-- The values of a subcommand's options say which tolerance is meant: a part, 0 to 500, of a whole, 1 to 1,000.
 -- If the words don't give the part, it is 1. If they don't give the whole, it is 20.
 -- The part may be more than half of the whole: that is no fault of the words.
-pub record SaysWindow (rows : List Row) (window : Window) : Type 0 where
-  pub part : GivesNumber (codes "part") rows window.part
-  pub most : window.part ≤ 500
-  pub default_part : is_given (codes "part") rows ≡ false → window.part ≡ 1
-  pub whole : GivesNumber (codes "of") rows window.whole
-  pub range : (1 ≤ window.whole) × (window.whole ≤ 1000)
-  pub default_whole : is_given (codes "of") rows ≡ false → window.whole ≡ 20
+pub record SaysTolerance (rows : List Row) (tolerance : Tolerance) : Type 0 where
+  pub part : GivesNumber (codes "part") rows tolerance.numerator
+  pub most : tolerance.numerator ≤ 500
+  pub default_part : is_given (codes "part") rows ≡ false → tolerance.numerator ≡ 1
+  pub whole : GivesNumber (codes "of") rows tolerance.denominator
+  pub range : (1 ≤ tolerance.denominator) × (tolerance.denominator ≤ 1000)
+  pub default_whole : is_given (codes "of") rows ≡ false → tolerance.denominator ≡ 20
 
 -- what the words give of an option that need not be given: its text, or none exactly where they don't give it
 abbrev pub GivesText : Text → List Row → Option (Bor Text) → Type 0
@@ -78,7 +78,7 @@ pub record SaysCommon (rows : List Row) (words : CommonWords) : Type 0 where
   pub state : GivesNumber (codes "state") rows words.state
   pub code : words.state ≤ 99
   pub default : is_given (codes "state") rows ≡ false → words.state ≡ 37
-  pub window : SaysWindow rows words.window
+  pub tolerance : SaysTolerance rows words.tolerance
   pub record_file : GivesText (codes "record") rows words.record_file
 
 -- the values of a subcommand's options say which problem is meant

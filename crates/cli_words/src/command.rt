@@ -249,7 +249,7 @@ fn state_option<'a>(alloc: Global) -> Arg<'a>
         .default_value("37")
 }
 
-/// Creates the option `--part PART`, the part of the allowance, from 0 to 500. The default is 1.
+/// Creates the option `--part PART`, the part of the tolerance, from 0 to 500. The default is 1.
 fn part_option<'a>(alloc: Global) -> Arg<'a>
     ensures rule { rule_of result ≡ part_option }
     ensures local { result.global ≡ false }
@@ -261,7 +261,7 @@ fn part_option<'a>(alloc: Global) -> Arg<'a>
         .default_value("1")
 }
 
-/// Creates the option `--of OF`, the whole of the allowance, from 1 to 1000. The default is 20.
+/// Creates the option `--of OF`, the whole of the tolerance, from 1 to 1000. The default is 20.
 fn whole_option<'a>(alloc: Global) -> Arg<'a>
     ensures rule { rule_of result ≡ whole_option }
     ensures local { result.global ≡ false }

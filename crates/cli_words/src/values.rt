@@ -1,11 +1,11 @@
-//! The values of options, by their kind: paths, numbers of steps, numbers in a range and the allowance.
+//! The values of options, by their kind: paths, numbers of steps, numbers in a range and the tolerance.
 ghost use Rattle.std.specs.Prelude.{◌≡◌, ◌≤◌, Some, codes, false};
 ghost use Rattle.clap.specs.{Takes.is_given, Words.{first_of, found_of, rows_of}};
 ghost use Rattle.cli_words.specs.Command.{chamber_option, depth_option, limit_option, number_option, of_steps, part_option, required, state_option, text_option, whole_option};
-ghost use Rattle.cli_words.specs.{Options.HasItsValue, Words.{GivesItsNumber, GivesNumber, GivesText, SaysWindow}};
+ghost use Rattle.cli_words.specs.{Options.HasItsValue, Words.{GivesItsNumber, GivesNumber, GivesText, SaysTolerance}};
 
 use clap::ArgMatches;
-use county_codes::Window;
+use county_codes::Tolerance;
 
 /// Reads the path that the option `name` gives, which is required.
 pub(crate) fn path<'a>(found: &ArgMatches<'a>, name: &str) -> &'a str
@@ -67,15 +67,15 @@ pub(crate) fn state<'a>(found: &ArgMatches<'a>) -> u8
     found.get_one::<u8>("state").unwrap()
 }
 
-/// Reads the allowance: a part of a whole.
-pub(crate) fn window<'a>(found: &ArgMatches<'a>) -> Window
+/// Reads the tolerance: a part of a whole.
+pub(crate) fn tolerance<'a>(found: &ArgMatches<'a>) -> Tolerance
     requires part { HasItsValue (rows_of (found_of found.now)) part_option }
     requires whole { HasItsValue (rows_of (found_of found.now)) whole_option }
-    ensures { SaysWindow (rows_of (found_of found.now)) result }
+    ensures { SaysTolerance (rows_of (found_of found.now)) result }
 {
-    Window {
-        part: found.get_one::<u16>("part").unwrap(),
-        whole: found.get_one::<u16>("of").unwrap(),
+    Tolerance {
+        numerator: found.get_one::<u16>("part").unwrap(),
+        denominator: found.get_one::<u16>("of").unwrap(),
     }
 }
 

@@ -10,11 +10,11 @@ ghost use Rattle.cli_words.specs.declared.end.OptionsFault.TheVariants.{Depth, N
 use crate::command::program;
 use crate::end::{OptionsFault, WordsEnd};
 use crate::values::{
-    chamber, depth, limit, number, number_or_none, path, path_or_none, state, steps, window,
+    chamber, depth, limit, number, number_or_none, path, path_or_none, state, steps, tolerance,
 };
 use clap::error::ErrorKind;
 use clap::{ArgMatches, Error};
-use county_codes::Window;
+use county_codes::Tolerance;
 use std::alloc::Global;
 
 /// The name of the file that `board` and `desk` read as it comes: standard input.
@@ -56,11 +56,11 @@ pub struct CommonWords<'a> {
     pub chamber: u16,
     /// The state's FIPS code, from 0 to 99; 37 where the words give none.
     pub state: u8,
-    /// The allowance: a part, from 0 to 500, of a whole, from 1 to 1000.
+    /// The tolerance: a part, from 0 to 500, of a whole, from 1 to 1000.
     ///
     /// If the words give no part, it is 1. If they give no whole, it is 20.
-    /// The part may be more than half of the whole: a problem refuses such an allowance.
-    pub window: Window,
+    /// The part may be more than half of the whole: a problem refuses such a tolerance.
+    pub tolerance: Tolerance,
     /// The name of the file that the record of the run is written to, where the words give one.
     pub record_file: Option<&'a str>,
 }
@@ -251,7 +251,7 @@ fn common_words<'a>(found: &ArgMatches<'a>) -> CommonWords<'a>
         segment: path(found, "segment"),
         chamber: chamber(found),
         state: state(found),
-        window: window(found),
+        tolerance: tolerance(found),
         record_file: path_or_none(found, "record"),
     }
 }

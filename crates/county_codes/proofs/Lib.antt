@@ -1,3 +1,3 @@
 pub mod CodeListLemmas
-pub mod WindowLemmas
+pub mod ToleranceLemmas
 pub mod DigitsBack

@@ -2,5 +2,5 @@ pub mod CodeLists
 pub mod Counties
 pub mod Groups
 pub mod Limits
-pub mod Windows
+pub mod Tolerances
 pub mod Digits

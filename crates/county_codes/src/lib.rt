@@ -15,7 +15,7 @@ mod codes;
 mod county;
 mod group;
 mod limits;
-mod window;
+mod tolerance;
 mod withdrawn;
 mod writing;
 
@@ -25,6 +25,6 @@ pub use codes::Codes;
 pub use county::County;
 pub use group::{Group, Grouping};
 pub use limits::MAX_COUNTIES;
-pub use window::Window;
+pub use tolerance::Tolerance;
 pub use withdrawn::{Withdrawn, copy_sets};
 pub use writing::{push_code, push_codes, push_five_digits};

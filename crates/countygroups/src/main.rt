@@ -6,7 +6,7 @@ mod progress;
 
 use crate::progress::Progress;
 use cli::{EndedRun, run_program};
-use cli_explanations::{Ended, explain, explain_before};
+use cli_explanations::{Ended, Options, explain, explain_before};
 use cli_file_stores::{DiskFileStore, Sink, Writing};
 use field_lines::Reading;
 use std::alloc::AllocError;
@@ -71,11 +71,13 @@ fn run(rt: &HostRuntime, words: &[&str], out: &mut impl Sink) -> Ran {
 /// how the run ended are told on standard error.
 fn run_and_tell(rt: &HostRuntime, words: &[&str]) -> u8 {
     announce(rt, words);
-    tell(rt, explain_before(rt, words));
+    let options = Options::of(rt.alloc(), words);
+    tell(rt, explain_before(rt, options));
     let mut out = Writing::new(io::writer(rt));
     let ran = run(rt, words, &mut out);
     let ended = Ended {
         words,
+        options,
         run: &ran.ended,
         reason: ran.reason,
         is_unwritten: out.failed(),

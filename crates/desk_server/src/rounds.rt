@@ -31,7 +31,7 @@ pub(crate) fn numbered_round<C: CountySet>(
             limit: told.limit,
             target: Some(told.target),
             format: Format::Wide,
-            window: graph.ordered.problem().named_window(),
+            tolerance: graph.ordered.problem().named_tolerance(),
         },
     })
 }

@@ -14,7 +14,7 @@ use cli_file_stores::Sink;
 use connected_sets::CountyGraph;
 use county_problem::Problem;
 use field_lines::Source;
-use place_sets::{CountySet, MaskSet, Places, fits_mask};
+use place_sets::{CountySet, MaskSet, WideSet, fits_mask};
 use std::alloc::Global;
 use written_output::Written;
 
@@ -64,5 +64,5 @@ pub fn prove_pieces<S: Source, W: Sink>(
     if fits_mask(problem.counties().len()) {
         return prove_over::<MaskSet, S, W>(alloc, problem, steps, source, out, written);
     }
-    prove_over::<Places, S, W>(alloc, problem, steps, source, out, written)
+    prove_over::<WideSet, S, W>(alloc, problem, steps, source, out, written)
 }

@@ -10,7 +10,7 @@ use Rattle.district_table.specs.DistrictTable.{IsDistrictsText}
 
 -- two seats for 200 people, so a district has 95 to 105
 abbrev two_seats : Problem
-two_seats = record { counties = 37001 ∷ 37003 ∷ []; people = λ c. 100; adjacent = λ x y. false; total_people = 200; chamber = 2; seats_left = 2; tolerance = 1; scale = 20 }
+two_seats = record { counties = 37001 ∷ 37003 ∷ []; people = λ c. 100; adjacent = λ x y. false; total_people = 200; chamber = 2; seats_left = 2; numerator = 1; denominator = 20 }
 
 -- one district has too few people, and the other has blocks in a group and in a withdrawn set
 example : (s t : Vec Set) (a b : Vec ℕ) → s.items ≡ Group 1 ∷ [] → t.items ≡ Group 1 ∷ Withdrawn 2 ∷ [] → a.items ≡ 37001 ∷ [] → b.items ≡ 37001 ∷ 37003 ∷ []

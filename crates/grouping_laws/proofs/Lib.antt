@@ -16,4 +16,4 @@ pub mod PlaceGroups
 pub mod PruneLemmas
 pub mod WindowLemmas
 pub mod ConnectedLemmas
-pub mod AllowanceLemmas
+pub mod ToleranceLaws

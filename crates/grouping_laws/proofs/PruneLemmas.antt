@@ -57,24 +57,24 @@ module _ (n : ℕ) (set : ℕ → Bool) (g : List ℕ) (in_order : filter (conta
       each c h = let r : Has g c × (not (set c) ≡ true) = has-filter (λ x. not (set x)) g c h in few c (has_member g c r.0) (not_in (set c) r.1)
 
 -- too few people for one seat are too few for any number of seats
-pub too_few : (p : Problem) (people : ℕ) → p.scale * p.chamber * people < (p.scale - p.tolerance) * p.total_people → (k : ℕ) → Suits p people k → ⊥
-too_few p people few k s = omega (arith, few, s.enough, mul-le-mul_right p.total_people (mul-le-mul_left (p.scale - p.tolerance) s.some_seat))
+pub too_few : (p : Problem) (people : ℕ) → p.denominator * p.chamber * people < (p.denominator - p.numerator) * p.total_people → (k : ℕ) → Suits p people k → ⊥
+too_few p people few k s = omega (arith, few, s.enough, mul-le-mul_right p.total_people (mul-le-mul_left (p.denominator - p.numerator) s.some_seat))
 
-pub below_bounds : (p : Problem) → 1 ≤ p.scale → 1 ≤ p.chamber → (people : ℕ) → people < (people_bounds p 1).0 → (k : ℕ) → Suits p people k → ⊥
-below_bounds p some_scale some_seats people few k s =
-    let bound = above_quotient ((p.scale - p.tolerance) * (1 * p.total_people)) (p.scale * p.chamber) people some in
+pub below_bounds : (p : Problem) → 1 ≤ p.denominator → 1 ≤ p.chamber → (people : ℕ) → people < (people_bounds p 1).0 → (k : ℕ) → Suits p people k → ⊥
+below_bounds p some_denominator some_seats people few k s =
+    let bound = above_quotient ((p.denominator - p.numerator) * (1 * p.total_people)) (p.denominator * p.chamber) people some in
     omega (arith, few, bound.1 enough)
   where
-    some : 0 < p.scale * p.chamber
+    some : 0 < p.denominator * p.chamber
     some = grind arith
 
-    enough : (p.scale - p.tolerance) * (1 * p.total_people) ≤ people * (p.scale * p.chamber)
-    enough = omega (arith, s.enough, mul-le-mul_right p.total_people (mul-le-mul_left (p.scale - p.tolerance) s.some_seat))
+    enough : (p.denominator - p.numerator) * (1 * p.total_people) ≤ people * (p.denominator * p.chamber)
+    enough = omega (arith, s.enough, mul-le-mul_right p.total_people (mul-le-mul_left (p.denominator - p.numerator) s.some_seat))
 
 -- So nothing that grows from the set to at most the limit suits any number of seats.
-pub stays_small : (p : Problem) → 1 ≤ p.scale → 1 ≤ p.chamber → (n limit most : ℕ) (set : ℕ → Bool) (g : List ℕ)
+pub stays_small : (p : Problem) → 1 ≤ p.denominator → 1 ≤ p.chamber → (n limit most : ℕ) (set : ℕ → Bool) (g : List ℕ)
     → people_of p (places_of n set) + (limit - length (places_of n set)) * most < (people_bounds p 1).0
     → filter (contains g) (places_below n) ≡ g → ((c : ℕ) → set c ≡ true → contains g c ≡ true) → length g ≤ limit → ((c : ℕ) → contains g c ≡ true → set c ≡ false → p.people c ≤ most)
     → (k : ℕ) → Suits p (people_of p g) k → ⊥
-stays_small p some_scale some_seats n limit most set g short in_order inside small few =
-    below_bounds p some_scale some_seats (people_of p g) (omega (arith, short, people_most n set g in_order inside p limit most small few))
+stays_small p some_denominator some_seats n limit most set g short in_order inside small few =
+    below_bounds p some_denominator some_seats (people_of p g) (omega (arith, short, people_most n set g in_order inside p limit most small few))

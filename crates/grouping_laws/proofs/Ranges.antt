@@ -12,8 +12,8 @@ le_or_gt a b = grind arith
 pub suits_or_not : (p : Problem) (people k : ℕ) → Suits p people k ⊎ (Suits p people k → ⊥)
 suits_or_not p people k =
     ⊎_elim
-    (λ a. ⊎_elim (λ b. ⊎_elim (λ c. inl (record { some_seat = a; enough = b; not_more = c })) (λ c. inr (λ s. omega (arith, c, s.not_more))) (le_or_gt (p.scale * p.chamber * people) ((p.scale + p.tolerance) * k * p.total_people)))
-    (λ b. inr (λ s. omega (arith, b, s.enough))) (le_or_gt ((p.scale - p.tolerance) * k * p.total_people) (p.scale * p.chamber * people)))
+    (λ a. ⊎_elim (λ b. ⊎_elim (λ c. inl (record { some_seat = a; enough = b; not_more = c })) (λ c. inr (λ s. omega (arith, c, s.not_more))) (le_or_gt (p.denominator * p.chamber * people) ((p.denominator + p.numerator) * k * p.total_people)))
+    (λ b. inr (λ s. omega (arith, b, s.enough))) (le_or_gt ((p.denominator - p.numerator) * k * p.total_people) (p.denominator * p.chamber * people)))
     (λ a. inr (λ s. omega (arith, a, s.some_seat)))
     (le_or_gt 1 k)
 
@@ -24,8 +24,8 @@ scaled c s k j h = mul-le-mul_right s (mul-le-mul_left c h)
 pub suits_between : (p : Problem) (people low k high : ℕ) → Suits p people low → Suits p people high → low ≤ k → k ≤ high → Suits p people k
 suits_between p people low k high a b h i = record {
   some_seat = omega (arith, a.some_seat);
-  enough = omega (arith, b.enough, scaled (p.scale - p.tolerance) p.total_people k high i);
-  not_more = omega (arith, a.not_more, scaled (p.scale + p.tolerance) p.total_people low k h);
+  enough = omega (arith, b.enough, scaled (p.denominator - p.numerator) p.total_people k high i);
+  not_more = omega (arith, a.not_more, scaled (p.denominator + p.numerator) p.total_people low k h);
 }
 
 last_or : (k n : ℕ) → k < suc n → (k < n) ⊎ (k ≡ n)
@@ -57,15 +57,15 @@ range_below p people (suc n) = ⊎_elim none some (range_below p people n)
 times_le : (a k b : ℕ) → 1 ≤ a → 1 ≤ b → k ≤ a * k * b
 times_le a k b h i = omega (arith, mul-le-mul_right b (mul-le-mul_right k h), mul-le-mul_left k i)
 
-seats_bounded : (p : Problem) → 1 ≤ p.total_people → p.tolerance < p.scale → (people k : ℕ) → Suits p people k → k < suc (p.scale * p.chamber * people)
-seats_bounded p some fits people k s = omega (arith, times_le (p.scale - p.tolerance) k p.total_people (omega arith) some, s.enough)
+seats_bounded : (p : Problem) → 1 ≤ p.total_people → p.numerator < p.denominator → (people k : ℕ) → Suits p people k → k < suc (p.denominator * p.chamber * people)
+seats_bounded p some fits people k s = omega (arith, times_le (p.denominator - p.numerator) k p.total_people (omega arith) some, s.enough)
 
 pub people_have_ranges : PeopleHaveRanges
 people_have_ranges p some fits people =
     ⊎_elim
     (λ h. inl (λ k s. h k (seats_bounded p some fits people k s) s))
     (λ r. inr (r.0, r.1, r.2, r.3, λ k s. r.5 k (seats_bounded p some fits people k s) s))
-    (range_below p people (suc (p.scale * p.chamber * people)))
+    (range_below p people (suc (p.denominator * p.chamber * people)))
 
 low_high : (p : Problem) (sets : List (List ℕ)) (lows highs : List ℕ) → AllZip (IsLeast p) sets lows → AllZip (IsMost p) sets highs → sum_by (λ k. k) lows ≤ sum_by (λ k. k) highs
 low_high p [] [] [] l h = omega arith

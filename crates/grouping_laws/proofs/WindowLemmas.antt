@@ -40,13 +40,13 @@ module _ (below whole above_ total chamber people k : ℕ) (some_below : 1 ≤ b
       let same : k * (below * total) ≡ below * k * total = omega arith in
       (λ h. omega (arith, q.0 h, same), λ h. q.1 (omega (arith, h, same)))
 
-module _ (p : Problem) (tolerated : p.tolerance < p.scale) (some_people : 1 ≤ p.total_people) (people : ℕ) where
+module _ (p : Problem) (tolerated : p.numerator < p.denominator) (some_people : 1 ≤ p.total_people) (people : ℕ) where
   -- a number of seats suits exactly between the quotients
   suits_between : (k : ℕ) → Suits p people k
-      ↔ ((max (div_ceil (p.scale * p.chamber * people) ((p.scale + p.tolerance) * p.total_people)) 1 ≤ k) × (k ≤ p.scale * p.chamber * people / ((p.scale - p.tolerance) * p.total_people)))
+      ↔ ((max (div_ceil (p.denominator * p.chamber * people) ((p.denominator + p.numerator) * p.total_people)) 1 ≤ k) × (k ≤ p.denominator * p.chamber * people / ((p.denominator - p.numerator) * p.total_people)))
   suits_between k =
-      let low = seats_low (p.scale - p.tolerance) p.scale (p.scale + p.tolerance) p.total_people p.chamber people k (omega arith) (omega arith) some_people in
-      let high = seats_high (p.scale - p.tolerance) p.scale (p.scale + p.tolerance) p.total_people p.chamber people k (omega arith) (omega arith) some_people in (
+      let low = seats_low (p.denominator - p.numerator) p.denominator (p.denominator + p.numerator) p.total_people p.chamber people k (omega arith) (omega arith) some_people in
+      let high = seats_high (p.denominator - p.numerator) p.denominator (p.denominator + p.numerator) p.total_people p.chamber people k (omega arith) (omega arith) some_people in (
         λ s. (let l = low.1 s.not_more in let one = s.some_seat in omega arith, high.1 s.enough),
         λ b. record { some_seat = omega (arith, b.0); enough = high.0 b.1; not_more = low.0 (omega (arith, b.0)) },
       )
@@ -55,24 +55,24 @@ module _ (p : Problem) (tolerated : p.tolerance < p.scale) (some_people : 1 ≤ 
   window_law = go (nat_le least greatest) refl
     where
       least : ℕ
-      least = max (div_ceil (p.scale * p.chamber * people) ((p.scale + p.tolerance) * p.total_people)) 1
+      least = max (div_ceil (p.denominator * p.chamber * people) ((p.denominator + p.numerator) * p.total_people)) 1
 
       greatest : ℕ
-      greatest = p.scale * p.chamber * people / ((p.scale - p.tolerance) * p.total_people)
+      greatest = p.denominator * p.chamber * people / ((p.denominator - p.numerator) * p.total_people)
 
       go : (b : Bool) → nat_le least greatest ≡ b → IsRun (Suits p people) (if b then Some (least, greatest) else None)
       go true e = (grind (arith, nat_tests, e), suits_between)
       go false e = λ k s. let b = (suits_between k).0 s in absurd (grind (arith, nat_tests, e, b))
 
-module _ (p : Problem) (some_scale : 1 ≤ p.scale) (some_seats : 1 ≤ p.chamber) (seats : ℕ) (some : 1 ≤ seats) where
+module _ (p : Problem) (some_denominator : 1 ≤ p.denominator) (some_seats : 1 ≤ p.chamber) (seats : ℕ) (some : 1 ≤ seats) where
   pub bounds_law : AreBounds p seats (people_bounds p seats)
   bounds_law people =
-      let one = pos_product p.scale p.chamber some_scale some_seats in
-      let low = above_quotient ((p.scale - p.tolerance) * (seats * p.total_people)) (p.scale * p.chamber) people one in
-      let high = below_quotient ((p.scale + p.tolerance) * (seats * p.total_people)) (p.scale * p.chamber) people one in
-      let l = regrouped_right (p.scale - p.tolerance) seats p.total_people in
-      let h = regrouped_right (p.scale + p.tolerance) seats p.total_people in
-      let m : people * (p.scale * p.chamber) ≡ p.scale * p.chamber * people = omega arith in (
+      let one = pos_product p.denominator p.chamber some_denominator some_seats in
+      let low = above_quotient ((p.denominator - p.numerator) * (seats * p.total_people)) (p.denominator * p.chamber) people one in
+      let high = below_quotient ((p.denominator + p.numerator) * (seats * p.total_people)) (p.denominator * p.chamber) people one in
+      let l = regrouped_right (p.denominator - p.numerator) seats p.total_people in
+      let h = regrouped_right (p.denominator + p.numerator) seats p.total_people in
+      let m : people * (p.denominator * p.chamber) ≡ p.denominator * p.chamber * people = omega arith in (
         λ s. (low.1 (omega (arith, s.enough, l, m)), high.1 (omega (arith, s.not_more, h, m))),
         λ b. record { some_seat = some; enough = omega (arith, low.0 b.0, l, m); not_more = omega (arith, high.0 b.1, h, m) },
       )

@@ -18,6 +18,6 @@ within_sum high middle all people seats (m ∷ ms) h = omega (arith, h m (inl re
 pub suits_sum : (p : Problem) (m : Group) (ms : Grouping) → ((x : Group) → Has (m ∷ ms) x → Suits p (people_of p x.codes) x.seats) → Suits p (sum_by (λ x. people_of p x.codes) (m ∷ ms)) (seats_of (m ∷ ms))
 suits_sum p m ms h = record {
   some_seat = omega (arith, (h m (inl refl)).some_seat);
-  enough = enough_sum (p.scale - p.tolerance) (p.scale * p.chamber) p.total_people (λ x. people_of p x.codes) (λ x. x.seats) (m ∷ ms) (λ x i. (h x i).enough);
-  not_more = within_sum (p.scale + p.tolerance) (p.scale * p.chamber) p.total_people (λ x. people_of p x.codes) (λ x. x.seats) (m ∷ ms) (λ x i. (h x i).not_more);
+  enough = enough_sum (p.denominator - p.numerator) (p.denominator * p.chamber) p.total_people (λ x. people_of p x.codes) (λ x. x.seats) (m ∷ ms) (λ x i. (h x i).enough);
+  not_more = within_sum (p.denominator + p.numerator) (p.denominator * p.chamber) p.total_people (λ x. people_of p x.codes) (λ x. x.seats) (m ∷ ms) (λ x i. (h x i).not_more);
 }

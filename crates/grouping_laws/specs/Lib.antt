@@ -9,5 +9,5 @@ pub mod Fill
 pub mod GroupsFrom
 pub mod Places
 pub mod SeatWindow
-pub mod Allowance
+pub mod Tolerance
 pub mod PlaceProblem

@@ -11,14 +11,14 @@ pub record Problem : Type 0 where
   pub total_people : ℕ
   pub chamber : ℕ
   pub seats_left : ℕ
-  pub tolerance : ℕ
-  pub scale : ℕ
+  pub numerator : ℕ
+  pub denominator : ℕ
 
 -- `people` people suit `seats` seats: at or within the tolerance of the ideal population
 pub record Suits (p : Problem) (people seats : ℕ) : Type 0 where
   pub some_seat : 1 ≤ seats
-  pub enough : (p.scale - p.tolerance) * seats * p.total_people ≤ p.scale * p.chamber * people
-  pub not_more : p.scale * p.chamber * people ≤ (p.scale + p.tolerance) * seats * p.total_people
+  pub enough : (p.denominator - p.numerator) * seats * p.total_people ≤ p.denominator * p.chamber * people
+  pub not_more : p.denominator * p.chamber * people ≤ (p.denominator + p.numerator) * seats * p.total_people
 
 -- the people of a set of counties
 abbrev pub people_of : Problem → List ℕ → ℕ
@@ -54,4 +54,4 @@ pub record IsProblem (p : Problem) : Type 0 where
   pub symmetric : (x y : ℕ) → p.adjacent x y ≡ true → p.adjacent y x ≡ true
   pub some_people : 1 ≤ p.total_people
   pub some_seats : 1 ≤ p.chamber
-  pub tolerated : p.tolerance < p.scale
+  pub tolerated : p.numerator < p.denominator

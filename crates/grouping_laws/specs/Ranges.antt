@@ -34,7 +34,7 @@ SuitAll p sets ks = AllZip (λ codes k. Suits p (people_of p codes) k) sets ks
 
 -- Where a district has more than no people, each number of people has a range.
 abbrev pub PeopleHaveRanges : Type 0
-PeopleHaveRanges = (p : Problem) → 1 ≤ p.total_people → p.tolerance < p.scale → (people : ℕ) → HasRange p people
+PeopleHaveRanges = (p : Problem) → 1 ≤ p.total_people → p.numerator < p.denominator → (people : ℕ) → HasRange p people
 
 -- Where some grouping is lawful, the connected parts of the problem make one with some seats.
 abbrev pub PartsAreLawful : Type 0

@@ -33,11 +33,11 @@ bounds_of below whole above total chamber seats =
 -- the numbers of seats that the people suit in a problem
 abbrev pub seat_run : Problem → ℕ → Option (ℕ × ℕ)
 seat_run p people =
-    seats_between (p.scale - p.tolerance) p.scale (p.scale + p.tolerance) p.total_people p.chamber people
+    seats_between (p.denominator - p.numerator) p.denominator (p.denominator + p.numerator) p.total_people p.chamber people
 
 -- the bounds of `seats` seats in a problem, in people
 abbrev pub people_bounds : Problem → ℕ → ℕ × ℕ
-people_bounds p seats = bounds_of (p.scale - p.tolerance) p.scale (p.scale + p.tolerance) p.total_people p.chamber seats
+people_bounds p seats = bounds_of (p.denominator - p.numerator) p.denominator (p.denominator + p.numerator) p.total_people p.chamber seats
 
 -- the people who suit the seats are exactly those from the least to the greatest
 abbrev pub AreBounds : Problem → ℕ → ℕ × ℕ → Type 0

@@ -1,6 +1,6 @@
 //! Laws of groupings and of their counts: the functions do nothing, and their contracts are the laws.
 
-ghost use Rattle.grouping_laws.specs.{Problem.Problem, Allowance.{HasWindow, named_window}};
+ghost use Rattle.grouping_laws.specs.{Problem.Problem, Allowance.{HasTolerance, named_tolerance}};
 ghost use Rattle.grouping_laws.specs.Totals.{SizesAddUp, WindowsAddUp, GroupsFit};
 ghost use Rattle.grouping_laws.specs.Order.{GreaterIsIrreflexive, GreaterIsTransitive, GreaterIsTotal};
 
@@ -20,7 +20,7 @@ pub fn greater_orders_counts()
     ensures total { GreaterIsTotal }
 {}
 
-/// States that what a certificate names for a problem is the problem's allowance.
-pub fn problems_name_their_window()
-    ensures { (p : Problem) → HasWindow p (named_window p) }
+/// States that what a certificate names for a problem is the problem's tolerance.
+pub fn problems_name_their_tolerance()
+    ensures { (p : Problem) → HasTolerance p (named_tolerance p) }
 {}

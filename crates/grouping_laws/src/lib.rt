@@ -4,4 +4,4 @@
 
 mod laws;
 
-pub use laws::{greater_orders_counts, groups_add_up, problems_name_their_window};
+pub use laws::{greater_orders_counts, groups_add_up, problems_name_their_tolerance};

@@ -6,7 +6,7 @@ use Rattle.grouping_laws.specs.Grouping.{Grouping, sets_of, counts}
 use Rattle.county_codes.specs.Digits.{each_after}
 use Rattle.grouping_report.specs.FirstLines.{first_lines}
 
--- the people, the chamber, the allowance where it isn't one twentieth, the seats left, and how many counties there are
+-- the people, the chamber, the tolerance where it isn't one twentieth, the seats left, and how many counties there are
 unfoldable pub head_lines : ProblemValue → List ℕ
 head_lines v =
     first_lines v ++ codes "seats left " ++ decimal v.seats_left ++ codes "\ncounties " ++ decimal (length v.counties)

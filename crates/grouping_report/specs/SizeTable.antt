@@ -28,7 +28,7 @@ district_line bounds = codes "district " ++ bounds_text bounds ++ codes "\n"
 abbrev pub lines_text : ProblemValue → List County → List ℕ
 lines_text v counties = flat_map (λ k. county_line k.code k.people (seat_run (problem_of v) k.people)) counties
 
--- the size table of a problem: its people, its chamber, its allowance where it isn't one twentieth, the bounds of a
+-- the size table of a problem: its people, its chamber, its tolerance where it isn't one twentieth, the bounds of a
 -- district, and the lines of its counties
 unfoldable pub size_text : ProblemValue → List ℕ
 size_text v = first_lines v ++ district_line (people_bounds (problem_of v) 1) ++ lines_text v v.counties

@@ -23,7 +23,7 @@ use Rattle.checker_laws.specs.Verdict as said
 use Rattle.checker_laws.specs.TextVerdict.{IsTextVerdict}
 use Rattle.checker_laws.proofs.TextVerdicts.{best}
 use Rattle.checker_laws.proofs.Spelling.{all_lines}
-use Rattle.checker_laws.specs.Lines.{window_line, tree_lines, target_lines}
+use Rattle.checker_laws.specs.Lines.{tolerance_line, tree_lines, target_lines}
 use Rattle.list_laws.specs.AllBest.{AreAllBest}
 use Rattle.list_laws.specs.Completeness.{IsComplete}
 use Rattle.list_laws.specs.Ends.{wanted, ends}
@@ -50,10 +50,10 @@ module _ (p : Problem) (text : List ℕ) (c : CertificateHeld) (target : Groupin
     readable = readable_of_fits (certificate_of c) ready.spells.spelling.fits;
   }
 
-  pub line_is : first_gap_line (round_of c.round) ≡ window_line c.round.window + 4 + length target.groups.items
-  line_is = ap (λ t. window_line c.round.window + 4 + target_lines t) ready.target_is
+  pub line_is : first_gap_line (round_of c.round) ≡ tolerance_line c.round.tolerance + 4 + length target.groups.items
+  line_is = ap (λ t. tolerance_line c.round.tolerance + 4 + target_lines t) ready.target_is
 
-  pub few_lines : window_line c.round.window + 4 + length target.groups.items + tree_lines (tree_of c.tree) ≤ length text
+  pub few_lines : tolerance_line c.round.tolerance + 4 + length target.groups.items + tree_lines (tree_of c.tree) ≤ length text
   few_lines =
       let l = all_lines text (certificate_of c) ready.spells.spelling in
       omega (arith, l.0, l.1, ap target_lines ready.target_is, count_by-le-length is_lf text)

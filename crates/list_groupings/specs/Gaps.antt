@@ -8,7 +8,7 @@ use Rattle.certificate_data.specs.Round.{Round}
 use Rattle.certificate_laws.specs.State.{State, close, raise}
 use Rattle.certificate_data.specs.Tree.{Leaf, Tree, leaf, branch, Takes, no_take, take}
 use Rattle.certificate_laws.specs.Proving.{limit_of}
-use Rattle.checker_laws.specs.Lines.{window_line, tree_lines, takes_lines, target_lines}
+use Rattle.checker_laws.specs.Lines.{tolerance_line, tree_lines, takes_lines, target_lines}
 use Rattle.list_laws.specs.Ends.{leaf_ends}
 use Rattle.list_laws.specs.Completeness.{IsComplete, EachIsComplete}
 use Rattle.list_groupings.specs.declared.gap.Gap.{Gap}
@@ -41,7 +41,7 @@ abbrev mutual
       IsFirstGap tree p round (close codes s) (line + 1) gap at
       ⊎ (IsComplete tree p round (close codes s) × IsFirstGapIn others p round s (line + 1 + tree_lines tree) gap at)
 
--- the line of a certificate on which its tree begins: head, allowance if one is named, order, limit and target stand
+-- the line of a certificate on which its tree begins: head, tolerance if one is named, order, limit and target stand
 -- before it
 abbrev pub first_gap_line : Round → ℕ
-first_gap_line round = window_line round.window + 4 + target_lines round.target
+first_gap_line round = tolerance_line round.tolerance + 4 + target_lines round.target

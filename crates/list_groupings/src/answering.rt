@@ -2,7 +2,7 @@
 
 ghost use Rattle.std.specs.Prelude.{◌≡◌, ◌+◌, ◌≤◌, ℕ, IfOk};
 ghost use Rattle.county_problem.specs.ProblemValue.{problem_of};
-ghost use Rattle.checker_laws.specs.{Lines.window_line, TextVerdict.IsTextVerdict};
+ghost use Rattle.checker_laws.specs.{Lines.tolerance_line, TextVerdict.IsTextVerdict};
 ghost use Rattle.checker_laws.specs.Verdict as said;
 ghost use Rattle.certificate_checker.specs.Answers.{lines_in_front};
 ghost use Rattle.list_groupings.specs.Answers.{IsReady, IsListing, IsListedWithin, ListsAllBest};
@@ -21,10 +21,10 @@ use std::alloc::{AllocError, Global};
 /// Returns the number of the line behind that of the target, for a target without groups. A tolerance that is named has
 /// a line of its own.
 fn line_behind(round: &Round) -> u64
-    ensures value { result ≡ window_line round.now.window + 4 }
+    ensures value { result ≡ tolerance_line round.now.tolerance + 4 }
     ensures small { result ≤ 6 }
 {
-    match round.window {
+    match round.tolerance {
         Some(_) => 6,
         None => 5,
     }

@@ -20,7 +20,7 @@ use Rattle.state_judge.specs.declared.fault.CheckFault.{CheckFault}
 use Rattle.state_judge.specs.LineStops.{StopsAt}
 use Rattle.state_judge.specs.declared.fault.LineStop.{LineStop}
 use Rattle.state_judge.specs.declared.fault.LineStop.TheVariants.{Fault, Unspelled, StepLimit, Memory as LineMemory}
-use Rattle.checker_laws.specs.Cost.{AreSoMany, Both, Where}
+use Rattle.checker_laws.specs.Cost.{IsSetCount, Both, Where}
 use Rattle.state_groups.specs.declared.state.State.{State as StateHeld}
 use Rattle.state_groups.specs.PlacedValues.{state_at, codes_of_set, codes_of_sets, IsPlaced}
 use Rattle.board_laws.specs.PartialTrees.{PartialTree, open_leaf, whole, begun, PartialTakes, no_begun, take_begun, begun_groups, ProvesPart, EachProvesPart}
@@ -215,7 +215,7 @@ module _ {C : Type 0} {test : C → ℕ → Bool} {p : Problem} {round : Round} 
       (Where ((begun_groups takes ≡ groups) × EachProvesPart takes p round s) (PartLooks raised p round (raise county (limit_of round limit) s)))
 
   abbrev Line : ℕ → Type 0
-  Line = Both (AreSoMany round.order (IsSetAt p round.order s county (limit_of round limit)))
+  Line = Both (IsSetCount round.order (IsSetAt p round.order s county (limit_of round limit)))
       (λ m. (groups : List (List ℕ)) × AreGroupsAt p round s county (limit_of round limit) groups × BranchLooks groups m)
 
   line_looks : (n : ℕ) → PartLooks tree p round first n → NamesLimit round.format limit → CanBranch round s county (limit_of round limit) → (m : ℕ) × Line m × (m ≤ n)
@@ -231,14 +231,14 @@ module _ {C : Type 0} {test : C → ℕ → Bool} {p : Problem} {round : Round} 
   no_line budget none h = none (at.asks h).0.0
 
   -- the budget is below the sets that are looked through for the branch
-  pub line_over : (budget : ℕ) → NamesLimit round.format limit → CanBranch round s county (limit_of round limit) → ((m : ℕ) → AreSoMany round.order (IsSetAt p round.order s county (limit_of round limit)) m → budget ≤ 2 * m) → IsPartRefusal p budget round first tree Budget
+  pub line_over : (budget : ℕ) → NamesLimit round.format limit → CanBranch round s county (limit_of round limit) → ((m : ℕ) → IsSetCount round.order (IsSetAt p round.order s county (limit_of round limit)) m → budget ≤ 2 * m) → IsPartRefusal p budget round first tree Budget
   line_over budget names can over cost h =
       let l = line_looks h.0 h.1 names can in
       omega (arith, over l.1.0 l.1.2, l.2, l.1.4, h.2, at.lines)
 
   -- the line of a branch that can't be judged
   pub line_refused : (budget : ℕ) (stop : LineStop) → StopsAt stop (IsBranchFault round s county (limit_of round limit)) (NamesLimit round.format limit → ⊥)
-      → (stop ≡ StepLimit → NamesLimit round.format limit × CanBranch round s county (limit_of round limit) × ((m : ℕ) → AreSoMany round.order (IsSetAt p round.order s county (limit_of round limit)) m → budget ≤ 2 * m))
+      → (stop ≡ StepLimit → NamesLimit round.format limit × CanBranch round s county (limit_of round limit) × ((m : ℕ) → IsSetCount round.order (IsSetAt p round.order s county (limit_of round limit)) m → budget ≤ 2 * m))
       → IsPartRefusal p budget round first tree (part_stop stop)
   line_refused budget (Fault f) named over = no_branch budget (λ h. go h.1 named.2)
     where

@@ -66,7 +66,7 @@ module _ {C : Type 0} (p : Problem) (order : List ℕ) (test : C → ℕ → Boo
   -- a set fits by places if its codes fit
   pub fits_both : (format : Format) → Fits format (at_places p order) (state_of test held) at_place ↔ Fits format p (state_at order test held) (codes_of_set order test set)
   fits_both format =
-      places_serve.fits p (record { order = order; limit = 0; target = None; format = format; window = None }) (in_codes order (state_of test held)) (state_of test held) at_place whole
+      places_serve.fits p (record { order = order; limit = 0; target = None; format = format; tolerance = None }) (in_codes order (state_of test held)) (state_of test held) at_place whole
       (states_have_codes.there order (state_of test held) (order_once p order whole) placed.rest) inside
 
   -- what fits is connected by places

@@ -23,7 +23,7 @@ use Rattle.run_laws.specs.Headline.{AuditTells, Tells}
 use Rattle.run_laws.proofs.Ending.{HasEnded, same_status, not_refused, not_out_of_memory, has_ended}
 use Rattle.run_laws.proofs.Refusing.{Refuses, bind_refuses, call_refuses, counties_refuse, problem_status, problem_refuses, grouping_refuses, blocks_refuse, assignments_refuse, value_refuses}
 use Rattle.run_laws.proofs.FilesRead.{went, stored_last}
-use Rattle.run_laws.proofs.FilesProblemLemmas.{counties_told, problem_told, grouping_told, blocks_told, assignments_told}
+use Rattle.run_laws.proofs.FilesProblemLemmas.{counties_found, problem_found, grouping_found, blocks_found, assignments_found}
 
 module _ (files : Files) where
   -- ---- audit
@@ -49,13 +49,13 @@ module _ (files : Files) where
       let audited : IsAudited (is_some words.districts) p.value g.value b.value s.value h.s = s.goes_on.1 in
       record {
         v = p.value;
-        problem = problem_told files words.problem before p.between p.value p.given;
+        problem = problem_found files words.problem before p.between p.value p.given;
         grouping = g.value;
-        grouping_is = grouping_told files words.grouping.now b.between g.between g.value g.given;
+        grouping_is = grouping_found files words.grouping.now b.between g.between g.value g.given;
         blocks = b.value;
-        blocks_are = blocks_told files words.problem.common p.between b.between b.value b.given;
+        blocks_are = blocks_found files words.problem.common p.between b.between b.value b.given;
         assignments = s.value;
-        assignments_are = assignments_told files words.assignments.now g.between s.between s.value s.given;
+        assignments_are = assignments_found files words.assignments.now g.between s.between s.value s.given;
         findings = audited.findings;
         findings_are = audited.are;
         answer = h.said ∙ audited.said;
@@ -77,7 +77,7 @@ module _ (files : Files) where
   -- ---- size
   size_refuses : (words : CommonWords) → Refuses (size_steps (Some files) words)
   size_refuses words = bind_refuses _ _ (counties_refuse (Some files) words) (λ counties.
-      bind_refuses _ _ (call_refuses problem_answer (IsBuilt counties [] [] words.chamber words.window) problem_status) (λ v. value_refuses (λ a. a ≡ success (size_text v))))
+      bind_refuses _ _ (call_refuses problem_answer (IsBuilt counties [] [] words.chamber words.tolerance) problem_status) (λ v. value_refuses (λ a. a ≡ success (size_text v))))
 
   pub size_tells : (words : CommonWords) (before after : History) (stored : List NamedFile) (a : Answered) → CommandRun (Some files) (Size words) before after stored a → a.status ≤ 3
       → Tells files (Size words) stored a
@@ -91,7 +91,7 @@ module _ (files : Files) where
         same_status a _ said,
         record {
           counties = c.value;
-          counties_are = counties_told files words before c.between c.value c.given;
+          counties_are = counties_found files words before c.between c.value c.given;
           v = b.value;
           faultless = b.given.1.0;
           problem = b.given.1.1;

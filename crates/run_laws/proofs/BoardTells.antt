@@ -39,7 +39,7 @@ use Rattle.run_laws.specs.Headline.{AreEventsOfFile, IsFirstRoundOfFiles, TookEv
 use Rattle.run_laws.proofs.Refusing.{IsRefusal, Refuses, as_refused, bind_refuses, load_refuses, call_refuses, value_refuses, problem_refuses, grouping_refuses, events_status}
 use Rattle.run_laws.proofs.Ending.{HasEnded, same_status, not_refused, not_out_of_memory, stopped_or_ended}
 use Rattle.run_laws.proofs.FilesRead.{ReadsProblem, went, problem_reads, problem_of_files}
-use Rattle.run_laws.proofs.FilesProblemLemmas.{grouping_told}
+use Rattle.run_laws.proofs.FilesProblemLemmas.{grouping_found}
 
 events_refuse : (files : Files) (words : BoardWords) (counties : ℕ) (name : List ℕ) → Refuses (events_of (Some files) (format_of words.round) counties name)
 events_refuse files words counties name =
@@ -121,7 +121,7 @@ module _ (files : Files) where
     grouping_stops : (v : ProblemValue) → IsProblemOfFiles files words.board.problem v → (start after : History) (a : Answered) → with_grouping v start after (Err a) → StopsAtBudget words.board words.budget a
     grouping_stops v problem start after a (inl stop) = inl (grouping_refuses (Some files) words.board.grouping.now start after a stop)
     grouping_stops v problem start after a (inr on) =
-        events_stop v problem on.value (grouping_told files words.board.grouping.now start on.between on.value on.given) on.between after a on.goes_on
+        events_stop v problem on.value (grouping_found files words.board.grouping.now start on.between on.value on.given) on.between after a on.goes_on
 
     pub share_stops : (before after : History) (a : Answered) → share_steps (Some files) words before after (Err a) → StopsAtBudget words.board words.budget a
     share_stops before after a (inl stop) = inl (problem_refuses (Some files) words.board.problem before after a stop)
@@ -150,7 +150,7 @@ module _ (files : Files) where
           reads = problem_reads files words.board.problem before p.between p.value p.given;
           target = g.value;
           round = on.0;
-          first = record { target_is = grouping_told files words.board.grouping.now p.between g.between g.value g.given; round_is = on.1 };
+          first = record { target_is = grouping_found files words.board.grouping.now p.between g.between g.value g.given; round_is = on.1 };
           events = e.value;
           events_are = events_told words.board p.value (Some words.events) g.between e.between e.value e.given;
           shared = on.2;
@@ -182,8 +182,8 @@ module _ (files : Files) where
           said ∙ said_with s _ _ h.shared.ended.text h.shared.ended.left
           ∙ ap (λ (pieces : List ℕ). record { text = flat_map reply_line h.shared.replies ++ board_end_lines h.shared.last pieces; status = left_status (length pieces) }) is
 
-      abbrev pub best_told : h.shared.ended.found ≡ [] → (text : List ℕ) → IsJoinedText (problem_of h.v) h.shared.last text → ShareTellsBest files words a
-      best_told is text j = record {
+      abbrev pub best_found : h.shared.ended.found ≡ [] → (text : List ℕ) → IsJoinedText (problem_of h.v) h.shared.last text → ShareTellsBest files words a
+      best_found is text j = record {
         v = h.v;
         replies = h.shared.replies;
         last = h.shared.last;
@@ -198,7 +198,7 @@ module _ (files : Files) where
           → Tells files (Share words) stored a
       pieces_tell stored all [] is joined =
           let text = joined_text (problem_of h.v) h.shared.last (certificate_of_run s) joined in
-          inl (same_status a _ (answer_is [] is), best_told is text.0 text.2)
+          inl (same_status a _ (answer_is [] is), best_found is text.0 text.2)
       pieces_tell stored all (piece ∷ pieces) is joined =
           let none = none_joined (problem_of h.v) h.shared.last piece pieces (certificate_of_run s) joined in
           inr (inr (
@@ -256,7 +256,7 @@ module _ (files : Files) where
         → StopsAtBudget words.board piece_budget a
     piece_grouping_stops v problem start after a (inl stop) = inl (grouping_refuses (Some files) words.board.grouping.now start after a stop)
     piece_grouping_stops v problem start after a (inr on) =
-        piece_events_stop v problem on.value (grouping_told files words.board.grouping.now start on.between on.value on.given) on.between after a on.goes_on
+        piece_events_stop v problem on.value (grouping_found files words.board.grouping.now start on.between on.value on.given) on.between after a on.goes_on
 
     piece_stops : (before after : History) (a : Answered) → piece_steps (Some files) words before after (Err a) → StopsAtBudget words.board piece_budget a
     piece_stops before after a (inl stop) = inl (problem_refuses (Some files) words.board.problem before after a stop)
@@ -294,7 +294,7 @@ module _ (files : Files) where
         let s = went _ _ e.between after a e.goes_on in
         let on = s.given.1 in
         answer_tells stored a low p.value (problem_of_files files words.board.problem p.value (problem_reads files words.board.problem before p.between p.value p.given))
-        g.value on.0 (record { target_is = grouping_told files words.board.grouping.now p.between g.between g.value g.given; round_is = on.1 })
+        g.value on.0 (record { target_is = grouping_found files words.board.grouping.now p.between g.between g.value g.given; round_is = on.1 })
         e.value (events_told words.board p.value words.events g.between e.between e.value e.given) s.value on.2 s.goes_on.1
 
     pub piece_tells : (before after : History) (stored : List NamedFile) (a : Answered) → CommandRun (Some files) (Piece words) before after stored a → a.status ≤ 3 → Tells files (Piece words) stored a

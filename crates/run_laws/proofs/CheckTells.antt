@@ -17,7 +17,7 @@ use Rattle.run_laws.specs.Run.{CommandRun}
 use Rattle.run_laws.specs.Headline.{Tells}
 use Rattle.run_laws.proofs.Ending.{HasEnded, same_status, not_out_of_memory, has_ended}
 use Rattle.run_laws.proofs.Refusing.{Refuses, bind_refuses, tabled_refuses, given_refuses, value_refuses}
-use Rattle.run_laws.proofs.Texts.{given_of_told}
+use Rattle.run_laws.proofs.Texts.{given_of_found}
 use Rattle.run_laws.proofs.FilesRead.{ReadsTabled, went, tabled_reads, problem_of_files, table_stored}
 
 module _ (files : Files) (words : CheckWords) (stored : List NamedFile) (a : Answered) (t : Tabled) (reads : ReadsTabled files words.check.problem words.table t)
@@ -71,7 +71,7 @@ ended_tells files words before stored a h =
     let t = went _ _ p.between h.between h.s p.goes_on in
     let c : IsChecked p.value words.check.budget t.value h.s = t.goes_on.1 in
     let reads = tabled_reads files words.check.problem words.table before p.between p.value p.given in
-    let begun = given_of_told files words.check.certificate.now p.between t.between t.value t.given in
+    let begun = given_of_found files words.check.certificate.now p.between t.between t.value t.given in
     verdict_tells files words stored a p.value reads begun.text begun.is h.s h.all
     c.verdict (c.is begun.text begun.sees) c.best c.impossible (h.said ∙ ap (λ (x : Reported). x.answer) c.said) (ap (λ (x : Reported). x.table) c.said)
 

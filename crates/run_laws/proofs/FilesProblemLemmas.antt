@@ -16,20 +16,20 @@ use Rattle.run_laws.specs.ProblemSteps.{counties_steps, problem_steps, grouping_
 use Rattle.run_laws.specs.PlanSteps.{blocks_of, plan_assignments}
 use Rattle.run_laws.specs.ListSteps.{which_of}
 use Rattle.run_laws.specs.FilesProblem.{AreCountiesOfFiles, AreBlocksOfFiles, IsProblemOfFiles, IsGroupingOfFile, IsGroupingIfNamed, AreAssignmentsOfFile}
-use Rattle.run_laws.proofs.Texts.{given_of_both_told}
+use Rattle.run_laws.proofs.Texts.{given_of_both_found}
 use Rattle.run_laws.proofs.FilesRead.{went, problem_reads, counties_of_files, problem_of_files}
 
 module _ (files : Files) where
-  pub counties_told : (words : CommonWords) (before after : History) (counties : List County) → counties_steps (Some files) words before after (Ok counties) → AreCountiesOfFiles files words counties
-  counties_told words before after counties h =
+  pub counties_found : (words : CommonWords) (before after : History) (counties : List County) → counties_steps (Some files) words before after (Ok counties) → AreCountiesOfFiles files words counties
+  counties_found words before after counties h =
       let t = went _ _ before after counties h in
-      let begun = given_of_both_told files words.geo.now words.segment.now before t.between t.value t.given in
+      let begun = given_of_both_found files words.geo.now words.segment.now before t.between t.value t.given in
       counties_of_files files words begun.0.text begun.1.text counties begun.0.is begun.1.is (t.goes_on.1 begun.0.text begun.1.text begun.0.sees begun.1.sees)
 
-  pub blocks_told : (words : CommonWords) (before after : History) (blocks : List Block) → blocks_of (Some files) words before after (Ok blocks) → AreBlocksOfFiles files words blocks
-  blocks_told words before after blocks h =
+  pub blocks_found : (words : CommonWords) (before after : History) (blocks : List Block) → blocks_of (Some files) words before after (Ok blocks) → AreBlocksOfFiles files words blocks
+  blocks_found words before after blocks h =
       let t = went _ _ before after blocks h in
-      let begun = given_of_both_told files words.geo.now words.segment.now before t.between t.value t.given in
+      let begun = given_of_both_found files words.geo.now words.segment.now before t.between t.value t.given in
       record {
         geo = begun.0.text;
         segment = begun.1.text;
@@ -39,21 +39,21 @@ module _ (files : Files) where
         are = are_blocks begun.0.text begun.1.text words.state blocks (t.goes_on.1 begun.0.text begun.1.text begun.0.sees begun.1.sees);
       }
 
-  pub problem_told : (words : ProblemWords) (before after : History) (v : ProblemValue) → problem_steps (Some files) words before after (Ok v) → IsProblemOfFiles files words v
-  problem_told words before after v h = problem_of_files files words v (problem_reads files words before after v h)
+  pub problem_found : (words : ProblemWords) (before after : History) (v : ProblemValue) → problem_steps (Some files) words before after (Ok v) → IsProblemOfFiles files words v
+  problem_found words before after v h = problem_of_files files words v (problem_reads files words before after v h)
 
-  pub grouping_told : (name : List ℕ) (before after : History) (grouping : groups.Grouping) → grouping_of (Some files) name before after (Ok grouping) → IsGroupingOfFile files name grouping
-  grouping_told name before after grouping h =
+  pub grouping_found : (name : List ℕ) (before after : History) (grouping : groups.Grouping) → grouping_of (Some files) name before after (Ok grouping) → IsGroupingOfFile files name grouping
+  grouping_found name before after grouping h =
       let t = went _ _ before after grouping h in
       (t.value, t.given.0, t.goes_on.1)
 
-  pub which_told : (name : Option (Bor (List ℕ))) (before after : History) (which : Option groups.Grouping) → which_of (Some files) name before after (Ok which) → IsGroupingIfNamed files name which
-  which_told None before after which h = h.1
-  which_told (Some name) before after which h =
+  pub which_found : (name : Option (Bor (List ℕ))) (before after : History) (which : Option groups.Grouping) → which_of (Some files) name before after (Ok which) → IsGroupingIfNamed files name which
+  which_found None before after which h = h.1
+  which_found (Some name) before after which h =
       let g = went _ _ before after which h in
-      (g.value, g.goes_on.1, grouping_told name.now before g.between g.value g.given)
+      (g.value, g.goes_on.1, grouping_found name.now before g.between g.value g.given)
 
-  pub assignments_told : (name : List ℕ) (before after : History) (lines : List Assignment) → plan_assignments (Some files) name before after (Ok lines) → AreAssignmentsOfFile files name lines
-  assignments_told name before after lines h =
+  pub assignments_found : (name : List ℕ) (before after : History) (lines : List Assignment) → plan_assignments (Some files) name before after (Ok lines) → AreAssignmentsOfFile files name lines
+  assignments_found name before after lines h =
       let t = went _ _ before after lines h in
       (t.value, t.given.0, t.goes_on.1)

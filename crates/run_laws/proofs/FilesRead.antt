@@ -4,7 +4,7 @@ use Rattle.std.specs.Prelude.{Result, Ok, option_map}
 use Rattle.std.proofs.lemmas.List.Elements.{Contains-append_right}
 use Rattle.std.specs.Borrow.{Bor}
 use Rattle.county_codes.specs.declared.county.County.{County}
-use Rattle.county_codes.specs.declared.window.Window.{Window}
+use Rattle.county_codes.specs.declared.tolerance.Tolerance.{Tolerance}
 use Rattle.county_codes.specs.declared.withdrawn.Withdrawn.{Withdrawn}
 use Rattle.county_problem.specs.ProblemValue.{ProblemValue, codes_of}
 use Rattle.grouping_laws.specs.Grouping.{Grouping}
@@ -30,7 +30,7 @@ use Rattle.run_laws.specs.ListSteps.{table_of_all}
 use Rattle.run_laws.specs.FilesProblem.{IsReadAsIfNamed, AreCountiesOfFiles, AreNamedByFiles, IsProblemOfFiles, IsTableOfFiles, IsLongTableOfFiles}
 use Rattle.run_laws.specs.Storing.{IsStoredAs, named_file}
 use Rattle.run_laws.specs.Agreement.{HoldsSameIfNamed, HasSameProblem}
-use Rattle.run_laws.proofs.Texts.{given_of_both_told}
+use Rattle.run_laws.proofs.Texts.{given_of_both_found}
 use Rattle.run_laws.proofs.NamedLists.{counties_named}
 
 -- the readers' values behind the counties, and the problem that is built of them
@@ -45,7 +45,7 @@ pub record ReadsOver (files : Files) (words : ProblemWords) (counties : List Cou
   pub linked : AreLinked named links pairs
   pub withdrawn : List Withdrawn
   pub withdrawn_are : IsReadAsIfNamed withdrawn_list files words.withdrawn withdrawn
-  pub built : IsBuilt counties pairs withdrawn words.common.chamber words.common.window (Ok v)
+  pub built : IsBuilt counties pairs withdrawn words.common.chamber words.common.tolerance (Ok v)
 
 -- the counties of both census files, and all behind them
 pub record ReadsProblem (files : Files) (words : ProblemWords) (v : ProblemValue) : Type 0 where
@@ -118,7 +118,7 @@ module _ (files : Files) where
   problem_reads words before after v h =
       let c = went _ _ before after v h in
       let t = went _ _ before c.between c.value c.given in
-      let begun = given_of_both_told files words.common.geo.now words.common.segment.now before t.between t.value t.given in
+      let begun = given_of_both_found files words.common.geo.now words.common.segment.now before t.between t.value t.given in
       record {
         geo = begun.0.text;
         segment = begun.1.text;
@@ -133,7 +133,7 @@ module _ (files : Files) where
   named_told : (words : CommonWords) (before after : History) (named : List CountyName) → named_counties_of (Some files) words before after (Ok named) → AreNamedByFiles files words named
   named_told words before after named h =
       let t = went _ _ before after named h in
-      let begun = given_of_both_told files words.geo.now words.segment.now before t.between t.value t.given in
+      let begun = given_of_both_found files words.geo.now words.segment.now before t.between t.value t.given in
       record {
         geo = begun.0.text;
         segment = begun.1.text;
@@ -258,6 +258,6 @@ reads_again files others words other v same h = record {
     linked = h.over.linked;
     withdrawn = h.over.withdrawn;
     withdrawn_are = read_again withdrawn_list files others words.withdrawn other.withdrawn h.over.withdrawn same.withdrawn h.over.withdrawn_are;
-    built = subst₂ (λ (chamber : ℕ) (window : Window). IsBuilt h.counties h.over.pairs h.over.withdrawn chamber window (Ok v)) same.chamber same.window h.over.built;
+    built = subst₂ (λ (chamber : ℕ) (tolerance : Tolerance). IsBuilt h.counties h.over.pairs h.over.withdrawn chamber tolerance (Ok v)) same.chamber same.tolerance h.over.built;
   };
 }

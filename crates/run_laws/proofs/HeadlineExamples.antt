@@ -5,7 +5,7 @@ use Rattle.std.specs.Prelude.{Ok, Err}
 use Rattle.std.specs.List.Sorted.{IsStrictlySortedBy}
 use Rattle.std.specs.Borrow.{Bor}
 use Rattle.county_codes.specs.declared.county.County.{County}
-use Rattle.county_codes.specs.declared.window.Window.{Window}
+use Rattle.county_codes.specs.declared.tolerance.Tolerance.{Tolerance}
 use Rattle.county_problem.specs.ProblemValue.{ProblemValue, problem_of}
 use Rattle.county_problem.specs.Building.{IsProblemOf, problem_fault}
 use Rattle.grouping_laws.specs.Grouping.{Grouping, IsBest}
@@ -112,12 +112,12 @@ no_links : AreLinked [] [] []
 unfolding IsStrictlySortedBy
 no_links = record { ascending = tt; each = λ a b. (λ c. absurd (contains_nil (a, b) c), λ h. absurd (cc h.1)) }
 
-abbrev twentieth : Window
+abbrev twentieth : Tolerance
 twentieth = record { part = 1; whole = 20 }
 
 -- the one county with the two seats of a chamber
 abbrev one_problem : ProblemValue
-one_problem = record { counties = one_county; withdrawn = []; pairs = []; total_people = 100; chamber = 2; seats_left = 2; tolerance = 1; scale = 20 }
+one_problem = record { counties = one_county; withdrawn = []; pairs = []; total_people = 100; chamber = 2; seats_left = 2; numerator = 1; denominator = 20 }
 
 without_fault : problem_fault one_county [] [] 2 twentieth ≡ None
 without_fault = refl
@@ -131,8 +131,8 @@ built = record {
   total_people = refl;
   seats = refl;
   seats_left = refl;
-  tolerance = refl;
-  scale = refl;
+  numerator = refl;
+  denominator = refl;
 }
 
 -- the words name the files, a chamber of two seats, and neither links nor withdrawn sets
@@ -144,10 +144,10 @@ record NamesOne (files : Files) (words : ProblemWords) : Type 0 where
   withdrawn : words.withdrawn ≡ None
   state : words.common.state ≡ 37
   chamber : words.common.chamber ≡ 2
-  window : words.common.window ≡ twentieth
+  tolerance : words.common.tolerance ≡ twentieth
 
-one_is_told : (files : Files) (words : ProblemWords) → NamesOne files words → IsProblemOfFiles files words one_problem
-one_is_told files words n = record {
+one_is_found : (files : Files) (words : ProblemWords) → NamesOne files words → IsProblemOfFiles files words one_problem
+one_is_found files words n = record {
   counties = one_county;
   counties_are = one_is_listed files words.common n.state n.segment n.geo;
   pairs = [];
@@ -162,8 +162,8 @@ one_is_told files words n = record {
   };
   withdrawn = [];
   withdrawn_are = subst (λ (name : Option (Bor (List ℕ))). IsReadAsIfNamed withdrawn_list files name []) (sym n.withdrawn) refl;
-  faultless = subst₂ (λ (chamber : ℕ) (window : Window). problem_fault one_county [] [] chamber window ≡ None) (sym n.chamber) (sym n.window) without_fault;
-  problem = subst₂ (λ (chamber : ℕ) (window : Window). IsProblemOf one_county [] [] chamber window one_problem) (sym n.chamber) (sym n.window) built;
+  faultless = subst₂ (λ (chamber : ℕ) (tolerance : Tolerance). problem_fault one_county [] [] chamber tolerance ≡ None) (sym n.chamber) (sym n.tolerance) without_fault;
+  problem = subst₂ (λ (chamber : ℕ) (tolerance : Tolerance). IsProblemOf one_county [] [] chamber tolerance one_problem) (sym n.chamber) (sym n.tolerance) built;
 }
 
 -- ---- judge: the grouping that is told is that of the file

@@ -19,7 +19,7 @@ use Rattle.run_laws.proofs.Ending.{HasEnded, same_status, not_refused, not_out_o
 use Rattle.run_laws.proofs.StoreLemmas.{all_stored}
 use Rattle.run_laws.proofs.FilesRead.{reads_again}
 use Rattle.run_laws.proofs.Checking.{checked_best, check_agrees}
-use Rattle.run_laws.proofs.BoardTells.{StopsAtBudget, HasShared, shared_of, share_stops, joined_text, none_joined, certificate_of_run, none_to_store, answer_is, best_told}
+use Rattle.run_laws.proofs.BoardTells.{StopsAtBudget, HasShared, shared_of, share_stops, joined_text, none_joined, certificate_of_run, none_to_store, answer_is, best_found}
 
 module _ (files : Files) (words : ShareWords) (s : Shared) (h : HasShared files words s) (text : List ℕ) (j : IsJoinedText (problem_of h.v) h.shared.last text) where
   -- every check of the text says that the target is best
@@ -50,7 +50,7 @@ module _ (files : Files) (words : ShareWords) (stored : List NamedFile) (a : Ans
     pieces_share [] is joined =
         let text = joined_text (problem_of h.v) h.shared.last (certificate_of_run files words s) joined in
         record {
-          told = best_told files words a s h said is text.0 text.2;
+          told = best_found files words a s h said is text.0 text.2;
           proof = λ name named. (
             text.0,
             [],

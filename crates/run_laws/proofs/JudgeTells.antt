@@ -24,7 +24,7 @@ use Rattle.run_laws.proofs.Refusing.{IsRefusal, Refuses, bind_refuses, load_refu
 use Rattle.run_laws.proofs.Ending.{HasEnded, same_status, not_refused, not_out_of_memory, stopped_or_ended}
 use Rattle.run_laws.proofs.AnswerStatus.{verdict_status}
 use Rattle.run_laws.proofs.FilesRead.{ReadsTabled, went, tabled_reads, problem_of_files, table_stored}
-use Rattle.run_laws.proofs.FilesProblemLemmas.{grouping_told}
+use Rattle.run_laws.proofs.FilesProblemLemmas.{grouping_found}
 
 certificate_refuses : (files : Option Files) (name : Option (Bor (List ℕ))) → Refuses (certificate_text_of files name)
 certificate_refuses files None = value_refuses (λ (held : Option (List ℕ)). held ≡ None)
@@ -72,7 +72,7 @@ module _ (files : Files) (words : JudgeWords) where
 
     problem_stops : (start : History) → with_problem t start after (Err a) → StopsAtFault a
     problem_stops start (inl stop) = inl (grouping_refuses (Some files) words.grouping.now start after a stop)
-    problem_stops start (inr on) = grouping_stops on.value (grouping_told files words.grouping.now start on.between on.value on.given) on.between on.goes_on
+    problem_stops start (inr on) = grouping_stops on.value (grouping_found files words.grouping.now start on.between on.value on.given) on.between on.goes_on
 
   judge_stops : (before after : History) (a : Answered) → judge_steps (Some files) words before after (Err a) → StopsAtFault a
   judge_stops before after a (inl stop) = inl (tabled_refuses (Some files) words.problem words.table before after a stop)
@@ -92,7 +92,7 @@ module _ (files : Files) (words : JudgeWords) where
         v = p.value.problem;
         problem = problem_of_files files words.problem p.value.problem reads.reads;
         grouping = g.value;
-        grouping_is = grouping_told files words.grouping.now p.between g.between g.value g.given;
+        grouping_is = grouping_found files words.grouping.now p.between g.between g.value g.given;
         lawful = reported.0;
         answer = said_of p.value.problem g.value (said_so p.value.problem g.value words.budget c.value h.s.answer reported.1.0);
         table = table_stored files words.problem words.table p.value g.value h.s.table [] stored reads reported.1.1 h.all;

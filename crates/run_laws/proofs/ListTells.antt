@@ -25,7 +25,7 @@ use Rattle.run_laws.specs.Run.{CommandRun}
 use Rattle.run_laws.specs.Headline.{IsNumberedStored, ListTellsAll, Tells}
 use Rattle.run_laws.proofs.Refusing.{Refuses, bind_refuses, load_refuses, tabled_refuses, which_refuses, value_refuses}
 use Rattle.run_laws.proofs.Ending.{same_status, not_out_of_memory, has_ended}
-use Rattle.run_laws.proofs.FilesProblemLemmas.{which_told}
+use Rattle.run_laws.proofs.FilesProblemLemmas.{which_found}
 use Rattle.run_laws.proofs.FilesRead.{ReadsTabled, went, tabled_reads, problem_of_files, stored_between, long_table_stored}
 
 -- what the steps of `list` come to
@@ -47,7 +47,7 @@ has_listed files words before after s h =
       t = p.value;
       reads = tabled_reads files words.check.problem words.groupings before p.between p.value p.given;
       which = w.value;
-      which_is = which_told files words.which p.between w.between w.value w.given;
+      which_is = which_found files words.which p.between w.between w.value w.given;
       text = l.value;
       held = l.given.0;
       answer = l.goes_on.1;

@@ -98,7 +98,7 @@ module _ (given : Option Files) (files : Files) where
   over_lifts : (words : ProblemWords) (counties : List County) → Lifts given files (problem_over given words counties) (problem_over (Some files) words counties)
   over_lifts words counties =
       lifts_bind given files (adjacency_lift (codes_of counties) words) (λ pairs. lifts_bind given files (withdrawn_lift words.withdrawn) (λ withdrawn.
-      lifts_call given files problem_answer (IsBuilt counties pairs withdrawn words.common.chamber words.common.window)))
+      lifts_call given files problem_answer (IsBuilt counties pairs withdrawn words.common.chamber words.common.tolerance)))
 
   problem_lifts : (words : ProblemWords) → Lifts given files (problem_steps given words) (problem_steps (Some files) words)
   problem_lifts words = lifts_bind given files (counties_lift words.common) (λ counties. over_lifts words counties)
@@ -123,7 +123,7 @@ module _ (given : Option Files) (files : Files) where
   assignments_lift name = lifts_bind given files (lifts_load given files name) (λ text. lifts_call given files assignment_answer (λ lines. assignment_list text ≡ lines))
 
   size_lifts : (words : CommonWords) → Lifts given files (size_steps given words) (size_steps (Some files) words)
-  size_lifts words = lifts_bind given files (counties_lift words) (λ counties. lifts_bind given files (lifts_call given files problem_answer (IsBuilt counties [] [] words.chamber words.window)) (λ v. lifts_value given files (λ a. a ≡ success (size_text v))))
+  size_lifts words = lifts_bind given files (counties_lift words) (λ counties. lifts_bind given files (lifts_call given files problem_answer (IsBuilt counties [] [] words.chamber words.tolerance)) (λ v. lifts_value given files (λ a. a ≡ success (size_text v))))
 
   certificate_lifts : (name : Option (Bor (List ℕ))) → Lifts given files (certificate_text_of given name) (certificate_text_of (Some files) name)
   certificate_lifts name = lifts_optional given files None name (λ file. lifts_bind given files (lifts_load given files file) (λ text. lifts_value given files (λ held. held ≡ Some text)))
@@ -182,18 +182,18 @@ module _ (given : Option Files) (files : Files) where
       lifts_bind given files (problem_lifts words.problem) (λ v. lifts_bind given files (lifts_read_one given files standard_input) (λ back. lifts_value given files (IsDeskRun v back)))
 
   -- steps after whose files something is said
-  saying_ends : {S : Type 0} (steps told : Steps S) (files_of : S → List NamedFile) (say : S → Option Answered → Answered) → Lifts given files steps told
+  saying_ends : {S : Type 0} (steps on_files : Steps S) (files_of : S → List NamedFile) (say : S → Option Answered → Answered) → Lifts given files steps on_files
       → (before after : History) (stored : List NamedFile) (a : Answered) → StoresAndSays steps files_of say before after stored a → AnsweredBy files before after
-      → StoresAndSays told files_of say before after stored a
-  saying_ends steps told files_of say lift before after stored a (inl h) by = inl (lift.lifts before after (Err a) h.0 by, h.1)
-  saying_ends steps told files_of say lift before after stored a (inr h) by =
+      → StoresAndSays on_files files_of say before after stored a
+  saying_ends steps on_files files_of say lift before after stored a (inl h) by = inl (lift.lifts before after (Err a) h.0 by, h.1)
+  saying_ends steps on_files files_of say lift before after stored a (inr h) by =
       let parts = answered_split given files before h.1 after (lift.extends before h.1 (Ok h.0) h.3) (stores_extend _ h.1 after stored h.2 h.4) by in
       inr (h.0, h.1, h.2, lift.lifts before h.1 (Ok h.0) h.3 parts.0, h.4, h.5)
 
-  storing_ends : {S : Type 0} (steps told : Steps S) (files_of : S → List NamedFile) (answer : S → Answered) → Lifts given files steps told
+  storing_ends : {S : Type 0} (steps on_files : Steps S) (files_of : S → List NamedFile) (answer : S → Answered) → Lifts given files steps on_files
       → (before after : History) (stored : List NamedFile) (a : Answered) → EndsStoring steps files_of answer before after stored a → AnsweredBy files before after
-      → EndsStoring told files_of answer before after stored a
-  storing_ends steps told files_of answer lift before after stored a h by = saying_ends steps told files_of (λ s refusal. said_after refusal (answer s)) lift before after stored a h by
+      → EndsStoring on_files files_of answer before after stored a
+  storing_ends steps on_files files_of answer lift before after stored a h by = saying_ends steps on_files files_of (λ s refusal. said_after refusal (answer s)) lift before after stored a h by
 
   -- what `board` stores, and what it says then
   abbrev board_files : ServeWords → ServedRun → List NamedFile
@@ -221,21 +221,21 @@ module _ (given : Option Files) (files : Files) where
   command_ends (Desk words) before after stored a h by = desk_ends words before after stored a h by
 
   -- a command's steps only add events
-  quiet_extends : (steps told : Steps Answered) → Lifts given files steps told → (before after : History) (a : Answered) → StepsEndIn steps before after a → Extends before after
-  quiet_extends steps told lift before after a (inl h) = lift.extends before after (Ok a) h
-  quiet_extends steps told lift before after a (inr h) = lift.extends before after (Err a) h
+  quiet_extends : (steps on_files : Steps Answered) → Lifts given files steps on_files → (before after : History) (a : Answered) → StepsEndIn steps before after a → Extends before after
+  quiet_extends steps on_files lift before after a (inl h) = lift.extends before after (Ok a) h
+  quiet_extends steps on_files lift before after a (inr h) = lift.extends before after (Err a) h
 
-  saying_extends : {S : Type 0} (steps told : Steps S) (files_of : S → List NamedFile) (say : S → Option Answered → Answered) → Lifts given files steps told
+  saying_extends : {S : Type 0} (steps on_files : Steps S) (files_of : S → List NamedFile) (say : S → Option Answered → Answered) → Lifts given files steps on_files
       → (before after : History) (stored : List NamedFile) (a : Answered) → StoresAndSays steps files_of say before after stored a → Extends before after
-  saying_extends steps told files_of say lift before after stored a (inl h) = lift.extends before after (Err a) h.0
-  saying_extends steps told files_of say lift before after stored a (inr h) =
+  saying_extends steps on_files files_of say lift before after stored a (inl h) = lift.extends before after (Err a) h.0
+  saying_extends steps on_files files_of say lift before after stored a (inr h) =
       let read = lift.extends before h.1 (Ok h.0) h.3 in
       let put = stores_extend (files_of h.0) h.1 after stored h.2 h.4 in
       (read.0 ++ put.0, extends_twice before h.1 after read put)
 
-  storing_extends : {S : Type 0} (steps told : Steps S) (files_of : S → List NamedFile) (answer : S → Answered) → Lifts given files steps told
+  storing_extends : {S : Type 0} (steps on_files : Steps S) (files_of : S → List NamedFile) (answer : S → Answered) → Lifts given files steps on_files
       → (before after : History) (stored : List NamedFile) (a : Answered) → EndsStoring steps files_of answer before after stored a → Extends before after
-  storing_extends steps told files_of answer lift before after stored a h = saying_extends steps told files_of (λ s refusal. said_after refusal (answer s)) lift before after stored a h
+  storing_extends steps on_files files_of answer lift before after stored a h = saying_extends steps on_files files_of (λ s refusal. said_after refusal (answer s)) lift before after stored a h
 
   desk_extends : (words : DeskWords) (before after : History) (stored : List NamedFile) (a : Answered) → DeskEnds given words before after stored a → Extends before after
   desk_extends words before after stored a (inl stop, none) = (desk_lifts words).extends before after (Err a) stop
@@ -311,15 +311,15 @@ module _ (given : Option Files) (files : Files) where
           subst (λ (x : NamedFile). IsStoreTaken before after x.name x.bytes) same ([], more.0, extends_twice before h.0 after (_, h.2.1) more)
       by_place rest (inr later) = taken_later before h.0 after f.name f.bytes (_, h.2.1) (rest later)
 
-  saying_taken : {S : Type 0} (steps told : Steps S) (files_of : S → List NamedFile) (say : S → Option Answered → Answered) → Lifts given files steps told
+  saying_taken : {S : Type 0} (steps on_files : Steps S) (files_of : S → List NamedFile) (say : S → Option Answered → Answered) → Lifts given files steps on_files
       → (before after : History) (stored : List NamedFile) (a : Answered) → StoresAndSays steps files_of say before after stored a → (f : NamedFile) → Contains stored f → IsStoreTaken before after f.name f.bytes
-  saying_taken steps told files_of say lift before after stored a (inl h) f there = absurd (none_holds stored f h.1 there)
-  saying_taken steps told files_of say lift before after stored a (inr h) f there =
+  saying_taken steps on_files files_of say lift before after stored a (inl h) f there = absurd (none_holds stored f h.1 there)
+  saying_taken steps on_files files_of say lift before after stored a (inr h) f there =
       taken_later before h.1 after f.name f.bytes (lift.extends before h.1 (Ok h.0) h.3) (stores_taken (files_of h.0) h.1 after stored h.2 h.4 f there)
 
-  storing_taken : {S : Type 0} (steps told : Steps S) (files_of : S → List NamedFile) (answer : S → Answered) → Lifts given files steps told
+  storing_taken : {S : Type 0} (steps on_files : Steps S) (files_of : S → List NamedFile) (answer : S → Answered) → Lifts given files steps on_files
       → (before after : History) (stored : List NamedFile) (a : Answered) → EndsStoring steps files_of answer before after stored a → (f : NamedFile) → Contains stored f → IsStoreTaken before after f.name f.bytes
-  storing_taken steps told files_of answer lift before after stored a h f there = saying_taken steps told files_of (λ s refusal. said_after refusal (answer s)) lift before after stored a h f there
+  storing_taken steps on_files files_of answer lift before after stored a h f there = saying_taken steps on_files files_of (λ s refusal. said_after refusal (answer s)) lift before after stored a h f there
 
   command_taken : (command : CommandWords) (before after : History) (stored : List NamedFile) (a : Answered) → CommandEnds given command before after stored a → (f : NamedFile) → Contains stored f
       → IsStoreTaken before after f.name f.bytes

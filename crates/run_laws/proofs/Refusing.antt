@@ -180,7 +180,7 @@ over_refuses : (files : Option Files) (words : ProblemWords) (counties : List Co
 over_refuses files words counties =
     bind_refuses _ _ (adjacency_refuses files (codes_of counties) words) (λ pairs.
     bind_refuses _ _ (withdrawn_refuses files words.withdrawn) (λ withdrawn.
-    call_refuses problem_answer (IsBuilt counties pairs withdrawn words.common.chamber words.common.window) problem_status))
+    call_refuses problem_answer (IsBuilt counties pairs withdrawn words.common.chamber words.common.tolerance) problem_status))
 
 pub problem_refuses : (files : Option Files) (words : ProblemWords) → Refuses (problem_steps files words)
 problem_refuses files words = bind_refuses _ _ (counties_refuse files words.common) (over_refuses files words)

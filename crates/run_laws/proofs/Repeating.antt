@@ -10,7 +10,7 @@ use Rattle.run_laws.specs.FilesProblem.{IsReadAsIfNamed}
 use Rattle.field_lines.specs.Source.{Given}
 use Rattle.field_lines.specs.HeldBytes.{Foresees}
 use Rattle.run_laws.specs.Reading.{given_of, given_of_both}
-use Rattle.run_laws.proofs.Texts.{CutsOff, load_cuts, given_of_cuts, given_of_both_cuts, given_of_told, given_of_both_told}
+use Rattle.run_laws.proofs.Texts.{CutsOff, load_cuts, given_of_cuts, given_of_both_cuts, given_of_found, given_of_both_found}
 
 -- a value for which P holds, or an answer for which E holds
 abbrev pub IsEnd : {X : Type 0} → (X → Type 0) → (Answered → Type 0) → Result X Answered → Type 0
@@ -71,7 +71,7 @@ module _ (E : Answered → Type 0) (five : (a : Answered) → a.status ≡ 5 →
   -- what is read of a file begins its text
   pub given_begins : (name text : List ℕ) → files name ≡ Some text → EndsBy (λ (given : Given). Foresees given text) E (given_of (Some files) name)
   given_begins name text held = cut_ends (λ (given : Given). Foresees given text) (given_of (Some files) name) (given_of_cuts (Some files) name) (λ start end given h.
-      let begun = given_of_told files name start end given h in
+      let begun = given_of_found files name start end given h in
       subst (λ (bytes : List ℕ). Foresees given bytes) (one_some (files name) text begun.text held begun.is) begun.sees)
 
   -- the same of two files
@@ -79,7 +79,7 @@ module _ (E : Answered → Type 0) (five : (a : Answered) → a.status ≡ 5 →
       → EndsBy (λ (pair : Given × Given). Foresees pair.0 x × Foresees pair.1 y) E (given_of_both (Some files) first second)
   both_begin first second x y held held_too =
       cut_ends (λ (pair : Given × Given). Foresees pair.0 x × Foresees pair.1 y) (given_of_both (Some files) first second) (given_of_both_cuts (Some files) first second) (λ start end pair h.
-      let begun = given_of_both_told files first second start end pair h in (
+      let begun = given_of_both_found files first second start end pair h in (
         subst (λ (bytes : List ℕ). Foresees pair.0 bytes) (one_some (files first) x begun.0.text held begun.0.is) begun.0.sees,
         subst (λ (bytes : List ℕ). Foresees pair.1 bytes) (one_some (files second) y begun.1.text held_too begun.1.is) begun.1.sees,
       ))

@@ -4,7 +4,7 @@ use Rattle.std.specs.Prelude.{Result, Ok, Err}
 use Rattle.std.specs.Borrow.{Bor}
 use Rattle.std.proofs.lemmas.List.Sorted.{Contains-permutation, IsPermutation-sym}
 use Rattle.county_codes.specs.declared.county.County.{County}
-use Rattle.county_codes.specs.declared.window.Window.{Window}
+use Rattle.county_codes.specs.declared.tolerance.Tolerance.{Tolerance}
 use Rattle.county_codes.specs.declared.withdrawn.Withdrawn.{Withdrawn}
 use Rattle.county_problem.specs.declared.fault.ProblemFault.{ProblemFault}
 use Rattle.county_problem.specs.ProblemValue.{ProblemValue, codes_of}
@@ -65,28 +65,28 @@ one_pairs_answer text listed pairs others h k =
 
 -- a problem has all of another
 same_value : (v w : ProblemValue) → v.counties ≡ w.counties → v.withdrawn ≡ w.withdrawn → v.pairs ≡ w.pairs → v.total_people ≡ w.total_people
-    → v.chamber ≡ w.chamber → v.seats_left ≡ w.seats_left → v.tolerance ≡ w.tolerance → v.scale ≡ w.scale → v ≡ w
-same_value v w counties withdrawn pairs people chamber seats tolerance scale = λ i. record {
+    → v.chamber ≡ w.chamber → v.seats_left ≡ w.seats_left → v.numerator ≡ w.numerator → v.denominator ≡ w.denominator → v ≡ w
+same_value v w counties withdrawn pairs people chamber seats numerator denominator = λ i. record {
   counties = counties i;
   withdrawn = withdrawn i;
   pairs = pairs i;
   total_people = people i;
   chamber = chamber i;
   seats_left = seats i;
-  tolerance = tolerance i;
-  scale = scale i;
+  numerator = numerator i;
+  denominator = denominator i;
 }
 
-module _ (counties : List County) (pairs : List (ℕ × ℕ)) (withdrawn : List Withdrawn) (chamber : ℕ) (window : Window) where
+module _ (counties : List County) (pairs : List (ℕ × ℕ)) (withdrawn : List Withdrawn) (chamber : ℕ) (tolerance : Tolerance) where
   abbrev left : List County
   left = filter (is_left withdrawn) counties
 
-  same_counties : (v w : ProblemValue) → IsProblemOf counties pairs withdrawn chamber window v → IsProblemOf counties pairs withdrawn chamber window w → v.counties ≡ w.counties
+  same_counties : (v w : ProblemValue) → IsProblemOf counties pairs withdrawn chamber tolerance v → IsProblemOf counties pairs withdrawn chamber tolerance w → v.counties ≡ w.counties
   same_counties v w h k = one_list_of_counties v.counties w.counties h.by_code k.by_code
       (λ c there. Contains-permutation left w.counties c k.same (Contains-permutation v.counties left c (IsPermutation-sym left v.counties h.same) there))
       (λ c there. Contains-permutation left v.counties c h.same (Contains-permutation w.counties left c (IsPermutation-sym left w.counties k.same) there))
 
-  one_problem : (v w : ProblemValue) → IsProblemOf counties pairs withdrawn chamber window v → IsProblemOf counties pairs withdrawn chamber window w → v ≡ w
+  one_problem : (v w : ProblemValue) → IsProblemOf counties pairs withdrawn chamber tolerance v → IsProblemOf counties pairs withdrawn chamber tolerance w → v ≡ w
   one_problem v w h k =
       let same : v.counties ≡ w.counties = same_counties v w h k in
       let taken : v.seats_left + seats_in withdrawn ≡ chamber = h.seats_left in
@@ -97,10 +97,10 @@ module _ (counties : List County) (pairs : List (ℕ × ℕ)) (withdrawn : List 
       (h.total_people ∙ sym k.total_people)
       (h.seats ∙ sym k.seats)
       (omega arith)
-      (h.tolerance ∙ sym k.tolerance)
-      (h.scale ∙ sym k.scale)
+      (h.numerator ∙ sym k.numerator)
+      (h.denominator ∙ sym k.denominator)
 
-  none_or_some : (fault : ProblemFault) → problem_fault counties pairs withdrawn chamber window ≡ None → problem_fault counties pairs withdrawn chamber window ≡ Some fault → ⊥
+  none_or_some : (fault : ProblemFault) → problem_fault counties pairs withdrawn chamber tolerance ≡ None → problem_fault counties pairs withdrawn chamber tolerance ≡ Some fault → ⊥
   none_or_some fault e f = let no : None ≡ Some fault = sym e ∙ f in cc
 
 -- the grouping of a file is had again
@@ -119,10 +119,10 @@ module _ (E : Answered → Type 0) (five : (a : Answered) → a.status ≡ 5 →
 module _ (E : Answered → Type 0) (five : (a : Answered) → a.status ≡ 5 → E a) (files : Files) (words : ProblemWords) (v : ProblemValue) where
   -- the problem of counties is had again
   module _ (counties : List County) (h : ReadsOver files words counties v) where
-    built_again : Gives v E (build_step words.common.chamber words.common.window counties h.pairs h.withdrawn)
-    built_again = call_ends E (λ (w : ProblemValue). w ≡ v) problem_answer (IsBuilt counties h.pairs h.withdrawn words.common.chamber words.common.window)
-        (λ w k. one_problem counties h.pairs h.withdrawn words.common.chamber words.common.window w v k.1 h.built.1)
-        (λ fault k. absurd (none_or_some counties h.pairs h.withdrawn words.common.chamber words.common.window fault h.built.0 k))
+    built_again : Gives v E (build_step words.common.chamber words.common.tolerance counties h.pairs h.withdrawn)
+    built_again = call_ends E (λ (w : ProblemValue). w ≡ v) problem_answer (IsBuilt counties h.pairs h.withdrawn words.common.chamber words.common.tolerance)
+        (λ w k. one_problem counties h.pairs h.withdrawn words.common.chamber words.common.tolerance w v k.1 h.built.1)
+        (λ fault k. absurd (none_or_some counties h.pairs h.withdrawn words.common.chamber words.common.tolerance fault h.built.0 k))
 
     withdrawn_again : Gives h.withdrawn E (withdrawn_of (Some files) words.withdrawn)
     withdrawn_again = optional_gives E five files withdrawn_list (λ file. load_step (Some files) file >>= withdrawn_in) words.withdrawn h.withdrawn h.withdrawn_are (λ file text held is.
@@ -151,8 +151,8 @@ module _ (E : Answered → Type 0) (five : (a : Answered) → a.status ≡ 5 →
     over_again : Gives v E (problem_over (Some files) words counties)
     over_again =
         bind_gives E h.pairs (λ (w : ProblemValue). w ≡ v) (adjacency_of (Some files) (codes_of counties) words)
-        (λ pairs. withdrawn_of (Some files) words.withdrawn >>= build_step words.common.chamber words.common.window counties pairs) adjacency_again
-        (bind_gives E h.withdrawn (λ (w : ProblemValue). w ≡ v) (withdrawn_of (Some files) words.withdrawn) (build_step words.common.chamber words.common.window counties h.pairs) withdrawn_again built_again)
+        (λ pairs. withdrawn_of (Some files) words.withdrawn >>= build_step words.common.chamber words.common.tolerance counties pairs) adjacency_again
+        (bind_gives E h.withdrawn (λ (w : ProblemValue). w ≡ v) (withdrawn_of (Some files) words.withdrawn) (build_step words.common.chamber words.common.tolerance counties h.pairs) withdrawn_again built_again)
 
   module _ (h : ReadsProblem files words v) where
     -- what was read of both census files begins their texts

@@ -29,11 +29,11 @@ use Rattle.run_laws.specs.ServeSteps.{ServedRun, HasServed, HasNoBoard, HasStood
 use Rattle.run_laws.specs.DeskSteps.{DeskRun, HasProved, DeskStops, IsDeskRun, desk_steps}
 use Rattle.run_laws.specs.Run.{CommandRun}
 use Rattle.run_laws.specs.Headline.{BeginsWith, ServedEvents, Tells}
-use Rattle.run_laws.proofs.Texts.{file_store_status, one_told}
+use Rattle.run_laws.proofs.Texts.{file_store_status, one_found}
 use Rattle.run_laws.proofs.Refusing.{IsRefusal, Refuses, as_refused, bind_refuses, value_refuses, problem_refuses, grouping_refuses, read_one_refuses, events_status, pieces_status}
 use Rattle.run_laws.proofs.Ending.{same_status, not_refused, not_out_of_memory, has_said}
 use Rattle.run_laws.proofs.FilesRead.{went, problem_reads, problem_of_files}
-use Rattle.run_laws.proofs.FilesProblemLemmas.{grouping_told}
+use Rattle.run_laws.proofs.FilesProblemLemmas.{grouping_found}
 use Rattle.run_laws.proofs.BoardTells.{StopsAtBudget, fault_tells, joined_text, none_joined, named_none, said_with}
 
 module _ (files : Files) where
@@ -73,9 +73,9 @@ module _ (files : Files) where
           v = p.value;
           problem = problem_of_files files words.board.problem p.value (problem_reads files words.board.problem before p.between p.value p.given);
           target = g.value;
-          target_is = grouping_told files words.board.grouping.now p.between g.between g.value g.given;
+          target_is = grouping_found files words.board.grouping.now p.between g.between g.value g.given;
           back = r.value;
-          reads = one_told files standard_input g.between r.between r.value r.given;
+          reads = one_found files standard_input g.between r.between r.value r.given;
           is = r.goes_on.1;
         }
 
@@ -218,7 +218,7 @@ module _ (files : Files) where
         let r = went _ _ p.between after s p.goes_on in
         let run = r.goes_on.1 in
         stops_tell stored a low s said p.value (problem_of_files files words.problem p.value (problem_reads files words.problem before p.between p.value p.given))
-        r.value (one_told files standard_input p.between r.between r.value r.given) run.0 run.1 run.2
+        r.value (one_found files standard_input p.between r.between r.value r.given) run.0 run.1 run.2
 
     pub desk_tells : (before after : History) (stored : List NamedFile) (a : Answered) → CommandRun (Some files) (Desk words) before after stored a → a.status ≤ 3 → Tells files (Desk words) stored a
     desk_tells before after stored a (inl none) low = absurd (not_out_of_memory a low none.0)

@@ -84,14 +84,14 @@ module _ (files : Files) where
       (subst (λ (bytes : List ℕ). ReadsFile files name bytes (Ok (read_end given.ended))) (sym h.1)
       (subst (λ (answer : Result ReadEnd FileStoreFault). ReadsFile files name g.bytes answer) h.2 reads))
 
-  pub one_told : (name : List ℕ) (before after : History) (g : GivenBack) → read_one (Some files) name before after (Ok g) → IsOf name g
-  one_told name before after g (inl stop) = absurd stop
-  one_told name before after g (inr on) = on.goes_on.0
+  pub one_found : (name : List ℕ) (before after : History) (g : GivenBack) → read_one (Some files) name before after (Ok g) → IsOf name g
+  one_found name before after g (inl stop) = absurd stop
+  one_found name before after g (inr on) = on.goes_on.0
 
   -- what was read of a file begins its bytes
-  pub given_of_told : (name : List ℕ) (before after : History) (given : Given) → given_of (Some files) name before after (Ok given) → IsBegun name given
-  given_of_told name before after given (inl stop) = absurd stop
-  given_of_told name before after given (inr on) = given_told name on.value on.between after given (one_told name before on.between on.value on.given) on.goes_on
+  pub given_of_found : (name : List ℕ) (before after : History) (given : Given) → given_of (Some files) name before after (Ok given) → IsBegun name given
+  given_of_found name before after given (inl stop) = absurd stop
+  given_of_found name before after given (inr on) = given_told name on.value on.between after given (one_found name before on.between on.value on.given) on.goes_on
 
   -- what was read of two files begins the bytes of both
   module _ (first second : List ℕ) where
@@ -127,6 +127,6 @@ module _ (files : Files) where
     pair_told both before after pair of (inl stop) = absurd stop
     pair_told both before after pair of (inr on) = first_told both.0 on.value on.between after pair of.0 (given_told second both.1 before on.between on.value of.1 on.given) on.goes_on
 
-    pub given_of_both_told : (before after : History) (pair : Given × Given) → given_of_both (Some files) first second before after (Ok pair) → AreBegun pair
-    given_of_both_told before after pair (inl stop) = absurd stop
-    given_of_both_told before after pair (inr on) = pair_told on.value on.between after pair (both_told before on.between on.value on.given) on.goes_on
+    pub given_of_both_found : (before after : History) (pair : Given × Given) → given_of_both (Some files) first second before after (Ok pair) → AreBegun pair
+    given_of_both_found before after pair (inl stop) = absurd stop
+    given_of_both_found before after pair (inr on) = pair_told on.value on.between after pair (both_told before on.between on.value on.given) on.goes_on

@@ -32,11 +32,11 @@ HoldsSameIfNamed files others None None = Unit {0}
 HoldsSameIfNamed files others (Some name) (Some other) = HoldsSame files others name other
 HoldsSameIfNamed files others _ _ = ⊥
 
--- Two problems are told by the same bytes: the same chamber, allowance and state, and the same bytes in the files of
+-- Two problems are told by the same bytes: the same chamber, tolerance and state, and the same bytes in the files of
 -- the counties, of adjacency, of links and of withdrawn sets, whatever their names.
 pub record HasSameProblem (files others : Files) (words other : ProblemWords) : Type 0 where
   pub chamber : words.common.chamber ≡ other.common.chamber
-  pub window : words.common.window ≡ other.common.window
+  pub tolerance : words.common.tolerance ≡ other.common.tolerance
   pub state : words.common.state ≡ other.common.state
   pub geo : HoldsSame files others words.common.geo other.common.geo
   pub segment : HoldsSame files others words.common.segment other.common.segment

@@ -73,7 +73,7 @@ pub record AreAdjacentByFiles (files : Files) (words : ProblemWords) (listed : L
   pub linked : AreLinked named links pairs
 
 -- The problem of the files: its counties, its adjacent pairs and its withdrawn sets are those of the files' bytes, and
--- its chamber and its allowance are those of the words. Together they have no fault.
+-- its chamber and its tolerance are those of the words. Together they have no fault.
 pub record IsProblemOfFiles (files : Files) (words : ProblemWords) (v : ProblemValue) : Type 0 where
   pub counties : List County
   pub counties_are : AreCountiesOfFiles files words.common counties
@@ -81,8 +81,8 @@ pub record IsProblemOfFiles (files : Files) (words : ProblemWords) (v : ProblemV
   pub pairs_are : AreAdjacentByFiles files words (codes_of counties) pairs
   pub withdrawn : List county.Withdrawn
   pub withdrawn_are : IsReadAsIfNamed withdrawn_list files words.withdrawn withdrawn
-  pub faultless : problem_fault counties pairs withdrawn words.common.chamber words.common.window ≡ None
-  pub problem : IsProblemOf counties pairs withdrawn words.common.chamber words.common.window v
+  pub faultless : problem_fault counties pairs withdrawn words.common.chamber words.common.tolerance ≡ None
+  pub problem : IsProblemOf counties pairs withdrawn words.common.chamber words.common.tolerance v
 
 -- the grouping of a file
 abbrev pub IsGroupingOfFile : Files → List ℕ → groups.Grouping → Type 0

@@ -249,8 +249,8 @@ pub record SizeTells (files : Files) (words : CommonWords) (a : Answered) : Type
   pub counties : List County
   pub counties_are : AreCountiesOfFiles files words counties
   pub v : ProblemValue
-  pub faultless : problem_fault counties [] [] words.chamber words.window ≡ None
-  pub problem : IsProblemOf counties [] [] words.chamber words.window v
+  pub faultless : problem_fault counties [] [] words.chamber words.tolerance ≡ None
+  pub problem : IsProblemOf counties [] [] words.chamber words.tolerance v
   pub answer : a ≡ success (size_text v)
 
 -- ---- share and piece

@@ -30,7 +30,7 @@ use Rattle.run_laws.specs.TableSteps.{Tabled, Reported, tabled_problem_in, table
 -- `size`: the size table of the counties, without pairs and withdrawn sets
 abbrev pub size_steps : Option Files → CommonWords → Steps Answered
 size_steps files words =
-    counties_steps files words >>= λ counties. build_step words.chamber words.window counties [] []
+    counties_steps files words >>= λ counties. build_step words.chamber words.tolerance counties [] []
     >>= λ v. value_step (λ a. a ≡ success (size_text v))
 
 -- the table is that of the grouping

@@ -2,7 +2,7 @@
 use Rattle.std.specs.Prelude.{◌≡◌, ℕ, List, [], Option, Some, None, Result, Ok, Err}
 use Rattle.std.specs.Borrow.{Bor}
 use Rattle.county_codes.specs.declared.county.County.{County}
-use Rattle.county_codes.specs.declared.window.Window.{Window}
+use Rattle.county_codes.specs.declared.tolerance.Tolerance.{Tolerance}
 use Rattle.county_codes.specs.declared.withdrawn.Withdrawn as county
 use Rattle.county_problem.specs.declared.fault.ProblemFault.{ProblemFault}
 use Rattle.county_problem.specs.ProblemValue.{ProblemValue, codes_of}
@@ -69,25 +69,25 @@ adjacency_of files listed words =
     >>= λ links. value_step (AreLinked pairs links)
 
 -- the problem that is built, or its fault
-abbrev pub IsBuilt : List County → List (ℕ × ℕ) → List county.Withdrawn → ℕ → Window → Result ProblemValue ProblemFault
+abbrev pub IsBuilt : List County → List (ℕ × ℕ) → List county.Withdrawn → ℕ → Tolerance → Result ProblemValue ProblemFault
     → Type 0
-IsBuilt counties pairs withdrawn chamber window (Ok v) =
-    (problem_fault counties pairs withdrawn chamber window ≡ None)
-    × IsProblemOf counties pairs withdrawn chamber window v
-IsBuilt counties pairs withdrawn chamber window (Err fault) =
-    problem_fault counties pairs withdrawn chamber window ≡ Some fault
+IsBuilt counties pairs withdrawn chamber tolerance (Ok v) =
+    (problem_fault counties pairs withdrawn chamber tolerance ≡ None)
+    × IsProblemOf counties pairs withdrawn chamber tolerance v
+IsBuilt counties pairs withdrawn chamber tolerance (Err fault) =
+    problem_fault counties pairs withdrawn chamber tolerance ≡ Some fault
 
 -- the step that builds the problem
-abbrev pub build_step : ℕ → Window → List County → List (ℕ × ℕ) → List county.Withdrawn → Steps ProblemValue
-build_step chamber window counties pairs withdrawn =
-    call_step problem_answer (IsBuilt counties pairs withdrawn chamber window)
+abbrev pub build_step : ℕ → Tolerance → List County → List (ℕ × ℕ) → List county.Withdrawn → Steps ProblemValue
+build_step chamber tolerance counties pairs withdrawn =
+    call_step problem_answer (IsBuilt counties pairs withdrawn chamber tolerance)
 
 -- The problem of these counties: its other files are had and read one after the other, adjacency first, then links and
 -- withdrawn sets, and then it is built.
 abbrev pub problem_over : Option Files → ProblemWords → List County → Steps ProblemValue
 problem_over files words counties =
     adjacency_of files (codes_of counties) words >>= λ pairs. withdrawn_of files words.withdrawn
-    >>= build_step words.common.chamber words.common.window counties pairs
+    >>= build_step words.common.chamber words.common.tolerance counties pairs
 
 -- The problem: the files of its counties are had and read first, and then the other files.
 abbrev pub problem_steps : Option Files → ProblemWords → Steps ProblemValue

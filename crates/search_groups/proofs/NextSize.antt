@@ -20,7 +20,7 @@ use Rattle.search_groups.specs.PartGroups.{IsSizeToList}
 
 -- a round in the wide format
 abbrev by_order : List ℕ → Round
-by_order order = record { order = order; limit = 0; target = None; format = Wide; window = None }
+by_order order = record { order = order; limit = 0; target = None; format = Wide; tolerance = None }
 
 pub next_by_places : (p : Problem) (order : List ℕ) (s t : State) (size : ℕ) (format : Format) → format ≡ Wide → IsOrder p order → IsStateAt order s t
     → ((g : List ℕ) → Fits format p s g → length g < size → ⊥) → ((c : ℕ) → IsStuck p s c → ⊥) → ((c : ℕ) → t.rest c ≡ true → t.least c ≤ size) → IsSizeToList (at_places p order) t size

@@ -51,7 +51,7 @@ stands_some c (x ∷ xs) g (inr h) e = omega (arith, stands_some c xs g h e)
 
 -- a round by places in the wide format
 abbrev wide_round : ℕ → Round
-wide_round n = record { order = places_below n; limit = 0; target = None; format = Wide; window = None }
+wide_round n = record { order = places_below n; limit = 0; target = None; format = Wide; tolerance = None }
 
 pub none_found : (C : Type 0) (test : C → ℕ → Bool) (p : Problem) (n size : ℕ) → ArePartGroups test p n size [] []
 none_found C test p n size = record {

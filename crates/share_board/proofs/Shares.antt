@@ -14,7 +14,7 @@ use Rattle.certificate_laws.proofs.Kept.{filter_pairs, filter_has}
 use Rattle.certificate_data.specs.Round.{Round}
 use Rattle.certificate_laws.specs.State.{State, open_to}
 use Rattle.certificate_laws.specs.Groups.{IsSetAt}
-use Rattle.checker_laws.specs.Cost.{AreSoMany}
+use Rattle.checker_laws.specs.Cost.{IsSetCount}
 use Rattle.share_board.specs.Replies.{IsSmallSet}
 
 -- all counties of a set pass a test
@@ -44,7 +44,7 @@ abbrev of_branch : State → ℕ → ℕ → List ℕ → Bool
 of_branch s limit county g = contains g county && all_pass (open_to s limit) g
 
 -- there are no more sets for a branch than connected ones within the limit
-pub sets_of_branch : (p : Problem) (round : Round) (s : State) (county m : ℕ) → AreSoMany round.order (IsSmallSet p round) m → (k : ℕ) × AreSoMany round.order (IsSetAt p round.order s county round.limit) k × (k ≤ m)
+pub sets_of_branch : (p : Problem) (round : Round) (s : State) (county m : ℕ) → IsSetCount round.order (IsSmallSet p round) m → (k : ℕ) × IsSetCount round.order (IsSetAt p round.order s county round.limit) k × (k ≤ m)
 sets_of_branch p round s county m many =
     let q = of_branch s round.limit county in
     let kept = filter q many.sets in
@@ -64,6 +64,6 @@ sets_of_branch p round s county m many =
         contains_from_has (filter (of_branch s round.limit county) many.sets) g (filter_has (of_branch s round.limit county) many.sets g among (and_true (contains g county) (all_pass (open_to s round.limit) g) i.has pass))
 
 -- a share that the branch would go above is below the cost of a line
-pub share_below : (p : Problem) (round : Round) (s : State) (county share : ℕ) → ((m : ℕ) → AreSoMany round.order (IsSetAt p round.order s county round.limit) m → share ≤ 2 * m)
-    → (m : ℕ) → AreSoMany round.order (IsSmallSet p round) m → share < 3 * (m + 1)
+pub share_below : (p : Problem) (round : Round) (s : State) (county share : ℕ) → ((m : ℕ) → IsSetCount round.order (IsSetAt p round.order s county round.limit) m → share ≤ 2 * m)
+    → (m : ℕ) → IsSetCount round.order (IsSmallSet p round) m → share < 3 * (m + 1)
 share_below p round s county share above m many = let r = sets_of_branch p round s county m many in omega (arith, above r.0 r.1, r.2)

@@ -8,7 +8,7 @@ use Rattle.certificate_data.specs.declared.format.Format.TheVariants.{Wide}
 use Rattle.certificate_laws.specs.State.{State, empty_state, close, raise}
 use Rattle.certificate_laws.specs.Groups.{AreGroupsAt, IsSetAt}
 use Rattle.certificate_laws.specs.Proving.{CanBranch}
-use Rattle.checker_laws.specs.Cost.{AreSoMany}
+use Rattle.checker_laws.specs.Cost.{IsSetCount}
 use Rattle.state_groups.specs.declared.state.State.{State as StateHeld}
 use Rattle.state_judge.specs.declared.fault.LineStop.{LineStop}
 use Rattle.state_judge.specs.declared.fault.LineStop.TheVariants as stop
@@ -75,7 +75,7 @@ abbrev pub IsSplitRefusal : Problem → ℕ → Round → State → ℕ → ℕ 
 IsSplitRefusal p budget round s county limit answer =
     ((answer ≡ reply.CantSplit) × (¬ CanSplit round s county limit))
     ⊎ (((answer ≡ reply.Budget) × CanSplit round s county limit
-    × ((m : ℕ) → AreSoMany round.order (IsSetAt p round.order s county limit) m → budget < 3 * (m + 1)))
+    × ((m : ℕ) → IsSetCount round.order (IsSetAt p round.order s county limit) m → budget < 3 * (m + 1)))
     ⊎ (answer ≡ reply.Memory))
 
 -- why a piece that waits at the state isn't given a part

@@ -10,7 +10,7 @@ use Rattle.certificate_laws.specs.State.{State, empty_state, open_to}
 use Rattle.state_groups.specs.declared.state.State.{State as StateHeld}
 use Rattle.certificate_laws.specs.Groups.{AreGroupsAt}
 use Rattle.certificate_laws.specs.Proving.{CanBranch}
-use Rattle.checker_laws.specs.Cost.{AreSoMany}
+use Rattle.checker_laws.specs.Cost.{IsSetCount}
 use Rattle.state_groups.specs.PlacedValues.{state_at, codes_of_sets, IsClosable}
 use Rattle.state_judge.specs.declared.branch.Branching.{Branching}
 use Rattle.board_laws.specs.PartialTrees.{PartialTree, PartialTakes, open_leaves, open_in}
@@ -97,7 +97,7 @@ pub record IsBranching {C : Type 0} (test : C → ℕ → Bool) (g : OpeningInpu
 
 -- the share of a branch is below the cost of a line
 abbrev pub IsBelowLine : Problem → Round → ℕ → Type 0
-IsBelowLine p round share = (m : ℕ) → AreSoMany round.order (IsSmallSet p round) m → share < 3 * (m + 1)
+IsBelowLine p round share = (m : ℕ) → IsSetCount round.order (IsSmallSet p round) m → share < 3 * (m + 1)
 
 -- why the round isn't opened at a state, where `first` pieces stand before it; and why not where each of these groups
 -- is closed

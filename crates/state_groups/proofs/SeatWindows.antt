@@ -33,14 +33,14 @@ module _ (p : Problem) (is : IsProblem p) where
       last : (k : ℕ) → (k < seats) ⊎ (seats ≤ k)
       last k = grind arith
 
-      fewer : seats ≤ k → (p.scale - p.tolerance) * seats * p.total_people ≤ (p.scale - p.tolerance) * k * p.total_people
-      fewer j = mul-le-mul_right p.total_people (mul-le-mul_left (p.scale - p.tolerance) j)
+      fewer : seats ≤ k → (p.denominator - p.numerator) * seats * p.total_people ≤ (p.denominator - p.numerator) * k * p.total_people
+      fewer j = mul-le-mul_right p.total_people (mul-le-mul_left (p.denominator - p.numerator) j)
 
       low : seats ≤ k → (people_bounds p seats).0 ≤ people
-      low j = (above_quotient ((p.scale - p.tolerance) * (seats * p.total_people)) (p.scale * p.chamber) people (pos_product p.scale p.chamber (omega (arith, is.tolerated)) is.some_seats)).1 (omega (arith, fewer j, s.enough))
+      low j = (above_quotient ((p.denominator - p.numerator) * (seats * p.total_people)) (p.denominator * p.chamber) people (pos_product p.denominator p.chamber (omega (arith, is.tolerated)) is.some_seats)).1 (omega (arith, fewer j, s.enough))
 
-  -- no more people than all suit at most two times the chamber's seats, if the allowance is at most a half
-  pub windows_all : (most : ℕ) (windows : List (ℕ × ℕ)) → most ≤ p.total_people → p.scale ≤ 2 * (p.scale - p.tolerance) → p.chamber ≤ 1000 → AreSeatWindows p 2001 windows → AreWindows p most windows
+  -- no more people than all suit at most two times the chamber's seats, if the tolerance is at most a half
+  pub windows_all : (most : ℕ) (windows : List (ℕ × ℕ)) → most ≤ p.total_people → p.denominator ≤ 2 * (p.denominator - p.numerator) → p.chamber ≤ 1000 → AreSeatWindows p 2001 windows → AreWindows p most windows
   windows_all most windows within half few h people k l s = ⊎_elim (λ j. h people k j s) (λ j. absurd (much j)) (last k)
     where
       last : (k : ℕ) → (k < 2001) ⊎ (2001 ≤ k)
@@ -48,9 +48,9 @@ module _ (p : Problem) (is : IsProblem p) where
 
       much : 2001 ≤ k → ⊥
       much j =
-          let seats : (p.scale - p.tolerance) * 2001 * p.total_people ≤ (p.scale - p.tolerance) * k * p.total_people = mul-le-mul_right p.total_people (mul-le-mul_left (p.scale - p.tolerance) j) in
-          let people : p.scale * p.chamber * people ≤ p.scale * p.chamber * p.total_people = mul-le-mul_left (p.scale * p.chamber) (omega (arith, l, within)) in
-          let twice : p.scale * p.chamber * p.total_people ≤ 2 * (p.scale - p.tolerance) * p.chamber * p.total_people = mul-le-mul_right p.total_people (mul-le-mul_right p.chamber half) in
-          let all : 2 * (p.scale - p.tolerance) * p.chamber * p.total_people ≤ 2 * (p.scale - p.tolerance) * 1000 * p.total_people = mul-le-mul_right p.total_people (mul-le-mul_left (2 * (p.scale - p.tolerance)) few) in
-          let one : 0 < (p.scale - p.tolerance) * p.total_people = pos_product (p.scale - p.tolerance) p.total_people (omega (arith, is.tolerated)) is.some_people in
+          let seats : (p.denominator - p.numerator) * 2001 * p.total_people ≤ (p.denominator - p.numerator) * k * p.total_people = mul-le-mul_right p.total_people (mul-le-mul_left (p.denominator - p.numerator) j) in
+          let people : p.denominator * p.chamber * people ≤ p.denominator * p.chamber * p.total_people = mul-le-mul_left (p.denominator * p.chamber) (omega (arith, l, within)) in
+          let twice : p.denominator * p.chamber * p.total_people ≤ 2 * (p.denominator - p.numerator) * p.chamber * p.total_people = mul-le-mul_right p.total_people (mul-le-mul_right p.chamber half) in
+          let all : 2 * (p.denominator - p.numerator) * p.chamber * p.total_people ≤ 2 * (p.denominator - p.numerator) * 1000 * p.total_people = mul-le-mul_right p.total_people (mul-le-mul_left (2 * (p.denominator - p.numerator)) few) in
+          let one : 0 < (p.denominator - p.numerator) * p.total_people = pos_product (p.denominator - p.numerator) p.total_people (omega (arith, is.tolerated)) is.some_people in
           omega (arith, s.enough, seats, people, twice, all, one)

@@ -19,10 +19,10 @@ use Rattle.state_groups.specs.Stranding.{NoneFits, IsTooSmall, StrandedPart}
 
 -- one seat asks for no more people than any number of seats
 pub least_for_one : (p : Problem) → IsProblem p → (people k : ℕ) → Suits p people k → (people_bounds p 1).0 ≤ people
-least_for_one p is people k s = (above_quotient ((p.scale - p.tolerance) * (1 * p.total_people)) (p.scale * p.chamber) people (pos_product p.scale p.chamber (omega (arith, is.tolerated)) is.some_seats)).1 (omega (arith, fewer, s.enough))
+least_for_one p is people k s = (above_quotient ((p.denominator - p.numerator) * (1 * p.total_people)) (p.denominator * p.chamber) people (pos_product p.denominator p.chamber (omega (arith, is.tolerated)) is.some_seats)).1 (omega (arith, fewer, s.enough))
   where
-    fewer : (p.scale - p.tolerance) * 1 * p.total_people ≤ (p.scale - p.tolerance) * k * p.total_people
-    fewer = mul-le-mul_right p.total_people (mul-le-mul_left (p.scale - p.tolerance) s.some_seat)
+    fewer : (p.denominator - p.numerator) * 1 * p.total_people ≤ (p.denominator - p.numerator) * k * p.total_people
+    fewer = mul-le-mul_right p.total_people (mul-le-mul_left (p.denominator - p.numerator) s.some_seat)
 
 -- what is kept back of a set is in the set and not free
 pub kept_back : (a b d : Bool) → d ≡ (a && not b) → d ≡ true → (a ≡ true) × (b ≡ false)

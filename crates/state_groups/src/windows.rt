@@ -19,7 +19,7 @@ pub(crate) fn seat_windows(
 {
     let _places = ordered.places();
     let problem = ordered.problem();
-    let _window = problem.window();
+    let _tolerance = problem.tolerance();
     let _chamber = problem.chamber();
     let mut windows = Vec::new(alloc);
     for seats in 1..2001 {

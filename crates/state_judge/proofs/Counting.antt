@@ -16,11 +16,11 @@ use Rattle.certificate_laws.specs.State.{State}
 use Rattle.certificate_laws.specs.Groups.{IsSetWithin}
 use Rattle.certificate_laws.specs.Places.{IsStateAt, in_codes}
 use Rattle.certificate_laws.proofs.PlaceStates.{states_have_codes}
-use Rattle.checker_laws.specs.Cost.{AreSoMany}
+use Rattle.checker_laws.specs.Cost.{IsSetCount}
 use Rattle.state_groups.proofs.OpenCounties.{set_within, within_below}
 
 pub steps_counted : (order : List ℕ) → ((c : ℕ) → count c order ≤ 1) → (One Kind : List ℕ → Type 0) (m before after : ℕ) → ((g : List ℕ) → One g → Below (length order) g) → ((g : List ℕ) → One g → Kind (codes_at order g))
-    → OneStepEach One before after → AreSoMany order Kind m → after ≤ before + m
+    → OneStepEach One before after → IsSetCount order Kind m → after ≤ before + m
 steps_counted order once One Kind m before after below kind taken many =
     let fewer : length (map (codes_at order) taken.sets) ≤ length many.sets = no_more_than (map (codes_at order) taken.sets) many.sets (distinct_from_pairs (map (codes_at order) taken.sets) different) inside in
     omega (arith, fewer, length-map taken.sets (codes_at order), taken.steps, many.number)
@@ -38,7 +38,7 @@ steps_counted order once One Kind m before after below kind taken many =
 
 -- the same, for the sets within a size at a state by places, which is told by codes
 pub steps_of_size : (p : Problem) (order : List ℕ) → IsOrder p order → (t : State) → ((x : ℕ) → t.rest x ≡ true → x < length order) → (size before after m : ℕ)
-    → OneStepEach (IsSetWithin (at_places p order) (places_below (length order)) t size) before after → AreSoMany order (IsSetWithin p order (in_codes order t) size) m → after ≤ before + m
+    → OneStepEach (IsSetWithin (at_places p order) (places_below (length order)) t size) before after → IsSetCount order (IsSetWithin p order (in_codes order t) size) m → after ≤ before + m
 steps_of_size p order whole t below size before after m =
     let at : IsStateAt order (in_codes order t) t = states_have_codes.there order t (order_once p order whole) below in
     steps_counted order (order_once p order whole) (IsSetWithin (at_places p order) (places_below (length order)) t size) (IsSetWithin p order (in_codes order t) size) m before after

@@ -23,7 +23,7 @@ use Rattle.certificate_laws.specs.Groups.{AreGroupsAt, IsGroupAt, IsSetAt}
 use Rattle.certificate_laws.specs.Places.{IsStateAt, in_codes, round_at}
 use Rattle.certificate_laws.proofs.Places.{places_serve}
 use Rattle.certificate_laws.proofs.PlaceStates.{states_have_codes}
-use Rattle.checker_laws.specs.Cost.{AreSoMany}
+use Rattle.checker_laws.specs.Cost.{IsSetCount}
 use Rattle.connected_sets.specs.declared.stop.Stop.{Stop}
 use Rattle.connected_sets.specs.declared.stop.Stop.TheVariants as search
 use Rattle.state_judge.specs.declared.fault.LineStop.{LineStop}
@@ -75,7 +75,7 @@ module _ (p : Problem) (order : List ℕ) (whole : IsOrder p order) (t : State) 
           ∙ (ap (λ k. t.rest (place order c) && nat_le k j) (sym (at.least (place order c) r.0)) ∙ h.inside (place order c) r.1))
 
   -- so no more steps are taken than there are sets by codes
-  few_steps : (before after m : ℕ) → OneStepEach (IsSetAt q (places_below (length order)) t i j) before after → AreSoMany order (IsSetAt p order s (code_at order i) j) m → after ≤ before + m
+  few_steps : (before after m : ℕ) → OneStepEach (IsSetAt q (places_below (length order)) t i j) before after → IsSetCount order (IsSetAt p order s (code_at order i) j) m → after ≤ before + m
   few_steps before after m steps many =
       let each = has_all (IsSetAt q (places_below (length order)) t i j) steps.sets steps.each in
       let once = order_once p order whole in
@@ -88,10 +88,10 @@ module _ (p : Problem) (order : List ℕ) (whole : IsOrder p order) (t : State) 
 
 -- the same, where the county and the limit are said in two ways
 pub steps_within : (p : Problem) (order : List ℕ) → IsOrder p order → (t : State) → ((x : ℕ) → t.rest x ≡ true → x < length order) → (i j : ℕ) → i < length order → (c k : ℕ) → code_at order i ≡ c → j ≡ k → (before after m : ℕ)
-    → OneStepEach (IsSetAt (at_places p order) (places_below (length order)) t i j) before after → AreSoMany order (IsSetAt p order (in_codes order t) c k) m → after ≤ before + m
+    → OneStepEach (IsSetAt (at_places p order) (places_below (length order)) t i j) before after → IsSetCount order (IsSetAt p order (in_codes order t) c k) m → after ≤ before + m
 steps_within p order whole t below i j l c k is same before after m steps many =
     few_steps p order whole t below i j l before after m steps
-    (subst (λ z. AreSoMany order (IsSetAt p order (in_codes order t) z j) m) (sym is) (subst (λ z. AreSoMany order (IsSetAt p order (in_codes order t) c z) m) (sym same) many))
+    (subst (λ z. IsSetCount order (IsSetAt p order (in_codes order t) z j) m) (sym is) (subst (λ z. IsSetCount order (IsSetAt p order (in_codes order t) c z) m) (sym same) many))
 
 -- the groups of a list by places, by codes
 pub groups_codes : (C : Type 0) (test : C → ℕ → Bool) (p : Problem) (round : Round) (order : List ℕ) (t : State) (i j : ℕ) (sets : List C) → order ≡ round.order → IsOrder p order → ((x : ℕ) → t.rest x ≡ true → x < length order) → i < length order

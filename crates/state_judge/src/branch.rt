@@ -6,7 +6,7 @@ ghost use Rattle.connected_sets.specs.Graphs.{graph_problem, graph_order, graph_
 ghost use Rattle.connected_laws.specs.Listing.{AreBelow};
 ghost use Rattle.certificate_data.specs.{declared.format.Format.TheVariants.Plain, RoundValue.round_of};
 ghost use Rattle.certificate_laws.specs.{Groups.{AreGroupsAt, IsSetAt}, Proving.{limit_of, NamesLimit, CanBranch}};
-ghost use Rattle.checker_laws.specs.{Branches.{IsBranchFault, IsNextTake, IsTakeFault}, Cost.AreSoMany};
+ghost use Rattle.checker_laws.specs.{Branches.{IsBranchFault, IsNextTake, IsTakeFault}, Cost.IsSetCount};
 ghost use Rattle.state_groups.specs.PlacedValues.{state_at, codes_of_set, codes_of_sets, IsPlaced, IsClosable};
 ghost use Rattle.state_judge.specs.{CheckFaults.NamesFault, LineStops.StopsAt, declared.fault.LineStop.LineStop};
 
@@ -141,7 +141,7 @@ pub fn judge_branch<C: CountySet>(
     ensures steps { IfOk
         result
         (λ b. (m : ℕ)
-        → AreSoMany (graph_order graph.now) (IsSetAt (graph_problem graph.now) (graph_order graph.now) (state_at (graph_order graph.now) C.test state.now) county (limit_of (round_of round.now) limit)) m
+        → IsSetCount (graph_order graph.now) (IsSetAt (graph_problem graph.now) (graph_order graph.now) (state_at (graph_order graph.now) C.test state.now) county (limit_of (round_of round.now) limit)) m
         → steps.new.used ≤ steps.old.used + 2 * m) }
     ensures limit { steps.new.limit ≡ steps.old.limit }
     ensures more { steps.old.used ≤ steps.new.used }
@@ -149,7 +149,7 @@ pub fn judge_branch<C: CountySet>(
         → NamesLimit round.now.format limit
         × CanBranch (round_of round.now) (state_at (graph_order graph.now) C.test state.now) county (limit_of (round_of round.now) limit)
         × ((m : ℕ)
-        → AreSoMany (graph_order graph.now) (IsSetAt (graph_problem graph.now) (graph_order graph.now) (state_at (graph_order graph.now) C.test state.now) county (limit_of (round_of round.now) limit)) m
+        → IsSetCount (graph_order graph.now) (IsSetAt (graph_problem graph.now) (graph_order graph.now) (state_at (graph_order graph.now) C.test state.now) county (limit_of (round_of round.now) limit)) m
         → steps.old.limit ≤ steps.old.used + 2 * m) }
 {
     let Some(limit) = limit_for(round, limit) else {

@@ -15,8 +15,8 @@ pub enum CheckFault {
     /// The text isn't a certificate. This is its first fault, and it comes before any other fault.
     #[error("{0}")]
     Text(TextFault),
-    /// The allowance that the text names isn't the problem's. If the text names none, its allowance is one twentieth.
-    #[error("the certificate is for another allowance")]
+    /// The tolerance that the text names isn't the problem's. If the text names none, its tolerance is one twentieth.
+    #[error("the certificate is for another tolerance")]
     WrongWindow,
     /// The order doesn't have each county of the problem once, or it has another code.
     #[error("the order has not each county of the problem once")]

@@ -10,7 +10,7 @@ ghost use Rattle.certificate_laws.specs.{Regions.listed, State.open_to, Fitting.
 ghost use Rattle.certificate_laws.specs.BoundLines.{IsFair};
 ghost use Rattle.certificate_data.specs.{RoundValue.round_of, Tree.weigh};
 ghost use Rattle.certificate_lines.specs.Lines.{ascend};
-ghost use Rattle.checker_laws.specs.Cost.{AreSoMany};
+ghost use Rattle.checker_laws.specs.Cost.{IsSetCount};
 ghost use Rattle.state_groups.specs.{PlacedValues.{state_at, IsPlaced}, StateValue.state_of};
 ghost use Rattle.state_judge.specs.{Candidates.{AreListed, AreCandidateSets}, LineStops.StopsAt};
 ghost use Rattle.state_judge.specs.{declared.fault.LineStop.LineStop, Weights.{weights_of, county_weight, IsUnfair}};
@@ -173,7 +173,7 @@ pub(crate) fn judge_weights<C: CountySet>(
         (IsUnfair round.now.format (graph_problem graph.now) (state_at (graph_order graph.now) C.test state.now) size (weigh quota (weights_of weights.now)))
         ((1 ≤ quota) × (ascend weights.now ≡ true) → ⊥)) }
     ensures steps { (m : ℕ)
-        → AreSoMany (graph_order graph.now) (IsSetWithin (graph_problem graph.now) (graph_order graph.now) (state_at (graph_order graph.now) C.test state.now) size) m
+        → IsSetCount (graph_order graph.now) (IsSetWithin (graph_problem graph.now) (graph_order graph.now) (state_at (graph_order graph.now) C.test state.now) size) m
         → steps.new.used ≤ steps.old.used + m }
     ensures limit { steps.new.limit ≡ steps.old.limit }
     ensures more { steps.old.used ≤ steps.new.used }

@@ -106,7 +106,7 @@ fn round_copy(alloc: Global, target: Option<Grouping>) -> Result<Round> {
         limit: 3,
         target,
         format: Format::Wide,
-        window: None,
+        tolerance: None,
     };
     Ok(round.copy()?)
 }

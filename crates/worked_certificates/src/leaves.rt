@@ -161,7 +161,7 @@ pub(crate) fn leaf_said(
         limit,
         target,
         format: Format::Wide,
-        window: problem.named_window(),
+        tolerance: problem.named_tolerance(),
     };
     first_leaf(alloc, problem, &ordered, &round)
 }

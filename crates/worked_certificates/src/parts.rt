@@ -117,7 +117,7 @@ pub(crate) fn part_said(
         limit: LIMIT,
         target: None,
         format: Format::Wide,
-        window: problem.named_window(),
+        tolerance: problem.named_tolerance(),
     };
     judged(alloc, &ordered, &round, &part, budget.parse::<u64>()?)
 }

@@ -7,7 +7,7 @@ use anyhow::{Context, Error, Result};
 use certificate_data::{Allowance, Branch, Certificate, Format, Leaf, Take, Tree, Weight, Weights};
 use certificate_lines::WriteFault;
 use certificate_text::{read, write, write_tree};
-use county_codes::{Codes, CountyCode, Group, Window};
+use county_codes::{Codes, CountyCode, Group, Tolerance};
 use std::alloc::Global;
 use std::fmt::Display;
 
@@ -111,11 +111,11 @@ fn limited(alloc: Global, limit: u16) -> Result<String> {
     said(alloc, &name, write(alloc, &certificate))
 }
 
-/// Returns what is said of a certificate that names the allowance `window`.
-fn allowing(alloc: Global, window: Window) -> Result<String> {
+/// Returns what is said of a certificate that names the tolerance `tolerance`.
+fn allowing(alloc: Global, tolerance: Tolerance) -> Result<String> {
     let mut certificate = read(alloc, TEXT)?;
-    certificate.round.window = Some(window);
-    let name = format!(in alloc; "allowance {}/{}", window.part, window.whole)?;
+    certificate.round.tolerance = Some(tolerance);
+    let name = format!(in alloc; "tolerance {}/{}", tolerance.numerator, tolerance.denominator)?;
     said(alloc, &name, write(alloc, &certificate))
 }
 
@@ -140,9 +140,9 @@ fn grouped(alloc: Global, count: u32) -> Result<String> {
     said(alloc, &name, write(alloc, &certificate))
 }
 
-/// Appends what is said of certificates that name an allowance: at the ends of its range, and past them.
+/// Appends what is said of certificates that name a tolerance: at the ends of its range, and past them.
 fn allowances(alloc: Global, lines: &mut Vec<String>) -> Result<()> {
-    for (part, whole) in [
+    for (numerator, denominator) in [
         (1, 20),
         (500, 1_000),
         (0, 1),
@@ -151,12 +151,12 @@ fn allowances(alloc: Global, lines: &mut Vec<String>) -> Result<()> {
         (1, 1_001),
         (501, 1_000),
     ] {
-        lines.push(allowing(alloc, Window { part, whole })?)?;
+        lines.push(allowing(alloc, Tolerance { numerator, denominator })?)?;
     }
     Ok(())
 }
 
-/// Appends what is said of certificates at a limit and one past it, and of those that name an allowance.
+/// Appends what is said of certificates at a limit and one past it, and of those that name a tolerance.
 fn certificates(alloc: Global, lines: &mut Vec<String>) -> Result<()> {
     allowances(alloc, lines)?;
     for limit in [256, 257] {

@@ -58,7 +58,7 @@ class AfterRuns(InDesk):
         self.wait_words("#whatif-result", "Two of the 40 groups are new.")
 
     def sets(self, **how: Any) -> None:
-        """Takes two sets out of the Senate, with another allowance."""
+        """Takes two sets out of the Senate, with another tolerance."""
         self.open("#whatif/senate/out=37119:5,37183:6&percent=4", **how)
         self.wait_words("#whatif-progress", "Solved in")
 

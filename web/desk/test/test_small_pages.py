@@ -96,7 +96,7 @@ class Small(InDesk, PageRoom):
         self.assertEqual(self.text("#option"), "Option 1 of 2")
         self.check_quiet()
 
-    def test_another_allowance(self) -> None:
+    def test_another_tolerance(self) -> None:
         listed = SIX.replace("chamber 6\n", "chamber 6\nwindow 1 8\n")
         self.show(small_table(GROUPS), listed, record_of(6, "--part", "2", "--of=16"))
         self.assertIn("within 12.5 percent of the ideal", self.text("#deck"))

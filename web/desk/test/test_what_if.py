@@ -94,7 +94,7 @@ class WhatIf(InDesk):
         self.assertEqual(self.text("#taken-sets"), "")
         self.check_quiet()
 
-    def test_another_allowance(self) -> None:
+    def test_another_tolerance(self) -> None:
         certificate = self.room / "certificate"
         words = [*PROBLEM, "--chamber", "120", "--part", "40", "--of", "1000"]
         solved = run("solve", *words, "--certificate", str(certificate))

@@ -26,7 +26,7 @@ pub(crate) fn size<H: FileStore>(
     ensures kept { H.stored file_store.new ≡ H.stored file_store.old }
 {
     let counties = load_counties(alloc, words, file_store, notes)?;
-    let problem = build(alloc, &counties, &[], &[], words.chamber, words.window)?;
+    let problem = build(alloc, &counties, &[], &[], words.chamber, words.tolerance)?;
     let text = size_table(alloc, &problem)?;
     Ok(RunAnswer {
         text,

@@ -15,7 +15,7 @@ use cli_answers::{Refusal, refuse_problem};
 use cli_file_stores::FileStore;
 use cli_reports::Tabled;
 use cli_words::ProblemWords;
-use county_codes::{County, CountyCode, Window, Withdrawn};
+use county_codes::{County, CountyCode, Tolerance, Withdrawn};
 use county_problem::Problem;
 use std::alloc::Global;
 
@@ -26,12 +26,12 @@ pub(crate) fn build(
     pairs: &[(CountyCode, CountyCode)],
     withdrawn: &[Withdrawn],
     chamber: u16,
-    window: Window,
+    tolerance: Tolerance,
 ) -> Result<Problem, Refusal>
     ensures { (history : History)
-        → Comes (λ p. p) result (build_step chamber window counties.now pairs.now withdrawn.now history history) }
+        → Comes (λ p. p) result (build_step chamber tolerance counties.now pairs.now withdrawn.now history history) }
 {
-    match Problem::build_with(alloc, counties, pairs, withdrawn, chamber, window) {
+    match Problem::build_with(alloc, counties, pairs, withdrawn, chamber, tolerance) {
         Ok(problem) => Ok(problem),
         Err(fault) => Err(refuse_problem(alloc, fault)),
     }
@@ -58,7 +58,7 @@ fn load_problem_over<H: FileStore>(
         &pairs,
         &withdrawn,
         words.common.chamber,
-        words.common.window,
+        words.common.tolerance,
     )
 }
 

@@ -20,11 +20,11 @@ fn people_among(counties: &[County], codes: &[CountyCode]) -> u64 {
 /// Returns the least and the greatest number of people that suit `seats`, where all counties have `total` people.
 /// Returns `None` if a number is out of range.
 fn suiting(seats: u16, total: u64, words: CommonWords<'_>) -> Option<(u64, u64)> {
-    let (part, whole) = (u64::from(words.window.part), u64::from(words.window.whole));
+    let (numerator, denominator) = (u64::from(words.tolerance.numerator), u64::from(words.tolerance.denominator));
     let ideal = u64::from(seats).checked_mul(total)?;
-    let below = whole.checked_sub(part)?.checked_mul(ideal)?;
-    let above = whole.checked_add(part)?.checked_mul(ideal)?;
-    let divisor = whole.checked_mul(u64::from(words.chamber))?;
+    let below = denominator.checked_sub(numerator)?.checked_mul(ideal)?;
+    let above = denominator.checked_add(numerator)?.checked_mul(ideal)?;
+    let divisor = denominator.checked_mul(u64::from(words.chamber))?;
     let least = below.checked_add(divisor.checked_sub(1)?)?;
     Some((least.checked_div(divisor)?, above.checked_div(divisor)?))
 }
@@ -130,7 +130,7 @@ fn first_of(
 }
 
 /// Notes what is odd about the withdrawn `sets`. `pairs` are the adjacent pairs, and `words` give the chamber and the
-/// allowance.
+/// tolerance.
 pub(crate) fn note_withdrawn(
     alloc: Global,
     counties: &[County],

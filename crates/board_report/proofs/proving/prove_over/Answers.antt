@@ -5,7 +5,7 @@ use Rattle.share_board.specs.Events.{event_of}
 use Rattle.board_report.specs.PieceAnswers.{piece_budget}
 use Rattle.board_report.specs.Rounds.{round_by_code}
 use Rattle.board_report.proofs.FirstRounds.{as_many}
-use Rattle.board_report.proofs.Courses.{answered_so, format_so, text_so}
+use Rattle.board_report.proofs.BoardRuns.{answered_so, format_so, text_so}
 use Rattle.board_report.proofs.proving.prove_over.Goals as goal
 
 pub take_all-requires-clause-lists : goal.take_all-requires-clause-lists

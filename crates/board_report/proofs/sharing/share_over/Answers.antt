@@ -3,7 +3,7 @@ use Rattle.county_problem.specs.OrderedValue.{problem_at}
 use Rattle.county_problem.specs.ProblemValue.{problem_of}
 use Rattle.share_board.specs.Events.{event_of}
 use Rattle.board_report.specs.Rounds.{round_by_code}
-use Rattle.board_report.proofs.Courses.{shared_so}
+use Rattle.board_report.proofs.BoardRuns.{shared_so}
 use Rattle.board_report.proofs.sharing.share_over.Goals as goal
 
 pub take_and_tell-requires-clause-lists : goal.take_and_tell-requires-clause-lists

@@ -41,7 +41,7 @@ returns-clause-fits g c =
     all_from_has (IsGroupAt p round s c.args.county b.limit) sets (λ k has. subst (λ z. IsGroupAt p round s c.args.county z k) (sym same) ((q.2.each k).0 (contains_from_has sets k has))))) c.judged_at.ensures
 
 pub returns-clause-judged : goal.returns-clause-judged
-returns-clause-judged g c course =
+returns-clause-judged g c reading =
     branch_judged _ (λ b. codes_of_sets c.args.input.now.graph.now.ordered.now.order g.C.CountySet.test b.groups.items) (problem_of c.args.input.now.graph.now.ordered.now.problem) (round_of c.args.input.now.round.now)
-    (state_at c.args.input.now.graph.now.ordered.now.order g.C.CountySet.test c.args.state.now) c.args.county c.args.limit c.args.input.now.graph.now.ordered.now.order (feed_at course c.args.feed.now) _ _ c.knowing_branch-judged.result c.judged_at.result
+    (state_at c.args.input.now.graph.now.ordered.now.order g.C.CountySet.test c.args.state.now) c.args.county c.args.limit c.args.input.now.graph.now.ordered.now.order (feed_at reading c.args.feed.now) _ _ c.knowing_branch-judged.result c.judged_at.result
     c.requires.input.order c.knowing_branch-judged.ensures.branch c.knowing_branch-judged.ensures.steps c.knowing_branch-judged.ensures.stopped c.judged_at.ensures

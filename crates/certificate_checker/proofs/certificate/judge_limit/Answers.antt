@@ -10,5 +10,5 @@ returns-then-has_larger c = (
   refl,
   limit_fault c.args.round.now.limit c.args.round.now.target c.in-Some.target c.in-Some.is
       (ap (list_any (λ s. nat_lt c.args.round.now.limit (length s.codes))) (sym c.deref.ensures.value) ∙ sym c.has_larger.ensures ∙ c.if-has_larger.true),
-  ap (λ n. n + 2) c.window_line.ensures,
+  ap (λ n. n + 2) c.tolerance_line.ensures,
 )

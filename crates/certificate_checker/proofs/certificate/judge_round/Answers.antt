@@ -3,13 +3,13 @@ use Rattle.grouping_laws.specs.GroupsFrom.{IsOrder}
 use Rattle.county_problem.specs.ProblemValue.{problem_of}
 use Rattle.certificate_data.specs.RoundValue.{round_of, target_of}
 use Rattle.certificate_laws.specs.State.{empty_state}
-use Rattle.checker_laws.specs.Lines.{window_line}
-use Rattle.checker_laws.specs.Verdict.{IsWindowFault, IsOrderFault, IsLimitFault, IsTargetFault}
+use Rattle.checker_laws.specs.Lines.{tolerance_line}
+use Rattle.checker_laws.specs.Verdict.{IsToleranceFault, IsOrderFault, IsLimitFault, IsTargetFault}
 use Rattle.checker_laws.specs.Work.{a_tree}
 use Rattle.certificate_checker.specs.Feeding.{stream_of, fed_by}
 use Rattle.certificate_checker.specs.Judging.{IsJudged}
 use Rattle.certificate_checker.proofs.Targets.{order_fits}
-use Rattle.certificate_checker.proofs.Whole.{window_ends, order_ends, limit_ends, target_ends, round_stops, round_judged}
+use Rattle.certificate_checker.proofs.Whole.{tolerance_ends, order_ends, limit_ends, target_ends, round_stops, round_judged}
 use Rattle.certificate_checker.proofs.certificate.judge_round.Goals as goal
 
 pub judge_first-requires-clause-fits : goal.judge_first-requires-clause-fits
@@ -26,20 +26,20 @@ returns-in-Ok-judge_target-clause-judged g c all sees tree rest line readable it
 
 pub returns-in-Ok-judge_limit-clause-judged : goal.returns-in-Ok-judge_limit-clause-judged
 returns-in-Ok-judge_limit-clause-judged g c all sees tree rest line readable items =
-    round_stops (problem_of c.args.problem.now) (round_of c.args.round.now) tree (IsTargetFault (problem_of c.args.problem.now) (target_of c.args.round.now.target)) (window_line c.args.round.now.window + 3) rest (fed_by (stream_of g.S.ItemSource.left g.S.ItemSource.given c.args.feed.now c.args.from.now) all) (fed_by (stream_of g.S.ItemSource.left g.S.ItemSource.given c.args.feed.now c.args.from.now) all) c.in-Err-judge_target.stop c.in-Err-judge_target.ensures
+    round_stops (problem_of c.args.problem.now) (round_of c.args.round.now) tree (IsTargetFault (problem_of c.args.problem.now) (target_of c.args.round.now.target)) (tolerance_line c.args.round.now.tolerance + 3) rest (fed_by (stream_of g.S.ItemSource.left g.S.ItemSource.given c.args.feed.now c.args.from.now) all) (fed_by (stream_of g.S.ItemSource.left g.S.ItemSource.given c.args.feed.now c.args.from.now) all) c.in-Err-judge_target.stop c.in-Err-judge_target.ensures
     (target_ends (problem_of c.args.problem.now) (round_of c.args.round.now) tree c.in-Ok.ensures c.in-Ok-judge_order.ensures.order c.in-Ok-judge_limit.ensures)
 
 pub returns-in-Ok-judge_order-clause-judged : goal.returns-in-Ok-judge_order-clause-judged
 returns-in-Ok-judge_order-clause-judged g c all sees tree rest line readable items =
-    round_stops (problem_of c.args.problem.now) (round_of c.args.round.now) tree (IsLimitFault c.args.round.now.limit (target_of c.args.round.now.target)) (window_line c.args.round.now.window + 2) rest (fed_by (stream_of g.S.ItemSource.left g.S.ItemSource.given c.args.feed.now c.args.from.now) all) (fed_by (stream_of g.S.ItemSource.left g.S.ItemSource.given c.args.feed.now c.args.from.now) all) c.in-Err-judge_limit.stop c.in-Err-judge_limit.ensures
+    round_stops (problem_of c.args.problem.now) (round_of c.args.round.now) tree (IsLimitFault c.args.round.now.limit (target_of c.args.round.now.target)) (tolerance_line c.args.round.now.tolerance + 2) rest (fed_by (stream_of g.S.ItemSource.left g.S.ItemSource.given c.args.feed.now c.args.from.now) all) (fed_by (stream_of g.S.ItemSource.left g.S.ItemSource.given c.args.feed.now c.args.from.now) all) c.in-Err-judge_limit.stop c.in-Err-judge_limit.ensures
     (limit_ends (problem_of c.args.problem.now) (round_of c.args.round.now) tree c.in-Ok.ensures c.in-Ok-judge_order.ensures.order)
 
 pub returns-in-Ok-clause-judged : goal.returns-in-Ok-clause-judged
 returns-in-Ok-clause-judged g c all sees tree rest line readable items =
-    round_stops (problem_of c.args.problem.now) (round_of c.args.round.now) tree (IsOrderFault (problem_of c.args.problem.now) (round_of c.args.round.now)) (window_line c.args.round.now.window + 1) rest (fed_by (stream_of g.S.ItemSource.left g.S.ItemSource.given c.args.feed.now c.args.from.now) all) (fed_by (stream_of g.S.ItemSource.left g.S.ItemSource.given c.args.feed.now c.args.from.now) all) c.in-Err-judge_order.stop c.in-Err-judge_order.ensures.order
+    round_stops (problem_of c.args.problem.now) (round_of c.args.round.now) tree (IsOrderFault (problem_of c.args.problem.now) (round_of c.args.round.now)) (tolerance_line c.args.round.now.tolerance + 1) rest (fed_by (stream_of g.S.ItemSource.left g.S.ItemSource.given c.args.feed.now c.args.from.now) all) (fed_by (stream_of g.S.ItemSource.left g.S.ItemSource.given c.args.feed.now c.args.from.now) all) c.in-Err-judge_order.stop c.in-Err-judge_order.ensures.order
     (order_ends (problem_of c.args.problem.now) (round_of c.args.round.now) tree c.in-Ok.ensures)
 
 pub returns-clause-judged : goal.returns-clause-judged
 returns-clause-judged g c all sees tree rest line readable items =
-    round_stops (problem_of c.args.problem.now) (round_of c.args.round.now) tree (IsWindowFault (problem_of c.args.problem.now) (round_of c.args.round.now)) (window_line c.args.round.now.window) rest (fed_by (stream_of g.S.ItemSource.left g.S.ItemSource.given c.args.feed.now c.args.from.now) all) (fed_by (stream_of g.S.ItemSource.left g.S.ItemSource.given c.args.feed.now c.args.from.now) all) c.in-Err.stop c.in-Err.ensures
-    (window_ends (problem_of c.args.problem.now) (round_of c.args.round.now) tree)
+    round_stops (problem_of c.args.problem.now) (round_of c.args.round.now) tree (IsToleranceFault (problem_of c.args.problem.now) (round_of c.args.round.now)) (tolerance_line c.args.round.now.tolerance) rest (fed_by (stream_of g.S.ItemSource.left g.S.ItemSource.given c.args.feed.now c.args.from.now) all) (fed_by (stream_of g.S.ItemSource.left g.S.ItemSource.given c.args.feed.now c.args.from.now) all) c.in-Err.stop c.in-Err.ensures
+    (tolerance_ends (problem_of c.args.problem.now) (round_of c.args.round.now) tree)

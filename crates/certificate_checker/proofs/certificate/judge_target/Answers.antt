@@ -8,5 +8,5 @@ use Rattle.certificate_checker.proofs.certificate.judge_target.Goals as goal
 
 pub returns-in-Err : goal.returns-in-Err
 returns-in-Err c =
-    subst (λ n. StopsAt (IsTargetFault (problem_of c.args.problem.now) (target_of c.args.round.now.target)) (n + 3) c.target_stop.result) c.window_line.ensures
-    (target_stopped (problem_of c.args.problem.now) c.args.round.now.target c.in-Some.grouping c.in-Some.is c.in-Err.fault c.in-Err.ensures.fault (c.window_line.result + 3) c.target_stop.result c.target_stop.ensures)
+    subst (λ n. StopsAt (IsTargetFault (problem_of c.args.problem.now) (target_of c.args.round.now.target)) (n + 3) c.target_stop.result) c.tolerance_line.ensures
+    (target_stopped (problem_of c.args.problem.now) c.args.round.now.target c.in-Some.grouping c.in-Some.is c.in-Err.fault c.in-Err.ensures.fault (c.tolerance_line.result + 3) c.target_stop.result c.target_stop.ensures)

@@ -1,6 +1,6 @@
 use Rattle.std.proofs.Common.{Some, None, Ok, Err, refl, sym, ◌∙◌, ap, subst}
 use Rattle.county_problem.specs.ProblemValue.{problem_of}
-use Rattle.certificate_lines.specs.ItemsLeft.{course_by}
+use Rattle.certificate_lines.specs.ItemsLeft.{reading_by}
 use Rattle.certificate_checker.specs.Feeding.{FeedValue, stream_of, fed_by, IsFed}
 use Rattle.state_judge.specs.declared.fault.CheckFault.TheVariants.{Text}
 use Rattle.certificate_checker.specs.declared.feed.Halt.TheVariants as stop
@@ -32,13 +32,13 @@ pub returns-in-Err-Text : goal.returns-in-Err-Text
 returns-in-Err-Text g c all sees =
     let j = c.in-Err-Text.ensures.fed all sees in (
       j.0,
-      λ text course.
-          let start : FeedValue = record { course = course_by (g.S.ItemSource.left c.args.source) (g.S.ItemSource.given c.args.from.now) all; line = 0; limit = c.new.result.limit; used = c.new.result.used } in
+      λ text reading.
+          let start : FeedValue = record { reading = reading_by (g.S.ItemSource.left c.args.source) (g.S.ItemSource.given c.args.from.now) all; line = 0; limit = c.new.result.limit; used = c.new.result.used } in
           let met = subst (λ r. IsFed {X = Unit {0}} start (Err r) (fed_by (stream_of g.S.ItemSource.left g.S.ItemSource.given c.judge_certificate.new.feed c.judge_certificate.new.from) all)) c.in-Err-Text.field-0-is j.1 in (
-            text_found (problem_of c.args.problem.now) text c.args.budget c.in-Err-Text.fault (sym (ap (λ z. z.fault) course) ∙ met.0),
-            fault_within (problem_of c.args.problem.now) text c.args.budget start c.in-Err-Text.fault course c.new.ensures.used met c.new.ensures.limit (No (Text c.in-Err-Text.fault) c.in-Err-Text.fault.line),
+            text_found (problem_of c.args.problem.now) text c.args.budget c.in-Err-Text.fault (sym (ap (λ z. z.fault) reading) ∙ met.0),
+            fault_within (problem_of c.args.problem.now) text c.args.budget start c.in-Err-Text.fault reading c.new.ensures.used met c.new.ensures.limit (No (Text c.in-Err-Text.fault) c.in-Err-Text.fault.line),
           ),
     )
 
 pub returns : goal.returns
-returns g c all sees = ((c.in-Err-Refused.ensures.fed all sees).0, λ text course. tt)
+returns g c all sees = ((c.in-Err-Refused.ensures.fed all sees).0, λ text reading. tt)

@@ -1,5 +1,5 @@
 use Rattle.std.proofs.Common.{Ok, Result, Bool, sym, ap, ◌∙◌, subst, arith, ⊎_elim}
-use Rattle.certificate_lines.specs.Courses.{Unread}
+use Rattle.certificate_lines.specs.ItemReadings.{Unread}
 use Rattle.certificate_lines.specs.declared.fault.TextFault.{TextFault}
 use Rattle.certificate_checker.specs.Feeding.{Passes}
 use Rattle.certificate_checker.proofs.Streams.{at_once}

@@ -5,7 +5,7 @@ use Rattle.certificate_checker.proofs.feed.read_rest.Given as goal
 abbrev pub invariant-loop-feed : goal.invariant-loop-feed
 invariant-loop-feed g l = record {
   limit : l.feed.steps.limit ≡ l.fn.feed.steps.limit;
-  read : FeedsThrough (stream_of g.S.ItemSource.left g.S.ItemSource.given l.fn.feed l.fn.from) (stream_of g.S.ItemSource.left g.S.ItemSource.given l.feed l.from) (λ a b. (b.course.fault ≡ a.course.fault) × (b.line + length b.course.items ≡ a.line + length a.course.items));
+  read : FeedsThrough (stream_of g.S.ItemSource.left g.S.ItemSource.given l.fn.feed l.fn.from) (stream_of g.S.ItemSource.left g.S.ItemSource.given l.feed l.from) (λ a b. (b.reading.fault ≡ a.reading.fault) × (b.line + length b.reading.items ≡ a.line + length a.reading.items));
 }
 
 abbrev pub decreases-loop-feed : goal.decreases-loop-feed

@@ -25,7 +25,7 @@ invariant-judging g l = record {
   left : ForEach (stream_of g.S.ItemSource.left g.S.ItemSource.given l.fn.feed l.fn.from) (stream_of g.S.ItemSource.left g.S.ItemSource.given l.feed l.from) (λ a b. (lines : List AllowanceValue) (rest : List ItemValue) (target : Grouping)
       → AllowancesAreSpelled lines
       → length lines ≡ l.count
-      → a.course.items ≡ line_items lines ++ rest
+      → a.reading.items ≡ line_items lines ++ rest
       → target_of l.input.round.now.target ≡ Some target
       → LinesLeft (problem_of l.input.graph.now.ordered.now.problem) (round_of l.input.round.now) (state_at l.input.graph.now.ordered.now.order g.C.CountySet.test l.state) target a b lines rest l.before l.used);
 }

@@ -13,6 +13,6 @@ invariant-reading g l = record {
   number : length l.groups.items ≡ l.done;
   left : ForEach (stream_of g.S.ItemSource.left g.S.ItemSource.given l.fn.feed l.fn.from) (stream_of g.S.ItemSource.left g.S.ItemSource.given l.feed l.from) (λ a b. (groups : List GroupValue) (rest : List ItemValue)
       → length groups ≡ l.count
-      → a.course.items ≡ map item.Grouped groups ++ rest
+      → a.reading.items ≡ map item.Grouped groups ++ rest
       → GroupsLeft groups rest l.groups.items a b);
 }

@@ -13,8 +13,8 @@ use Rattle.certificate_lines.specs.declared.item.Item.TheVariants as item
 use Rattle.certificate_checker.proofs.Trees.{branch_off, branch_stops, branch_on, stuck_left, seats_left, bound_left, tree_unread, leaf_fed}
 use Rattle.certificate_checker.specs.Feeding.{stream_of, fed_by, Fed, IsFed, TookLine}
 use Rattle.certificate_checker.proofs.Reaching.{fed_here, fed_twice, fed_through, counts_here, counts_on, reaches_here}
-use Rattle.certificate_checker.proofs.Streams.{kept_course}
-use Rattle.certificate_lines.specs.ItemsLeft.{course_by}
+use Rattle.certificate_checker.proofs.Streams.{kept_reading}
+use Rattle.certificate_lines.specs.ItemsLeft.{reading_by}
 use Rattle.certificate_checker.proofs.Takes.{TakesLeft, takes_unread, take_stops, take_stop_fed, take_on, take_off, mark_on, mark_stops, sets_behind, none_left, some_left}
 use Rattle.certificate_laws.specs.Groups.{IsGroupAt}
 use Rattle.search_groups.specs.declared.position.Position.{Position}
@@ -84,13 +84,13 @@ judge_tree-returns-in-Err-judge_takes-clause-judged g t c all sees tree rest mor
     let t = c.in-Err-judge_takes.ensures.fed all sees in
     let n = c.in-Ok.ensures.fed all t.0 in
     let i = c.branching.invariant.fed all n.0 in
-    branch_off (problem_of c.args.input.now.graph.now.ordered.now.problem) (round_of c.args.input.now.round.now) (state_at c.args.input.now.graph.now.ordered.now.order g.C.CountySet.test c.branching.state) c.in-Branch.county c.in-Branch.limit (codes_of_sets c.args.input.now.graph.now.ordered.now.order g.C.CountySet.test c.deref.result.now) rest more (fed_by (stream_of g.S.ItemSource.left g.S.ItemSource.given c.args.feed.now c.args.from.now) all) (fed_by (stream_of g.S.ItemSource.left g.S.ItemSource.given c.branching.feed c.branching.from) all) (fed_by (stream_of g.S.ItemSource.left g.S.ItemSource.given c.next_opening.new.feed c.next_opening.new.from) all) (fed_by (stream_of g.S.ItemSource.left g.S.ItemSource.given c.listed_groups.new.feed c.next_opening.new.from) all) (fed_by (stream_of g.S.ItemSource.left g.S.ItemSource.given c.judge_takes.new.feed c.judge_takes.new.from) all) _ c.in-Err-judge_takes.stop (c.branching.invariant.left all n.0 tree rest more readable items) (fed_twice _ _ _ (fed_twice _ _ _ i.1 n.1) (kept_course g.S.ItemSource.left (g.S.ItemSource.given c.next_opening.new.from) all c.next_opening.new.feed c.listed_groups.new.feed c.in-Ok-listed_groups.ensures.same Fed c.in-Ok-listed_groups.ensures.fed)) (subst (λ o. TookLine (fed_by (stream_of g.S.ItemSource.left g.S.ItemSource.given c.branching.feed c.branching.from) all) (Ok (item.Opens o)) (fed_by (stream_of g.S.ItemSource.left g.S.ItemSource.given c.next_opening.new.feed c.next_opening.new.from) all)) c.in-Branch.is (c.in-Ok.ensures.took all t.0)) (subst (λ z. AreTakesListed (problem_of c.args.input.now.graph.now.ordered.now.problem) (round_of c.args.input.now.round.now) (state_at c.args.input.now.graph.now.ordered.now.order g.C.CountySet.test c.branching.state) c.in-Branch.county c.in-Branch.limit (codes_of_sets c.args.input.now.graph.now.ordered.now.order g.C.CountySet.test z) (fed_by (stream_of g.S.ItemSource.left g.S.ItemSource.given c.next_opening.new.feed c.next_opening.new.from) all) (fed_by (stream_of g.S.ItemSource.left g.S.ItemSource.given c.listed_groups.new.feed c.next_opening.new.from) all)) (sym c.deref.ensures.value) (kept_course g.S.ItemSource.left (g.S.ItemSource.given c.next_opening.new.from) all c.next_opening.new.feed c.listed_groups.new.feed c.in-Ok-listed_groups.ensures.same (AreTakesListed (problem_of c.args.input.now.graph.now.ordered.now.problem) (round_of c.args.input.now.round.now) (state_at c.args.input.now.graph.now.ordered.now.order g.C.CountySet.test c.branching.state) c.in-Branch.county c.in-Branch.limit (codes_of_sets c.args.input.now.graph.now.ordered.now.order g.C.CountySet.test c.in-Ok-listed_groups.branching.groups.items)) c.in-Ok-listed_groups.ensures.judged)) (ap (λ s. course_by (g.S.ItemSource.left s) (g.S.ItemSource.given c.next_opening.new.from) all) c.in-Ok-listed_groups.ensures.same) (c.in-Err-judge_takes.ensures.judged all sees)
+    branch_off (problem_of c.args.input.now.graph.now.ordered.now.problem) (round_of c.args.input.now.round.now) (state_at c.args.input.now.graph.now.ordered.now.order g.C.CountySet.test c.branching.state) c.in-Branch.county c.in-Branch.limit (codes_of_sets c.args.input.now.graph.now.ordered.now.order g.C.CountySet.test c.deref.result.now) rest more (fed_by (stream_of g.S.ItemSource.left g.S.ItemSource.given c.args.feed.now c.args.from.now) all) (fed_by (stream_of g.S.ItemSource.left g.S.ItemSource.given c.branching.feed c.branching.from) all) (fed_by (stream_of g.S.ItemSource.left g.S.ItemSource.given c.next_opening.new.feed c.next_opening.new.from) all) (fed_by (stream_of g.S.ItemSource.left g.S.ItemSource.given c.listed_groups.new.feed c.next_opening.new.from) all) (fed_by (stream_of g.S.ItemSource.left g.S.ItemSource.given c.judge_takes.new.feed c.judge_takes.new.from) all) _ c.in-Err-judge_takes.stop (c.branching.invariant.left all n.0 tree rest more readable items) (fed_twice _ _ _ (fed_twice _ _ _ i.1 n.1) (kept_reading g.S.ItemSource.left (g.S.ItemSource.given c.next_opening.new.from) all c.next_opening.new.feed c.listed_groups.new.feed c.in-Ok-listed_groups.ensures.same Fed c.in-Ok-listed_groups.ensures.fed)) (subst (λ o. TookLine (fed_by (stream_of g.S.ItemSource.left g.S.ItemSource.given c.branching.feed c.branching.from) all) (Ok (item.Opens o)) (fed_by (stream_of g.S.ItemSource.left g.S.ItemSource.given c.next_opening.new.feed c.next_opening.new.from) all)) c.in-Branch.is (c.in-Ok.ensures.took all t.0)) (subst (λ z. AreTakesListed (problem_of c.args.input.now.graph.now.ordered.now.problem) (round_of c.args.input.now.round.now) (state_at c.args.input.now.graph.now.ordered.now.order g.C.CountySet.test c.branching.state) c.in-Branch.county c.in-Branch.limit (codes_of_sets c.args.input.now.graph.now.ordered.now.order g.C.CountySet.test z) (fed_by (stream_of g.S.ItemSource.left g.S.ItemSource.given c.next_opening.new.feed c.next_opening.new.from) all) (fed_by (stream_of g.S.ItemSource.left g.S.ItemSource.given c.listed_groups.new.feed c.next_opening.new.from) all)) (sym c.deref.ensures.value) (kept_reading g.S.ItemSource.left (g.S.ItemSource.given c.next_opening.new.from) all c.next_opening.new.feed c.listed_groups.new.feed c.in-Ok-listed_groups.ensures.same (AreTakesListed (problem_of c.args.input.now.graph.now.ordered.now.problem) (round_of c.args.input.now.round.now) (state_at c.args.input.now.graph.now.ordered.now.order g.C.CountySet.test c.branching.state) c.in-Branch.county c.in-Branch.limit (codes_of_sets c.args.input.now.graph.now.ordered.now.order g.C.CountySet.test c.in-Ok-listed_groups.branching.groups.items)) c.in-Ok-listed_groups.ensures.judged)) (ap (λ s. reading_by (g.S.ItemSource.left s) (g.S.ItemSource.given c.next_opening.new.from) all) c.in-Ok-listed_groups.ensures.same) (c.in-Err-judge_takes.ensures.judged all sees)
 
 pub judge_tree-returns-in-Err-listed_groups-clause-judged : goal.judge_tree-returns-in-Err-listed_groups-clause-judged
 judge_tree-returns-in-Err-listed_groups-clause-judged g t c all sees tree rest more readable items =
     let n = c.in-Ok.ensures.fed all sees in
     let i = c.branching.invariant.fed all n.0 in
-    branch_stops (problem_of c.args.input.now.graph.now.ordered.now.problem) (round_of c.args.input.now.round.now) (state_at c.args.input.now.graph.now.ordered.now.order g.C.CountySet.test c.branching.state) c.in-Branch.county c.in-Branch.limit rest more (fed_by (stream_of g.S.ItemSource.left g.S.ItemSource.given c.args.feed.now c.args.from.now) all) (fed_by (stream_of g.S.ItemSource.left g.S.ItemSource.given c.branching.feed c.branching.from) all) (fed_by (stream_of g.S.ItemSource.left g.S.ItemSource.given c.next_opening.new.feed c.next_opening.new.from) all) _ c.in-Err-listed_groups.stop (c.branching.invariant.left all n.0 tree rest more readable items) i.1 (subst (λ o. TookLine (fed_by (stream_of g.S.ItemSource.left g.S.ItemSource.given c.branching.feed c.branching.from) all) (Ok (item.Opens o)) (fed_by (stream_of g.S.ItemSource.left g.S.ItemSource.given c.next_opening.new.feed c.next_opening.new.from) all)) c.in-Branch.is (c.in-Ok.ensures.took all sees)) n.1.limit (c.in-Err-listed_groups.ensures.judged (course_by (g.S.ItemSource.left c.next_opening.new.feed.source) (g.S.ItemSource.given c.next_opening.new.from) all))
+    branch_stops (problem_of c.args.input.now.graph.now.ordered.now.problem) (round_of c.args.input.now.round.now) (state_at c.args.input.now.graph.now.ordered.now.order g.C.CountySet.test c.branching.state) c.in-Branch.county c.in-Branch.limit rest more (fed_by (stream_of g.S.ItemSource.left g.S.ItemSource.given c.args.feed.now c.args.from.now) all) (fed_by (stream_of g.S.ItemSource.left g.S.ItemSource.given c.branching.feed c.branching.from) all) (fed_by (stream_of g.S.ItemSource.left g.S.ItemSource.given c.next_opening.new.feed c.next_opening.new.from) all) _ c.in-Err-listed_groups.stop (c.branching.invariant.left all n.0 tree rest more readable items) i.1 (subst (λ o. TookLine (fed_by (stream_of g.S.ItemSource.left g.S.ItemSource.given c.branching.feed c.branching.from) all) (Ok (item.Opens o)) (fed_by (stream_of g.S.ItemSource.left g.S.ItemSource.given c.next_opening.new.feed c.next_opening.new.from) all)) c.in-Branch.is (c.in-Ok.ensures.took all sees)) n.1.limit (c.in-Err-listed_groups.ensures.judged (reading_by (g.S.ItemSource.left c.next_opening.new.feed.source) (g.S.ItemSource.given c.next_opening.new.from) all))
 
 pub judge_tree-branching-preserved : goal.judge_tree-branching-preserved
 judge_tree-branching-preserved g t c = record {
@@ -99,7 +99,7 @@ judge_tree-branching-preserved g t c = record {
       let t = c.in-Ok-judge_takes.ensures.fed all sees in
       let n = c.in-Ok.ensures.fed all t.0 in
       let i = c.branching.invariant.fed all n.0 in
-      (i.0, fed_twice _ _ _ (fed_twice _ _ _ (fed_twice _ _ _ i.1 n.1) (kept_course g.S.ItemSource.left (g.S.ItemSource.given c.next_opening.new.from) all c.next_opening.new.feed c.listed_groups.new.feed c.in-Ok-listed_groups.ensures.same Fed c.in-Ok-listed_groups.ensures.fed)) t.1);
+      (i.0, fed_twice _ _ _ (fed_twice _ _ _ (fed_twice _ _ _ i.1 n.1) (kept_reading g.S.ItemSource.left (g.S.ItemSource.given c.next_opening.new.from) all c.next_opening.new.feed c.listed_groups.new.feed c.in-Ok-listed_groups.ensures.same Fed c.in-Ok-listed_groups.ensures.fed)) t.1);
   placed = c.raise_place.ensures.placed;
   known = subst (λ z. IsKnownAt g.C.CountySet.test c.args.input.now z c.in-Ok-raised_known.raised) (sym c.raise_place.ensures.value) c.in-Ok-raised_known.ensures;
   lists = c.in-Ok-judge_takes.ensures.lists;
@@ -107,7 +107,7 @@ judge_tree-branching-preserved g t c = record {
       let t = c.in-Ok-judge_takes.ensures.fed all sees in
       let n = c.in-Ok.ensures.fed all t.0 in
       let i = c.branching.invariant.fed all n.0 in
-      branch_on (problem_of c.args.input.now.graph.now.ordered.now.problem) (round_of c.args.input.now.round.now) (state_at c.args.input.now.graph.now.ordered.now.order g.C.CountySet.test c.branching.state) (state_at c.args.input.now.graph.now.ordered.now.order g.C.CountySet.test c.raise_place.new.state) c.in-Branch.county c.in-Branch.limit (codes_of_sets c.args.input.now.graph.now.ordered.now.order g.C.CountySet.test c.deref.result.now) rest more (fed_by (stream_of g.S.ItemSource.left g.S.ItemSource.given c.args.feed.now c.args.from.now) all) (fed_by (stream_of g.S.ItemSource.left g.S.ItemSource.given c.branching.feed c.branching.from) all) (fed_by (stream_of g.S.ItemSource.left g.S.ItemSource.given c.next_opening.new.feed c.next_opening.new.from) all) (fed_by (stream_of g.S.ItemSource.left g.S.ItemSource.given c.listed_groups.new.feed c.next_opening.new.from) all) (fed_by (stream_of g.S.ItemSource.left g.S.ItemSource.given c.judge_takes.new.feed c.judge_takes.new.from) all) _ c.in-Ok-judge_takes.field-0 (c.branching.invariant.left all n.0 tree rest more readable items) (subst (λ o. TookLine (fed_by (stream_of g.S.ItemSource.left g.S.ItemSource.given c.branching.feed c.branching.from) all) (Ok (item.Opens o)) (fed_by (stream_of g.S.ItemSource.left g.S.ItemSource.given c.next_opening.new.feed c.next_opening.new.from) all)) c.in-Branch.is (c.in-Ok.ensures.took all t.0)) (subst (λ z. AreTakesListed (problem_of c.args.input.now.graph.now.ordered.now.problem) (round_of c.args.input.now.round.now) (state_at c.args.input.now.graph.now.ordered.now.order g.C.CountySet.test c.branching.state) c.in-Branch.county c.in-Branch.limit (codes_of_sets c.args.input.now.graph.now.ordered.now.order g.C.CountySet.test z) (fed_by (stream_of g.S.ItemSource.left g.S.ItemSource.given c.next_opening.new.feed c.next_opening.new.from) all) (fed_by (stream_of g.S.ItemSource.left g.S.ItemSource.given c.listed_groups.new.feed c.next_opening.new.from) all)) (sym c.deref.ensures.value) (kept_course g.S.ItemSource.left (g.S.ItemSource.given c.next_opening.new.from) all c.next_opening.new.feed c.listed_groups.new.feed c.in-Ok-listed_groups.ensures.same (AreTakesListed (problem_of c.args.input.now.graph.now.ordered.now.problem) (round_of c.args.input.now.round.now) (state_at c.args.input.now.graph.now.ordered.now.order g.C.CountySet.test c.branching.state) c.in-Branch.county c.in-Branch.limit (codes_of_sets c.args.input.now.graph.now.ordered.now.order g.C.CountySet.test c.in-Ok-listed_groups.branching.groups.items)) c.in-Ok-listed_groups.ensures.judged)) (ap (λ s. course_by (g.S.ItemSource.left s) (g.S.ItemSource.given c.next_opening.new.from) all) c.in-Ok-listed_groups.ensures.same)
+      branch_on (problem_of c.args.input.now.graph.now.ordered.now.problem) (round_of c.args.input.now.round.now) (state_at c.args.input.now.graph.now.ordered.now.order g.C.CountySet.test c.branching.state) (state_at c.args.input.now.graph.now.ordered.now.order g.C.CountySet.test c.raise_place.new.state) c.in-Branch.county c.in-Branch.limit (codes_of_sets c.args.input.now.graph.now.ordered.now.order g.C.CountySet.test c.deref.result.now) rest more (fed_by (stream_of g.S.ItemSource.left g.S.ItemSource.given c.args.feed.now c.args.from.now) all) (fed_by (stream_of g.S.ItemSource.left g.S.ItemSource.given c.branching.feed c.branching.from) all) (fed_by (stream_of g.S.ItemSource.left g.S.ItemSource.given c.next_opening.new.feed c.next_opening.new.from) all) (fed_by (stream_of g.S.ItemSource.left g.S.ItemSource.given c.listed_groups.new.feed c.next_opening.new.from) all) (fed_by (stream_of g.S.ItemSource.left g.S.ItemSource.given c.judge_takes.new.feed c.judge_takes.new.from) all) _ c.in-Ok-judge_takes.field-0 (c.branching.invariant.left all n.0 tree rest more readable items) (subst (λ o. TookLine (fed_by (stream_of g.S.ItemSource.left g.S.ItemSource.given c.branching.feed c.branching.from) all) (Ok (item.Opens o)) (fed_by (stream_of g.S.ItemSource.left g.S.ItemSource.given c.next_opening.new.feed c.next_opening.new.from) all)) c.in-Branch.is (c.in-Ok.ensures.took all t.0)) (subst (λ z. AreTakesListed (problem_of c.args.input.now.graph.now.ordered.now.problem) (round_of c.args.input.now.round.now) (state_at c.args.input.now.graph.now.ordered.now.order g.C.CountySet.test c.branching.state) c.in-Branch.county c.in-Branch.limit (codes_of_sets c.args.input.now.graph.now.ordered.now.order g.C.CountySet.test z) (fed_by (stream_of g.S.ItemSource.left g.S.ItemSource.given c.next_opening.new.feed c.next_opening.new.from) all) (fed_by (stream_of g.S.ItemSource.left g.S.ItemSource.given c.listed_groups.new.feed c.next_opening.new.from) all)) (sym c.deref.ensures.value) (kept_reading g.S.ItemSource.left (g.S.ItemSource.given c.next_opening.new.from) all c.next_opening.new.feed c.listed_groups.new.feed c.in-Ok-listed_groups.ensures.same (AreTakesListed (problem_of c.args.input.now.graph.now.ordered.now.problem) (round_of c.args.input.now.round.now) (state_at c.args.input.now.graph.now.ordered.now.order g.C.CountySet.test c.branching.state) c.in-Branch.county c.in-Branch.limit (codes_of_sets c.args.input.now.graph.now.ordered.now.order g.C.CountySet.test c.in-Ok-listed_groups.branching.groups.items)) c.in-Ok-listed_groups.ensures.judged)) (ap (λ s. reading_by (g.S.ItemSource.left s) (g.S.ItemSource.given c.next_opening.new.from) all) c.in-Ok-listed_groups.ensures.same)
       (c.raise_place.ensures.value ∙ ap (λ z. raise z c.in-Ok-listed_groups.branching.limit (state_at c.args.input.now.graph.now.ordered.now.order g.C.CountySet.test c.branching.state)) c.in-Ok-listed_groups.ensures.place.1 ∙ ap (λ z. raise c.in-Branch.county z (state_at c.args.input.now.graph.now.ordered.now.order g.C.CountySet.test c.branching.state)) c.in-Ok-listed_groups.ensures.size.0) (c.in-Ok-judge_takes.ensures.judged all sees);
 }
 
@@ -251,13 +251,13 @@ judge_tree-returns-in-Err-judge_takes-clause-fed g t c all sees =
     let t = c.in-Err-judge_takes.ensures.fed all sees in
     let n = c.in-Ok.ensures.fed all t.0 in
     let i = c.branching.invariant.fed all n.0 in
-    (i.0, fed_through {X = Unit {0}} _ _ _ (Err c.in-Err-judge_takes.stop) (fed_twice _ _ _ (fed_twice _ _ _ i.1 n.1) (kept_course g.S.ItemSource.left (g.S.ItemSource.given c.next_opening.new.from) all c.next_opening.new.feed c.listed_groups.new.feed c.in-Ok-listed_groups.ensures.same Fed c.in-Ok-listed_groups.ensures.fed)) t.1)
+    (i.0, fed_through {X = Unit {0}} _ _ _ (Err c.in-Err-judge_takes.stop) (fed_twice _ _ _ (fed_twice _ _ _ i.1 n.1) (kept_reading g.S.ItemSource.left (g.S.ItemSource.given c.next_opening.new.from) all c.next_opening.new.feed c.listed_groups.new.feed c.in-Ok-listed_groups.ensures.same Fed c.in-Ok-listed_groups.ensures.fed)) t.1)
 
 pub judge_tree-returns-in-Err-listed_groups-clause-fed : goal.judge_tree-returns-in-Err-listed_groups-clause-fed
 judge_tree-returns-in-Err-listed_groups-clause-fed g t c all sees =
     let n = c.in-Ok.ensures.fed all sees in
     let i = c.branching.invariant.fed all n.0 in
-    (i.0, fed_through {X = Unit {0}} _ _ _ (Err c.in-Err-listed_groups.stop) (fed_twice _ _ _ i.1 n.1) (kept_course g.S.ItemSource.left (g.S.ItemSource.given c.next_opening.new.from) all c.next_opening.new.feed c.listed_groups.new.feed c.in-Err-listed_groups.ensures.same (λ a b. IsFed {X = Unit {0}} a (Err c.in-Err-listed_groups.stop) b) c.in-Err-listed_groups.ensures.fed))
+    (i.0, fed_through {X = Unit {0}} _ _ _ (Err c.in-Err-listed_groups.stop) (fed_twice _ _ _ i.1 n.1) (kept_reading g.S.ItemSource.left (g.S.ItemSource.given c.next_opening.new.from) all c.next_opening.new.feed c.listed_groups.new.feed c.in-Err-listed_groups.ensures.same (λ a b. IsFed {X = Unit {0}} a (Err c.in-Err-listed_groups.stop) b) c.in-Err-listed_groups.ensures.fed))
 
 pub judge_tree-returns-in-Bound-clause-fed : goal.judge_tree-returns-in-Bound-clause-fed
 judge_tree-returns-in-Bound-clause-fed g t c all sees =

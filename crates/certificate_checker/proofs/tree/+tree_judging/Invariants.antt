@@ -30,7 +30,7 @@ invariant-judge_takes-taking g l = record {
   lists : AreListsOf g.C.CountySet.test (problem_at l.input.graph.now.ordered.now) (length l.input.graph.now.ordered.now.order) l.lists;
   left : ForEach (stream_of g.S.ItemSource.left g.S.ItemSource.given l.fn.feed l.fn.from) (stream_of g.S.ItemSource.left g.S.ItemSource.given l.feed l.from) (λ a b. (takes : Takes) (rest : List ItemValue) (more : List Open)
       → AreReadable l.input.round.now.format takes
-      → a.course.items ≡ items_to_mark takes ++ rest
+      → a.reading.items ≡ items_to_mark takes ++ rest
       → TakesLeft l.input.round.now.format (problem_of l.input.graph.now.ordered.now.problem) (round_of l.input.round.now) (state_at l.input.graph.now.ordered.now.order g.C.CountySet.test l.state) (codes_of_sets l.input.graph.now.ordered.now.order g.C.CountySet.test l.left) rest more a b (some_takes takes (state_at l.input.graph.now.ordered.now.order g.C.CountySet.test l.state) (codes_of_sets l.input.graph.now.ordered.now.order g.C.CountySet.test l.fn.groups) ∷ more));
 }
 
@@ -46,7 +46,7 @@ invariant-judge_tree-branching g l = record {
   lists : AreListsOf g.C.CountySet.test (problem_at l.input.graph.now.ordered.now) (length l.input.graph.now.ordered.now.order) l.lists;
   left : ForEach (stream_of g.S.ItemSource.left g.S.ItemSource.given l.fn.feed l.fn.from) (stream_of g.S.ItemSource.left g.S.ItemSource.given l.feed l.from) (λ a b. (tree : Tree) (rest : List ItemValue) (more : List Open)
       → IsReadable l.input.round.now.format tree
-      → a.course.items ≡ items_of_tree tree ++ rest
+      → a.reading.items ≡ items_of_tree tree ++ rest
       → TreeLeft l.input.round.now.format (problem_of l.input.graph.now.ordered.now.problem) (round_of l.input.round.now) (state_at l.input.graph.now.ordered.now.order g.C.CountySet.test l.state) rest more a b (a_tree tree (state_at l.input.graph.now.ordered.now.order g.C.CountySet.test l.fn.state) ∷ more));
 }
 

@@ -1,12 +1,12 @@
 use Rattle.std.proofs.Common.{sym, subst}
-use Rattle.certificate_lines.specs.Courses.{HasItem}
+use Rattle.certificate_lines.specs.ItemReadings.{HasItem}
 use Rattle.certificate_lines.proofs.line_items.item_at.Goals as goal
 
 pub returns-in-Head-clause-read : goal.returns-in-Head-clause-read
 returns-in-Head-clause-read c = subst (λ w. HasItem w c.args.bytes.now c.args.ended c.head_item.result) (sym c.in-Head.is) c.head_item.ensures.read
 
-pub returns-in-Window-clause-read : goal.returns-in-Window-clause-read
-returns-in-Window-clause-read c = subst (λ w. HasItem w c.args.bytes.now c.args.ended c.window_item.result) (sym c.in-Window.is) c.window_item.ensures.read
+pub returns-in-Tolerance-clause-read : goal.returns-in-Tolerance-clause-read
+returns-in-Tolerance-clause-read c = subst (λ w. HasItem w c.args.bytes.now c.args.ended c.tolerance_item.result) (sym c.in-Tolerance.is) c.tolerance_item.ensures.read
 
 pub returns-in-Order-clause-read : goal.returns-in-Order-clause-read
 returns-in-Order-clause-read c = subst (λ w. HasItem w c.args.bytes.now c.args.ended c.order_item.result) (sym c.in-Order.is) c.order_item.ensures.read

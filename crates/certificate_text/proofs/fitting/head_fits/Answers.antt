@@ -5,4 +5,4 @@ pub returns-in-None : goal.returns-in-None
 returns-in-None c format = rw c.in-None.is (plain_head format)
 
 pub returns-in-Some : goal.returns-in-Some
-returns-in-Some c format = rw c.in-Some.is (head_tested format c.in-Some.window c.is_in_range.result c.is_in_range.ensures)
+returns-in-Some c format = rw c.in-Some.is (head_tested format c.in-Some.tolerance c.is_in_range.result c.is_in_range.ensures)

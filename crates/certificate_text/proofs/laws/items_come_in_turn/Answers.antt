@@ -1,5 +1,5 @@
-use Rattle.certificate_text.proofs.CourseLaws.{courses_are_items}
+use Rattle.certificate_text.proofs.ItemReadingLaws.{readings_are_items}
 use Rattle.certificate_text.proofs.laws.items_come_in_turn.Goals as goal
 
 pub returns : goal.returns
-returns c = courses_are_items
+returns c = readings_are_items

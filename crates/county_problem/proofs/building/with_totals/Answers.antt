@@ -18,5 +18,5 @@ invariant_of-result c =
       omega (arith, c.in_ok-counties.ensures.few, totals.few),
       rw c.in_ok-copy_sets.ensures totals.seats,
       rw c.in_ok-copy_sets.ensures totals.sets,
-      totals.window,
+      totals.tolerance,
     )

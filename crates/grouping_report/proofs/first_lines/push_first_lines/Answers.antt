@@ -10,4 +10,4 @@ returns c =
     let one = first_number_of c.args.out.now.items _ v.total_people c.total_people.ensures.value c.in_ok-push_words_number.ensures in
     let two = after_number_of _ v.chamber (c.from.ensures ∙ c.chamber.ensures.value) one c.in_ok-push_words_number-2.ensures in
     let three = after _ two c.in_ok-extend_from_slice.ensures.items in
-    rw (← c.named_window.ensures.value) (last c.push_window.result _ _ three c.push_window.ensures)
+    rw (← c.named_tolerance.ensures.value) (last c.push_tolerance.result _ _ three c.push_tolerance.ensures)

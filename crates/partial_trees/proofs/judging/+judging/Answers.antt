@@ -9,7 +9,7 @@ use Rattle.certificate_data.specs.TreeValue.{tree_of}
 use Rattle.certificate_laws.specs.State.{close, raise}
 use Rattle.certificate_laws.specs.Groups.{IsSetAt, IsGroupAt}
 use Rattle.checker_laws.specs.Branches.{IsTakeFault}
-use Rattle.checker_laws.specs.Cost.{AreSoMany}
+use Rattle.checker_laws.specs.Cost.{IsSetCount}
 use Rattle.state_judge.specs.CheckFaults.{NamesFault}
 use Rattle.certificate_laws.specs.Proving.{limit_of}
 use Rattle.search_groups.specs.declared.position.Position.{Position}
@@ -56,7 +56,7 @@ judge_part-returns-in-Err-clause-refused g t c =
     subst (IsPartRefusal p input.budget round (state_at (graph_order input.check.graph.now) g.C.CountySet.test c.args.state) (partial_of c.args.part.now)) (sym c.from.ensures)
     (line_refused at input.budget c.in-Err.stop c.in-Err.ensures.branch (λ k.
     let l = c.knowing_branch.ensures.stopped (c.in-Err.is ∙ ap Err k) in
-    (l.0, l.1, λ m are. omega (arith, l.2 m (subst (λ z. AreSoMany z (IsSetAt p z s b.county (limit_of round b.limit)) m) (sym c.requires.input.check.order) are), c.new-steps.ensures.limit, c.new-steps.ensures.used))))
+    (l.0, l.1, λ m are. omega (arith, l.2 m (subst (λ z. IsSetCount z (IsSetAt p z s b.county (limit_of round b.limit)) m) (sym c.requires.input.check.order) are), c.new-steps.ensures.limit, c.new-steps.ensures.used))))
 
 pub judge_part-judge_takes-requires : goal.judge_part-judge_takes-requires
 judge_part-judge_takes-requires g t c κs within =

@@ -24,13 +24,13 @@ loop-seats-preserved c =
 pub returns : goal.returns
 returns c =
     let p = problem_at c.args.ordered.now in
-    let w = c.window-window.result in
-    let range = and_parts (nat_le 1 w.whole) (nat_le w.whole 1000 && nat_le (2 * w.part) w.whole) c.window-window.ensures.range in
-    let half = leb-true (2 * w.part) w.whole (and_parts (nat_le w.whole 1000) (nat_le (2 * w.part) w.whole) range.1).1 in
+    let w = c.tolerance-tolerance.result in
+    let range = and_parts (nat_le 1 w.denominator) (nat_le w.denominator 1000 && nat_le (2 * w.numerator) w.denominator) c.tolerance-tolerance.ensures.range in
+    let half = leb-true (2 * w.numerator) w.denominator (and_parts (nat_le w.denominator 1000) (nat_le (2 * w.numerator) w.denominator) range.1).1 in
     let value = c.problem-problem.ensures.value in
-    let part = ap (λ v. (problem_at (record c.args.ordered.now { problem = v })).tolerance) value in
-    let whole = ap (λ v. (problem_at (record c.args.ordered.now { problem = v })).scale) value in
+    let numerator = ap (λ v. (problem_at (record c.args.ordered.now { problem = v })).numerator) value in
+    let denominator = ap (λ v. (problem_at (record c.args.ordered.now { problem = v })).denominator) value in
     let chamber = ap (λ v. (problem_at (record c.args.ordered.now { problem = v })).chamber) value in
-    let twice : p.scale ≤ 2 * (p.scale - p.tolerance) = omega (arith, half, c.window-window.ensures.value, part, whole) in
+    let twice : p.denominator ≤ 2 * (p.denominator - p.numerator) = omega (arith, half, c.tolerance-tolerance.ensures.value, numerator, denominator) in
     let few : p.chamber ≤ 1000 = omega (arith, c.chamber-chamber.ensures.value, c.chamber-chamber.ensures.range, chamber) in
     windows_all p c.places-places.ensures.problem c.args.people c.loop-seats.windows.items c.requires twice few (λ people k l s. c.loop-seats.invariant people k (omega (arith, l, c.loop-seats-test.false)) s)

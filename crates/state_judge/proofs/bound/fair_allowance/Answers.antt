@@ -5,7 +5,7 @@ use Rattle.certificate_laws.specs.Groups.{IsSetWithin}
 use Rattle.certificate_laws.specs.BoundLines.{allowance, IsFair}
 use Rattle.certificate_data.specs.TreeValue.{allowance_of}
 use Rattle.certificate_data.specs.declared.allowance.Allowance.{Allowance}
-use Rattle.checker_laws.specs.Cost.{AreSoMany, LineLooks}
+use Rattle.checker_laws.specs.Cost.{IsSetCount, LineLooks}
 use Rattle.state_groups.specs.PlacedValues.{state_at}
 use Rattle.state_judge.proofs.Allowances.{weighed}
 use Rattle.state_judge.proofs.bound.fair_allowance.Goals as goal
@@ -23,4 +23,4 @@ returns-in_ok-weight-in-Weigh-clause-steps g c =
     let p = problem_of c.args.graph.now.ordered.now.problem in
     let s = state_at c.args.graph.now.ordered.now.order g.C.CountySet.test c.args.state.now in
     subst (λ (z : Allowance). (m : ℕ) → LineLooks (allowance_of z) p (round_of c.args.round.now) s c.args.size m → c.judge_weights.new.steps.used ≤ c.args.steps.now.used + m) (sym c.in-Weigh.is)
-    (λ m h. c.judge_weights.ensures.steps m (subst (λ z. AreSoMany z (IsSetWithin p z s c.args.size) m) (sym c.requires.order) h))
+    (λ m h. c.judge_weights.ensures.steps m (subst (λ z. IsSetCount z (IsSetWithin p z s c.args.size) m) (sym c.requires.order) h))

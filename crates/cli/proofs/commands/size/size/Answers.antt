@@ -14,7 +14,7 @@ use Rattle.cli.proofs.commands.size.size.Goals as goal
 
 -- the problem of counties alone
 abbrev alone : CommonWords → List County → Steps ProblemValue
-alone words counties = build_step words.chamber words.window counties [] []
+alone words counties = build_step words.chamber words.tolerance counties [] []
 
 -- its table
 abbrev sized : ProblemValue → Steps Answered

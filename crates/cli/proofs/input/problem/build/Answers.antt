@@ -6,5 +6,5 @@ use Rattle.cli.proofs.input.problem.build.Goals as goal
 
 pub returns-in-Err : goal.returns-in-Err
 returns-in-Err c n =
-    refused c.refuse_problem.result problem_answer c.in-Err.fault (IsBuilt c.args.counties.now c.args.pairs.now c.args.withdrawn.now c.args.chamber c.args.window) n c.refuse_problem.ensures.answer
-    (λ shown. fault_stands (problem_fault c.args.counties.now c.args.pairs.now c.args.withdrawn.now c.args.chamber c.args.window) c.in-Err.fault (c.refuse_problem.ensures.shown shown) c.in-Err.ensures.fault)
+    refused c.refuse_problem.result problem_answer c.in-Err.fault (IsBuilt c.args.counties.now c.args.pairs.now c.args.withdrawn.now c.args.chamber c.args.tolerance) n c.refuse_problem.ensures.answer
+    (λ shown. fault_stands (problem_fault c.args.counties.now c.args.pairs.now c.args.withdrawn.now c.args.chamber c.args.tolerance) c.in-Err.fault (c.refuse_problem.ensures.shown shown) c.in-Err.ensures.fault)

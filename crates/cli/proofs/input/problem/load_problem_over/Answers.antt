@@ -12,7 +12,7 @@ use Rattle.cli.proofs.input.problem.load_problem_over.Goals as goal
 
 -- the problem of pairs and withdrawn sets
 abbrev built : ProblemWords → List County → List (ℕ × ℕ) → List Withdrawn → Steps ProblemValue
-built words = build_step words.common.chamber words.common.window
+built words = build_step words.common.chamber words.common.tolerance
 
 -- the problem, where the pairs are known
 abbrev with_pairs : ProblemWords → List County → Option Files → List (ℕ × ℕ) → Steps ProblemValue

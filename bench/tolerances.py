@@ -1,7 +1,7 @@
-"""What `solve` answers of North Carolina 2020 within its default steps at other allowances, and
+"""What `solve` answers of North Carolina 2020 within its default steps at other tolerances, and
 what `check` says of each certificate.
 
-usage: python3 bench/allowances.py PROGRAM
+usage: python3 bench/tolerances.py PROGRAM
 
 Senate and House (data/nc2020) at one tenth, one fiftieth and one hundredth. A row has the answer,
 the seconds of processor time with the files' reading in them, the lines of the certificate, and
@@ -16,12 +16,12 @@ import tempfile
 from chambers import solve_and_check, words_of
 from states import CAROLINA
 
-HEADS = ["Chamber", "Allowance", "Answer", "Seconds", "Lines", "Checked, seconds"]
+HEADS = ["Chamber", "Tolerance", "Answer", "Seconds", "Lines", "Checked, seconds"]
 
 
-def row(program: str, chamber: int, allowance: tuple[int, int], folder: str) -> str:
+def row(program: str, chamber: int, tolerance: tuple[int, int], folder: str) -> str:
     """Returns a row of the table."""
-    part, whole = allowance
+    part, whole = tolerance
     words = [*words_of(CAROLINA, 37, chamber), "--part", str(part), "--of", str(whole)]
     answer, _, seconds, lines, checked = solve_and_check(program, words, folder, least=False)
     return f"| {chamber} | {part}/{whole} | {answer} | {seconds} | {lines} | {checked} |"
@@ -34,9 +34,9 @@ def main() -> None:
     program = os.path.abspath(sys.argv[1])
     print(f"| {' | '.join(HEADS)} |\n{'|---' * len(HEADS)}|")
     with tempfile.TemporaryDirectory() as folder:
-        for allowance in ((1, 10), (1, 50), (1, 100)):
+        for tolerance in ((1, 10), (1, 50), (1, 100)):
             for chamber in (50, 120):
-                print(row(program, chamber, allowance, folder), flush=True)
+                print(row(program, chamber, tolerance, folder), flush=True)
 
 
 if __name__ == "__main__":

@@ -28,21 +28,21 @@ abbrev pub first : Item → Unread → Unread
 first item later = record { items = item ∷ later.items; fault = later.fault }
 
 -- the items on lines, the first of which has the number n, where these things are wanted in turn, up to the first fault
-abbrev pub course_from : List Wanted → ℕ → List RawLine → Unread
-course_from [] n [] = nothing
-course_from [] n (piece ∷ pieces) = only_fault (text_fault_at AfterEnd n)
-course_from (wanted ∷ more) n [] = only_fault (text_fault_at CutShort n)
-course_from (wanted ∷ more) n (piece ∷ pieces) = elim (item_on wanted piece) as (λ _. Unread) [
-  | Ok item ↦ first item (course_from (wanted_after wanted item ++ more) (n + 1) pieces)
+abbrev pub reading_from : List Wanted → ℕ → List RawLine → Unread
+reading_from [] n [] = nothing
+reading_from [] n (piece ∷ pieces) = only_fault (text_fault_at AfterEnd n)
+reading_from (wanted ∷ more) n [] = only_fault (text_fault_at CutShort n)
+reading_from (wanted ∷ more) n (piece ∷ pieces) = elim (item_on wanted piece) as (λ _. Unread) [
+  | Ok item ↦ first item (reading_from (wanted_after wanted item ++ more) (n + 1) pieces)
   | Err kind ↦ only_fault (text_fault_at kind n)
 ]
 
 -- of a whole text: of a certificate, or of a tree
-abbrev pub certificate_course : List ℕ → Unread
-certificate_course text = course_from (want.Head ∷ []) 1 (raw_lines text)
+abbrev pub certificate_reading : List ℕ → Unread
+certificate_reading text = reading_from (want.Head ∷ []) 1 (raw_lines text)
 
-abbrev pub tree_course : Format → ℕ → List ℕ → Unread
-tree_course format counties text = course_from (want.Tree format counties ∷ []) 1 (raw_lines text)
+abbrev pub tree_reading : Format → ℕ → List ℕ → Unread
+tree_reading format counties text = reading_from (want.Tree format counties ∷ []) 1 (raw_lines text)
 
 -- the items, where no fault ends them
 abbrev pub whole : List Item → Option TextFault → Result (List Item) TextFault
@@ -51,9 +51,9 @@ whole items (Some fault) = Err fault
 
 -- What is to come after what was read: a fault, once it was found, else what the rest has where the things on a stack
 -- are wanted, whose top is its last.
-abbrev pub course_left : List Wanted → Rest → Option TextFault → Unread
-course_left stack rest None = course_from (reverse stack) rest.number (lines_of rest)
-course_left stack rest (Some fault) = only_fault fault
+abbrev pub reading_left : List Wanted → Rest → Option TextFault → Unread
+reading_left stack rest None = reading_from (reverse stack) rest.number (lines_of rest)
+reading_left stack rest (Some fault) = only_fault fault
 
 -- The first of what is to come is given, and what is to come then. A text that could not be read has its fault in the
 -- place of any answer; a fault, once given, stays.

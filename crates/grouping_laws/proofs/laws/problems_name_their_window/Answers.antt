@@ -1,5 +1,0 @@
-use Rattle.grouping_laws.proofs.AllowanceLemmas.{names_its_own}
-use Rattle.grouping_laws.proofs.laws.problems_name_their_window.Goals as goal
-
-pub returns : goal.returns
-returns c = names_its_own
