@@ -21,7 +21,8 @@ fn cut_pair(pairs: &mut BTreeSet<(CountyCode, CountyCode)>, a: CountyCode, b: Co
     }
 }
 
-/// Adds the pair of a link to the set, or cuts it from the set.
+/// Adds the pair of counties of `link` to `linked` or cuts it from `linked`, as the sign of the `link` says. Two equal
+/// codes change nothing.
 fn apply(linked: &mut BTreeSet<(CountyCode, CountyCode)>, link: &Link) -> Result<(), AllocError>
     ensures { OnOk result ((a b : ℕ)
         → contains by_codes linked.new (a, b)

@@ -71,8 +71,8 @@ fn add_link(links: &mut Vec<Link>, line: &[u8]) -> Result<(), CodeLineKind>
     Ok(())
 }
 
-/// Reads the links of a text, in order. These are pairs that a state adds to the adjacent counties or cuts from them,
-/// as a bridge or open water asks.
+/// Reads the links of the text `bytes`, in order. These are pairs that a state adds to the adjacent counties or cuts
+/// from them, as a bridge or open water asks.
 ///
 /// The text is a cut text (`Lines` of `field_lines`), and a line is cut into fields at each pipe. Field 1 is `+` or
 /// `-`, and fields 2 and 3 are codes of five digits. The format is this project's own.

@@ -15,7 +15,7 @@ use grouping_reader::{CodeLineFault, CodeLineKind};
 use std::alloc::{AllocError, Global};
 use std::collections::BTreeSet;
 
-/// Returns the two codes, the lesser first.
+/// Returns the codes `a` and `b`, the lesser first.
 pub(crate) fn in_order(a: CountyCode, b: CountyCode) -> (CountyCode, CountyCode)
     ensures { result ≡ in_order a b }
 {
@@ -87,7 +87,7 @@ pub(crate) fn pair_set(
     Ok(pairs)
 }
 
-/// Returns the pairs of a set, ascending.
+/// Returns the pairs of the set `pairs`, ascending.
 pub(crate) fn list(
     alloc: Global,
     pairs: &BTreeSet<(CountyCode, CountyCode)>,
@@ -113,11 +113,11 @@ fn pairs_among(
     list(alloc, &pairs)
 }
 
-/// Reads the pairs of listed counties that meet from the Census Bureau's county adjacency file. They are ascending,
+/// Reads the pairs of `counties` that meet from `bytes`, the Census Bureau's county adjacency file. They are ascending,
 /// each once and with the lesser code first.
 ///
 /// The file is a cut text (`Lines` of `field_lines`), and a line is cut into fields at each pipe. Field 2 is the
-/// county's GEOID, and field 4 its neighbour's. Either direction counts. A row of a county outside the list, or of a
+/// county's GEOID, and field 4 its neighbour's. Either direction counts. A row of a county outside `counties`, or of a
 /// county beside itself, is ignored.
 ///
 /// The first line that isn't blank is a header if its second field is missing or isn't five digits. A header is

@@ -46,7 +46,8 @@ fn add_row(rows: &mut Vec<(CountyCode, CountyCode)>, line: &[u8]) -> Result<(), 
     Ok(())
 }
 
-/// Reads the rows of an adjacency file in their order, or returns its first fault.
+/// Reads the rows of the adjacency file `bytes` in their order, each with its county before its neighbour. A header is
+/// dropped. Returns the fault of the first line that has one. `Memory` may come in the place of any answer.
 pub(crate) fn read_rows(
     alloc: Global,
     bytes: &[u8],

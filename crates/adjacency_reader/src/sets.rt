@@ -33,7 +33,8 @@ fn add_set(alloc: Global, sets: &mut Vec<Withdrawn>, line: &[u8]) -> Result<(), 
     Ok(())
 }
 
-/// Reads the withdrawn sets of a text, in order. These are counties that were taken out beforehand, with their seats.
+/// Reads the withdrawn sets of the text `bytes`, in order. These are counties that were taken out beforehand, with
+/// their seats.
 ///
 /// The text is a cut text (`Lines` of `field_lines`), and a line is cut into fields at each pipe. Field 1 is the number
 /// of seats, 1 to 1,000, and each field from the second on is a code of five digits. The format is this project's own.

@@ -112,8 +112,8 @@ fn read_rows(
     }
 }
 
-/// Reads the assignments of a text in the order of their lines. Each has a block's GEOCODE and the label of its
-/// district. The text is a cut text (`Lines` of `field_lines`). A line is cut into fields at each pipe if the first
+/// Reads the assignments of the text `bytes` in the order of their lines. Each has a block's GEOCODE and the label of
+/// its district. The text is a cut text (`Lines` of `field_lines`). A line is cut into fields at each pipe if the first
 /// line that isn't blank has one, else at each comma. That first line is a header, and is dropped, if its first field
 /// isn't fifteen digits. On every other line, field 1 is a block of fifteen digits and field 2 is a label.
 ///

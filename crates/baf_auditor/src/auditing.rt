@@ -26,7 +26,8 @@ use pl94_counties::Block;
 use std::alloc::{AllocError, Global};
 use std::collections::BTreeMap;
 
-/// Appends the findings of districts: those that cross, then wrong numbers, then wrong sizes.
+/// Appends to `findings` those of districts: those that cross, then wrong numbers, then wrong sizes. `given` has the
+/// people of each listed block that a district is given, by label and code.
 fn add_district_findings(
     alloc: Global,
     findings: &mut Vec<Finding>,
@@ -51,7 +52,8 @@ fn add_district_findings(
     Ok(())
 }
 
-/// Returns the findings of a plan over a lawful grouping, in their order.
+/// Returns the findings of the plan that `lines` give over a lawful `grouping`, in their order. These are the codes at
+/// fault among the census `blocks`, and then the findings of districts.
 fn plan_findings(
     alloc: Global,
     problem: &Problem,

@@ -36,7 +36,7 @@ fn unassigned(named: &BTreeMap<u64, Named>, code: u64, people: u32) -> Option<u6
     keep(people > 0 && !assigned, code)
 }
 
-/// Returns the codes that lines name and that aren't listed, in ascending order.
+/// Returns the codes of `named`, the blocks that lines name, that aren't `listed`, in ascending order.
 fn unknown_codes(
     alloc: Global,
     named: &BTreeMap<u64, Named>,
@@ -52,7 +52,7 @@ fn unknown_codes(
         .collect(alloc)
 }
 
-/// Returns the codes that two or more lines name, in ascending order.
+/// Returns the codes of `named` that two or more lines name, in ascending order.
 fn twice_codes(alloc: Global, named: &BTreeMap<u64, Named>) -> Result<Vec<u64>, AllocError>
     ensures codes { IfOk result (λ v. v.items ≡ filter_map (λ e. kept e.1.twice e.0) named.now.entries) }
     ensures ordered { IsStrictlySortedBy nat_cmp (map (λ e. e.0) named.now.entries) }
@@ -63,7 +63,8 @@ fn twice_codes(alloc: Global, named: &BTreeMap<u64, Named>) -> Result<Vec<u64>, 
         .collect(alloc)
 }
 
-/// Returns the codes of listed blocks with people that no line gives to a district, in ascending order.
+/// Returns the codes of `listed` blocks with people that no line gives to a district, as `named` tells, in ascending
+/// order.
 fn unassigned_codes(
     alloc: Global,
     named: &BTreeMap<u64, Named>,

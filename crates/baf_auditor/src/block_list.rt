@@ -78,7 +78,8 @@ fn add_block(
     Ok(())
 }
 
-/// Returns the people of each listed block by its code. A block whose county is in no set isn't listed.
+/// Returns the people of each listed block by its code. One of `blocks` is listed if its county is in a group of
+/// `grouping` or in a withdrawn set of `problem`.
 pub(crate) fn listed_blocks(
     alloc: Global,
     problem: &Problem,

@@ -42,7 +42,8 @@ fn add_crossings_with(
     Ok(())
 }
 
-/// Appends a finding for each pair of sets in which one district has blocks, by label and sets.
+/// Appends to `findings` one for each pair of sets in which one district has blocks, by label and sets. `standing` has
+/// the districts with the places of their sets, by label and place. `groups` groups stand before the withdrawn sets.
 pub(crate) fn add_crossings(
     findings: &mut Vec<Finding>,
     groups: usize,

@@ -26,7 +26,7 @@ fn add_county(
     Ok(())
 }
 
-/// Returns the districts with the counties in which they have blocks, by label and county.
+/// Returns the districts of `given` with the counties in which they have blocks, by label and county.
 pub(crate) fn given_counties(
     alloc: Global,
     given: &BTreeMap<(Label, u64), u32>,
@@ -41,7 +41,7 @@ pub(crate) fn given_counties(
     Ok(found)
 }
 
-/// Lists the districts with their counties, by label and county.
+/// Lists the districts of `found` with their counties, by label and county.
 pub(crate) fn listed_counties(
     alloc: Global,
     found: BTreeSet<(Label, CountyCode)>,

@@ -123,7 +123,8 @@ fn list_districts(
 /// The most groups of a grouping whose plan is listed: those of a text of most lines.
 const MOST_GROUPS: usize = 16_777_216;
 
-/// Returns the districts of a plan, as `districts` does, for a grouping with few groups.
+/// Returns the districts of the plan that `lines` give, as `districts` does, for a `grouping` of at most 16,777,216
+/// groups.
 fn districts_of_few(
     alloc: Global,
     problem: &Problem,

@@ -33,7 +33,8 @@ fn add_standing(
     Ok(())
 }
 
-/// Returns the districts with the places of the sets in which they have blocks, by label and place.
+/// Returns the districts of `given` with the places of the sets in which they have blocks, by label and place. The sets
+/// are the groups of `grouping` and then the withdrawn sets of `problem`. Places count from 0.
 pub(crate) fn standing_places(
     alloc: Global,
     problem: &Problem,
@@ -53,7 +54,7 @@ pub(crate) fn standing_places(
     Ok(found)
 }
 
-/// Lists the districts with the places of their sets, by label and place.
+/// Lists the districts of `found` with the places of their sets, by label and place.
 pub(crate) fn listed_places(
     alloc: Global,
     found: BTreeMap<(Label, usize), ()>,

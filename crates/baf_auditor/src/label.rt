@@ -82,7 +82,7 @@ impl Ord for Label {
     }
 }
 
-/// Returns whether each byte is from 0x20 to 0x7E.
+/// Returns whether each of `bytes` is from 0x20 to 0x7E.
 fn is_printable(bytes: &[u8]) -> bool
     ensures { result ≡ is_printable_label bytes.now }
 {

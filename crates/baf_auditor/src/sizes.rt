@@ -22,7 +22,7 @@ fn add_people(sums: &mut BTreeMap<Label, u64>, label: &Label, people: u32) -> Re
     Ok(())
 }
 
-/// Returns the people of each district: those of its listed blocks, each once.
+/// Returns the people of each district of `given`, by its label: those of its listed blocks, each once.
 pub(crate) fn people_by_label(
     alloc: Global,
     given: &BTreeMap<(Label, u64), u32>,

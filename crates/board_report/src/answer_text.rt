@@ -13,7 +13,8 @@ use certificate_lines::WriteFault;
 use share_board::Event;
 use std::alloc::{AllocError, Global};
 
-/// Returns the event that gives the answer to a board, if there is one.
+/// Returns the event that gives the answer `piece` to a board, for the piece `number` of the round `round`. Returns
+/// `None` if the steps ran out before the search began a branch.
 fn answer_event(piece: Piece, round: u32, number: u32) -> Option<Event>
     ensures { option_map event_of result ≡ event_in round number piece }
 {
@@ -26,7 +27,8 @@ fn answer_event(piece: Piece, round: u32, number: u32) -> Option<Event>
     }
 }
 
-/// Returns the text of an event that has one.
+/// Returns the text of an `event` that has one, on a board with this `format` of rounds and this number of `counties`.
+/// Returns `AllocError` if memory was refused.
 pub(crate) fn event_lines(
     alloc: Global,
     event: &Event,

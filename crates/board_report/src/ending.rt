@@ -17,7 +17,7 @@ use place_sets::CountySet;
 use share_board::Board;
 use std::alloc::{AllocError, Global};
 
-/// Appends the line of a piece that waits.
+/// Appends the line of the waiting piece `piece` in the round `number`: `open NUMBER PIECE`.
 fn push_open(out: &mut Vec<u8>, number: u32, piece: u32) -> Result<(), AllocError>
     ensures { OnOk result (out.new.items ≡ out.old.items ++ open_line number piece) }
 {
@@ -25,7 +25,7 @@ fn push_open(out: &mut Vec<u8>, number: u32, piece: u32) -> Result<(), AllocErro
     push_number_line(out, b" ", piece)
 }
 
-/// Appends the lines of the pieces that wait.
+/// Appends the line of each of the waiting pieces `found` in the round `number`.
 fn push_each_open(out: &mut Vec<u8>, number: u32, found: &[u32]) -> Result<(), AllocError>
     ensures { OnOk result (out.new.items ≡ out.old.items ++ flat_map (open_line number) found.now) }
 {
@@ -35,7 +35,8 @@ fn push_each_open(out: &mut Vec<u8>, number: u32, found: &[u32]) -> Result<(), A
     Ok(())
 }
 
-/// Appends which pieces wait, if the round is a wide one.
+/// Appends the lines of the waiting pieces `found`, if the `format` of the round `number` is the wide one. Otherwise
+/// appends nothing.
 fn push_which(
     out: &mut Vec<u8>,
     format: Format,
@@ -50,7 +51,8 @@ fn push_which(
     }
 }
 
-/// Appends how many pieces wait, and which.
+/// Appends the line `left N` with the number of the waiting pieces `found`. In a wide round, a line for each of them
+/// follows. `number` is the round's.
 fn push_left(
     out: &mut Vec<u8>,
     format: Format,
@@ -64,7 +66,7 @@ fn push_left(
     push_which(out, format, number, found)
 }
 
-/// Returns the text of a certificate that has one.
+/// Returns the text of a `certificate` that has one. Returns `AllocError` if memory was refused.
 fn certificate_lines(alloc: Global, certificate: &Certificate) -> Result<Vec<u8>, AllocError>
     requires { (text : List ℕ) × IsSpelling text (certificate_of certificate.now) }
     ensures { IfOk result (λ v. IsSpelling v.items (certificate_of certificate.now)) }

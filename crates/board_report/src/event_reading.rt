@@ -23,7 +23,7 @@ use partial_text::front_part;
 use share_board::Event;
 use std::alloc::Global;
 
-/// Reads the first line of an event.
+/// Reads the first line of an event at `cursor`. A fault is returned with the number of the line.
 fn first_line(cursor: &mut Cursor) -> Result<EventLine, TextFault>
     ensures { ReadsLine (λ r. r) (by_words event_on) cursor.old result cursor.new }
 {

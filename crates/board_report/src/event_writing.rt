@@ -22,7 +22,7 @@ use partial_trees::PartialTree;
 use share_board::Event;
 use std::alloc::Global;
 
-/// Appends the line that asks for a piece.
+/// Appends the line `hand FROM`, which asks for a piece, if possible with the number `from` or a greater one.
 fn push_hand(out: &mut Vec<u8>, from: u32) -> Result<(), WriteFault>
     ensures { (format : Format) (counties : ℕ)
         → WritesEvent format counties (hand from) out.old.items result out.new.items }
@@ -50,7 +50,8 @@ fn push_result(
     Ok(())
 }
 
-/// Appends the line of a split.
+/// Appends the line that asks to split the piece `piece` of the round `round` at `county`, with groups of at most
+/// `limit` counties. Returns `NoSpelling` if `limit` isn't from 1 to 256.
 fn push_split(
     out: &mut Vec<u8>,
     round: u32,
@@ -99,7 +100,8 @@ fn push_groups(out: &mut Vec<u8>, groups: &[Group]) -> Result<(), WriteFault>
     Ok(())
 }
 
-/// Appends the lines of a better target.
+/// Appends the lines that give the better target `groups` in the round `round`. Returns `NoSpelling` if there are more
+/// than 256 groups, or if no line spells one of them.
 fn push_better(out: &mut Vec<u8>, round: u32, groups: &[Group]) -> Result<(), WriteFault>
     ensures { (format : Format) (counties : ℕ)
         → WritesEvent format counties (better round groups.now) out.old.items result out.new.items }
@@ -112,7 +114,7 @@ fn push_better(out: &mut Vec<u8>, round: u32, groups: &[Group]) -> Result<(), Wr
     push_groups(out, groups)
 }
 
-/// Appends the line that asks for a greater limit.
+/// Appends the line `wider ROUND`, which asks for a greater limit than that of the round `round`.
 fn push_wider(out: &mut Vec<u8>, round: u32) -> Result<(), WriteFault>
     ensures { (format : Format) (counties : ℕ)
         → WritesEvent format counties (wider round) out.old.items result out.new.items }

@@ -8,7 +8,8 @@ use crate::event_line::EventLine;
 use certificate_lines::{MOST, TextKind, Words};
 use piece_states::skipped;
 
-/// Takes the next word and returns the number that it spells, of a round or of a piece.
+/// Takes the next of `words` and returns the number that it spells, of a round or of a piece. It is from 0 to
+/// 4,294,967,295.
 fn next_number(words: &mut Words) -> Result<u32, TextKind>
     ensures { Leaves (number_at 0 greatest words.old) result words.new }
 {
@@ -79,7 +80,7 @@ fn wider_on(words: &mut Words) -> Result<EventLine, TextKind>
     Ok(EventLine::Wider(next_number(words)?))
 }
 
-/// Reads what the first line of an event says.
+/// Reads what `words`, the first line of an event, say.
 ///
 /// # Errors
 ///

@@ -75,7 +75,8 @@ fn answer_at<C: CountySet>(
     Ok(Some(piece))
 }
 
-/// Returns what `prove_waiting` returns, with any form of sets of places that has room for the counties.
+/// Returns what `prove_waiting` returns for the piece `number`, with any form of sets of places that has room for the
+/// counties of `problem`.
 fn prove_over<C: CountySet>(
     alloc: Global,
     problem: &Problem,

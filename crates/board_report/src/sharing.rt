@@ -18,7 +18,8 @@ use search_groups::PartLists;
 use share_board::{Board, BoardFault, Event};
 use std::alloc::Global;
 
-/// Returns what `share` returns, with any form of sets of places that has room for the counties.
+/// Returns what `share` returns for the list of `events`, with any form of sets of places that has room for the
+/// counties of `problem`.
 fn share_over<C: CountySet>(
     alloc: Global,
     problem: &Problem,

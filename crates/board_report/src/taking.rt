@@ -61,7 +61,7 @@ pub(crate) fn take_and_tell<C: CountySet>(
     Ok(())
 }
 
-/// Returns whether memory was refused to the event.
+/// Returns whether `reply` says that memory was refused to the event.
 fn was_refused<C>(reply: &Reply<C>) -> bool
     ensures { (order : List ℕ) (test : C → ℕ → Bool) → result ≡ false → reply_of order test reply.now ≢ Memory }
 {

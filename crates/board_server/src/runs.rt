@@ -41,7 +41,8 @@ impl From<AllocError> for ServeStop {
     }
 }
 
-/// Writes the text of the board's round and of its pieces.
+/// Writes the text of the round of `board` and of its waiting pieces to `out`. If memory was refused, nothing is
+/// written.
 fn tell_round<C: CountySet, W: Sink>(
     alloc: Global,
     ordered: &Ordered,
@@ -61,7 +62,8 @@ fn tell_round<C: CountySet, W: Sink>(
     write_next(out, written, &text)
 }
 
-/// Returns what `serve_events` returns, with any form of sets of places that has room for the counties.
+/// Returns what `serve_events` returns for the events of `source`, with any form of sets of places that has room for
+/// the counties of `problem`.
 fn serve_over<C: CountySet, S: Source, W: Sink>(
     alloc: Global,
     problem: &Problem,

@@ -14,7 +14,7 @@ use place_sets::CountySet;
 use share_board::{Board, Reply};
 use std::alloc::{AllocError, Global};
 
-/// Appends the text of the piece with this number, if it waits.
+/// Appends the text of the piece with the number `piece`, if it waits on `board`. Otherwise appends nothing.
 fn push_piece<C: CountySet>(
     alloc: Global,
     ordered: &Ordered,

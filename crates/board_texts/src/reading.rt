@@ -17,7 +17,8 @@ use county_codes::{Group, Grouping};
 use piece_states::front_open_piece;
 use std::alloc::Global;
 
-/// Reads the number, the limit and the number of groups from the words of a round's first line.
+/// Reads the number of a round, its limit and its number of groups from the `words` of its first line. The limit and
+/// the number of groups are from 0 to 256.
 #[tactic(auto, unfolding(crate::specs::RoundReading::round_on))]
 fn round_on(words: &mut Words) -> Result<(u32, u16, u16), TextKind>
     ensures { result ≡ round_on words.old }
@@ -30,7 +31,8 @@ fn round_on(words: &mut Words) -> Result<(u32, u16, u16), TextKind>
     Ok((number, limit, groups))
 }
 
-/// Reads the first line of a round.
+/// Reads the first line of a round at `cursor`: its number, its limit in counties and its number of groups. A fault is
+/// returned with the number of the line.
 fn first_line(cursor: &mut Cursor) -> Result<(u32, u16, u16), TextFault>
     ensures { ReadsLine (λ r. r) (by_words round_on) cursor.old result cursor.new }
 {

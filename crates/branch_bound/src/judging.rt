@@ -20,8 +20,9 @@ use search_groups::{
 };
 use std::alloc::AllocError;
 
-/// Returns what follows at a position where no group of at most the known size fits. The state ends with a leaf or a
-/// greater grouping, or the search goes on with the groups of one county more.
+/// Returns what follows at a `position` where no group of at most the known size fits. The state ends with a leaf or a
+/// greater grouping, or the search goes on with the groups of one county more. Returns `StepLimit` if the steps ran
+/// out, and `Memory` if memory was refused.
 fn next_size<C: CountySet>(
     input: &SearchInput<C>,
     position: &Position<C>,
@@ -110,7 +111,7 @@ fn weighed<C: CountySet>(
     branch_at(input, position, &weights)
 }
 
-/// Returns a bound leaf if more groups of the position's size are wanted and weights give such a leaf. Otherwise it
+/// Returns a bound leaf if more groups of the size of `position` are wanted and weights give such a leaf. Otherwise
 /// returns a branch.
 fn move_at_groups<C: CountySet>(
     input: &SearchInput<C>,
@@ -130,7 +131,8 @@ fn move_at_groups<C: CountySet>(
     }
 }
 
-/// Returns how the state ends, or the county at which it branches. It goes from size to size until there are groups.
+/// Returns how the state of `position` ends, or the county at which it branches. It goes from size to size until there
+/// are groups. Returns `StepLimit` if the steps ran out, and `Memory` if memory was refused.
 fn move_at_sizes<C: CountySet>(
     input: &SearchInput<C>,
     position: Position<C>,
@@ -173,7 +175,8 @@ fn move_at_sizes<C: CountySet>(
     }
 }
 
-/// Returns a bound leaf if there is no room for the wanted number of groups of the known size.
+/// Returns a bound leaf if there is no room at `position` for the wanted number of groups of the known size. Otherwise
+/// returns `None`, as it does for a size of 0.
 fn present_room<C: CountySet>(
     input: &SearchInput<C>,
     position: &Position<C>,
@@ -188,7 +191,8 @@ fn present_room<C: CountySet>(
     room_leaf(input, &position.state, position.size)
 }
 
-/// Returns a leaf that is valid at the position and can be found without looking at its groups.
+/// Returns a leaf that is valid at `position` and can be found without looking at its groups, or `None` if none is
+/// found.
 fn early_leaf<C: CountySet>(
     input: &SearchInput<C>,
     position: &Position<C>,
@@ -203,7 +207,8 @@ fn early_leaf<C: CountySet>(
     }
 }
 
-/// Returns how the state ends, or the county at which the search branches there. A step is taken for the state.
+/// Returns how the state of `position` ends, or the county at which the search branches there. A step is taken for the
+/// state. Returns `StepLimit` if the steps ran out, and `Memory` if memory was refused.
 pub(crate) fn next_move<C: CountySet>(
     input: &SearchInput<C>,
     position: Position<C>,

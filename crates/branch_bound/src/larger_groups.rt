@@ -32,8 +32,10 @@ fn wants_larger<C: CountySet>(position: &Position<C>, limit: u16, wanted: u32, u
     }
 }
 
-/// Returns the position of a branch with the same groups of its size. If many of these are wanted, the groups of one
-/// county more are listed. If few are wanted, those that are listed already are tested.
+/// Returns `position`, at which a branch begins, with the same groups of its size. If at least `LEAST_WANTED` more of
+/// these are wanted, the groups of one county more are listed, unless fewer than `FIRST_STEPS` steps were taken or the
+/// size is the round's limit. If exactly `TEST_WANTED` are wanted, those that are listed already are tested. Returns
+/// `StepLimit` if the steps ran out, and `Memory` if memory was refused.
 pub(crate) fn with_larger<C: CountySet>(
     input: &SearchInput<C>,
     position: Position<C>,

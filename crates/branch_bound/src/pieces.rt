@@ -155,7 +155,8 @@ pub fn prove_piece_over<C: CountySet>(
     }
 }
 
-/// Returns the answer for a piece by the round's order of counties.
+/// Returns the answer for the piece that begins at `state`, by the order of counties of `round`, which is that of
+/// `ordered`.
 fn ordered_piece<C: CountySet>(
     alloc: Global,
     ordered: &Ordered,

@@ -18,8 +18,8 @@ use search_groups::SearchInput;
 use state_groups::{State, open_places};
 use std::alloc::AllocError;
 
-/// Returns the place of the first county that is open to the limit. Returns `None` only if no group of at most the
-/// limit fits.
+/// Returns the place of the first county that is open at `state` to the round's limit. Returns `None` only if no group
+/// of at most the limit fits.
 fn first_open<C: CountySet>(
     input: &SearchInput<C>,
     state: &State<C>,
@@ -41,7 +41,7 @@ fn first_open<C: CountySet>(
     }
 }
 
-/// Returns a leaf that is valid at the state and can be found without looking at its groups.
+/// Returns a leaf that is valid at `state` and can be found without looking at its groups, or `None` if none is found.
 fn first_leaf<C: CountySet>(
     input: &SearchInput<C>,
     state: &State<C>,
@@ -59,7 +59,7 @@ fn first_leaf<C: CountySet>(
     room_leaf(input, state, 1)
 }
 
-/// Returns what a state ends with if no group of at most the limit fits: a leaf or a greater grouping.
+/// Returns what `state` ends with if no group of at most the limit fits: a leaf or a greater grouping.
 fn last_end<C: CountySet>(input: &SearchInput<C>, state: &State<C>) -> Result<PlainMove, AllocError>
     requires input { IsPlainGround C.PLACES C.test input.now }
     requires at { IsStateOf C.test input.now state.now }
@@ -76,7 +76,7 @@ fn last_end<C: CountySet>(input: &SearchInput<C>, state: &State<C>) -> Result<Pl
     Ok(PlainMove::Better(found))
 }
 
-/// Returns how a state without a valid early leaf ends, or where the search branches.
+/// Returns how a `state` without a valid early leaf ends, or the place at which the search branches there.
 fn end_or_branch<C: CountySet>(
     input: &SearchInput<C>,
     state: &State<C>,
@@ -93,7 +93,8 @@ fn end_or_branch<C: CountySet>(
     }
 }
 
-/// Returns how the state ends, or the place at which the search branches there. A step is taken for the state.
+/// Returns how `state` ends, or the place at which the search branches there. A step is taken for the state. Returns
+/// `StepLimit` if the steps ran out, and `Memory` if memory was refused.
 pub(crate) fn next_plain_move<C: CountySet>(
     input: &SearchInput<C>,
     state: &State<C>,

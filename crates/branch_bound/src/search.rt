@@ -112,8 +112,8 @@ fn listed_groups<C: CountySet>(
     }
 }
 
-/// Builds the take of a group with its proof tree. If a better grouping is found where the group is closed, or the steps
-/// run out, that is returned instead.
+/// Builds the take of `group` at `position` with its proof tree. If a better grouping is found where the group is
+/// closed, or the steps run out, that is returned instead.
 #[cycle(proving)]
 fn prove_take<C: CountySet, W: Watcher>(
     input: &SearchInput<C>,
@@ -186,7 +186,7 @@ fn prove_takes<C: CountySet, W: Watcher>(
     Ok(Takes::Proved(takes))
 }
 
-/// Builds a proof tree at the position's state, or finds a lawful grouping that agrees with the state and is greater
+/// Builds a proof tree at the state of `position`, or finds a lawful grouping that agrees with the state and is greater
 /// than the round's target. If the steps run out, it builds a partial tree of what was proved by then. The recursion
 /// goes as deep as takes nest.
 ///

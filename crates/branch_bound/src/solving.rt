@@ -298,7 +298,8 @@ fn first_at<C: CountySet>(graph: &CountyGraph<C>, state: &State<C>) -> Result<Fi
     }
 }
 
-/// Returns the first lawful grouping, which is that of the connected parts, or a certificate that none is lawful.
+/// Returns the first lawful grouping of the counties of `graph`, which is that of the connected parts, or a certificate
+/// that none is lawful.
 fn first_found<C: CountySet>(graph: &CountyGraph<C>) -> Result<First, AllocError>
     requires graph { IsGraph C.test C.PLACES graph.now }
     ensures { IfOk result (IsFirst (graph_problem graph.now) (graph_order graph.now)) }
@@ -307,7 +308,8 @@ fn first_found<C: CountySet>(graph: &CountyGraph<C>) -> Result<First, AllocError
     first_at(graph, &state)
 }
 
-/// Returns what the solver answers of counties in ascending order of their codes. A step is left at least.
+/// Returns what the solver answers of the counties of `ordered`, which stand in ascending order of their codes. The
+/// limit of `steps` is at least 1.
 fn solve_ordered<C: CountySet, W: Watcher>(
     alloc: Global,
     ordered: &Ordered,
@@ -361,7 +363,7 @@ pub fn solve_over<C: CountySet, W: Watcher>(
     }
 }
 
-/// Returns what `solve` answers, and tells a `watcher` how far the search is.
+/// Returns what `solve` answers for `problem` within `step_limit` steps, and tells `watcher` how far the search is.
 ///
 /// The watcher is told each round as it begins, and each state that is entered. What is promised holds for each
 /// watcher.

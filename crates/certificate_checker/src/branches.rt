@@ -23,7 +23,8 @@ use search_groups::{PartLists, Position};
 use state_groups::{State, closed_state};
 use state_judge::{Branching, judge_take};
 
-/// Judges the line of a branch, which was read last. Returns the groups that the takes of the branch have to be.
+/// Judges the line of a branch at `county`, which was read last from `feed`. Returns its place, its limit in counties,
+/// and the groups that the takes of the branch have to be.
 pub(crate) fn listed_groups<C: CountySet, S>(
     input: &CheckInput<C>,
     state: &State<C>,
@@ -113,7 +114,7 @@ pub(crate) fn taken_state<C: CountySet>(
     }
 }
 
-/// Returns the groups behind the first one.
+/// Returns the groups of `left` behind the first one. Returns no groups if `left` is empty.
 pub(crate) fn groups_behind<C>(left: &[C]) -> &[C]
     ensures { (group : C) (others : List C) → left.now ≡ group ∷ others → result.now ≡ others }
 {

@@ -36,7 +36,7 @@ use state_groups::first_state;
 use state_judge::CheckFault;
 use std::alloc::{AllocError, Global};
 
-/// Returns the line of the tolerance: the second, or the head's if no tolerance is named.
+/// Returns the number of the line that tells the tolerance of `round`: 2, or 1, the head's, if no tolerance is named.
 fn tolerance_line(round: &Round) -> u64
     ensures { result ≡ tolerance_line round.now.tolerance }
 {
@@ -46,7 +46,8 @@ fn tolerance_line(round: &Round) -> u64
     }
 }
 
-/// Checks that the tolerance of a certificate is the problem's, which it is if the fractions are equal.
+/// Checks that the tolerance of `round` is that of `problem`, which it is if the fractions are equal. A round that
+/// names none has 1/20. Returns the fault `WrongWindow` if they differ.
 fn judge_tolerance(problem: &Problem, round: &Round) -> Result<(), Halt>
     ensures { MatchResult result (λ _. HasTolerance (problem_of problem.now) round.now.tolerance) (StopsAt (IsToleranceFault (problem_of problem.now) (round_of round.now)) (tolerance_line round.now.tolerance)) }
 {
@@ -58,7 +59,8 @@ fn judge_tolerance(problem: &Problem, round: &Round) -> Result<(), Halt>
     }
 }
 
-/// Returns the counties in the order of a certificate. The order stands on the line behind that of the tolerance.
+/// Returns the counties of `problem` in the order of `round`. The order stands on the line behind that of the
+/// tolerance. Returns the fault `WrongOrder` at that line, and `Refused` if memory was refused.
 pub(crate) fn judge_order<'a>(
     alloc: Global,
     problem: &'a Problem,
@@ -85,7 +87,8 @@ fn has_larger(groups: &[Group], limit: u16) -> bool
         .any(|group| group.codes.as_slice().len() > usize::from(limit))
 }
 
-/// Judges the limit, which stands behind the order. No group of the target may have more counties.
+/// Judges the limit of `round`, which stands behind the order. Returns the fault `LimitTooSmall` if a group of the
+/// target has more counties.
 fn judge_limit(round: &Round) -> Result<(), Halt>
     ensures { MatchResult result (λ _. IsLargeEnough round.now.limit (target_of round.now.target)) (StopsAt (IsLimitFault round.now.limit (target_of round.now.target)) (tolerance_line round.now.tolerance + 2)) }
 {
@@ -110,7 +113,8 @@ fn target_stop(fault: GroupingFault, line: u64) -> Halt
     }
 }
 
-/// Returns the counts of a round's target, which has to be lawful. The target stands behind the limit.
+/// Returns the counts of the target of `round`, which has to be lawful in `problem`. Returns `None` if there is no
+/// target. The target stands behind the limit, and a fault of it is given at its first line.
 fn judge_target(alloc: Global, problem: &Problem, round: &Round) -> Result<Option<Counts>, Halt>
     ensures { MatchResult
         result
@@ -146,7 +150,8 @@ pub fn wanted_counts(
     }
 }
 
-/// Judges the tree of a certificate, which begins on the next line. Everything in front of it is fine.
+/// Judges the tree of a certificate with this `round`, which begins on the next line of `feed`. Everything in front of
+/// it is fine.
 fn judge_first<C: CountySet, F, S: ItemSource<F>>(
     alloc: Global,
     ordered: &Ordered,
@@ -187,7 +192,7 @@ fn judge_first<C: CountySet, F, S: ItemSource<F>>(
     judge_tree(&input, &mut state, known, &mut lists, feed, from)
 }
 
-/// Judges a round and the tree that begins on the next line.
+/// Judges `round`, and then the tree that begins on the next line of `feed`. The first fault met is returned.
 fn judge_round<C: CountySet, F, S: ItemSource<F>>(
     alloc: Global,
     problem: &Problem,
@@ -224,7 +229,7 @@ fn judge_round<C: CountySet, F, S: ItemSource<F>>(
     }
 }
 
-/// Judges the certificate whose lines are to come, and returns its target if it has no fault.
+/// Judges the certificate whose lines are to come from `feed`, and returns its target if it has no fault.
 pub(crate) fn judge_certificate<C: CountySet, F, S: ItemSource<F>>(
     alloc: Global,
     problem: &Problem,

@@ -97,7 +97,8 @@ fn check_source<C: CountySet, F, S: ItemSource<F> + Drop>(
     }
 }
 
-/// Returns what `check` returns, with any form of sets of places that has room for the counties of the problem.
+/// Returns what `check` returns for `text`, with any form of sets of places that has room for the counties of
+/// `problem`.
 ///
 /// # Errors
 ///
@@ -151,8 +152,8 @@ pub fn check(
     }
 }
 
-/// Returns what `check_from_keeping` returns, with any form of sets of places that has room for the counties of the
-/// problem.
+/// Returns what `check_from_keeping` returns for `source`, with any form of sets of places that has room for the
+/// counties of `problem`.
 ///
 /// # Errors
 ///
@@ -221,7 +222,7 @@ pub fn check_from_keeping<S: Source>(
     }
 }
 
-/// Returns the verdict on a text that is pulled from a source line by line, as `check` gives it on a text in memory.
+/// Returns the verdict on a text that is pulled from `source` line by line, as `check` gives it on a text in memory.
 ///
 /// It holds one line, and makes no value of a tree. It reads on behind a fault that it finds, up to the end of the text
 /// or to a fault in the text's words, which comes before any other. So it pulls at most as many lines as the budget has

@@ -62,7 +62,9 @@ fn of_source(fault: TextFault) -> Halt
     }
 }
 
-/// Reads the next line, which counts one step.
+/// Reads the next line of `feed`, which counts one step. Returns `Budget` if no step is left, `Unspelled` if no line is
+/// left, and `Text` for a fault of the text. Returns `Refused` if memory was refused, or if the source could not be
+/// read.
 pub(crate) fn next_line<F, S: ItemSource<F>>(feed: &mut Feed<S>, from: &mut F) -> Result<Item, Halt>
     requires { feed.old.line ≤ feed.old.steps.used }
     ensures step { TakesStep feed.old result feed.new }
@@ -84,7 +86,7 @@ pub(crate) fn next_line<F, S: ItemSource<F>>(feed: &mut Feed<S>, from: &mut F) -
     }
 }
 
-/// Passes over the next item, and returns whether there was one.
+/// Passes over the next item of `source`, and returns whether there was one.
 fn pass_item<F, S: ItemSource<F>>(source: &mut S, from: &mut F) -> Result<bool, TextFault>
     ensures { ItemsThrough (S.left source.old) (S.given from.old) (S.left source.new) (S.given from.new) (λ a b. Passes a result b) }
 {
@@ -95,7 +97,8 @@ fn pass_item<F, S: ItemSource<F>>(source: &mut S, from: &mut F) -> Result<bool, 
     }
 }
 
-/// Reads the lines that are left, up to as many lines in all as there may be steps.
+/// Reads the lines that are left in `feed`, up to as many lines in all as there may be steps. Returns `Budget` once
+/// that number is reached, and otherwise the stop of the first fault met.
 pub(crate) fn read_rest<F, S: ItemSource<F>>(feed: &mut Feed<S>, from: &mut F) -> Result<(), Halt>
     ensures { FeedsThrough (stream_of S.left S.given feed.old from.old) (stream_of S.left S.given feed.new from.new) (λ a _. IsRestRead a result) }
 {
@@ -112,7 +115,8 @@ pub(crate) fn read_rest<F, S: ItemSource<F>>(feed: &mut Feed<S>, from: &mut F) -
     }
 }
 
-/// Returns the fault that ends the items to come, if there is one.
+/// Returns the fault that ends the `items` to come, or `None` if there is none. Returns `AllocError` if memory was
+/// refused.
 pub(crate) fn first_fault(items: &mut Items) -> Result<Option<TextFault>, AllocError>
     ensures { IfOk result (λ fault. fault ≡ items.old.fault) }
 {

@@ -12,7 +12,7 @@ use certificate_lines::{Item, ItemSource, Opening, Version};
 use county_codes::{Codes, Group, Tolerance};
 use state_judge::LineStop;
 
-/// Reads the next line, which has to open a tree.
+/// Reads the next line of `feed`, which has to open a tree. Returns `Unspelled` for any other line.
 pub(crate) fn next_opening<F, S: ItemSource<F>>(
     feed: &mut Feed<S>,
     from: &mut F,
@@ -30,7 +30,8 @@ pub(crate) fn next_opening<F, S: ItemSource<F>>(
     }
 }
 
-/// Reads the next line, which has to be a take or the mark. Returns the codes of the take, or `None` for the mark.
+/// Reads the next line of `feed`, which has to be a take or the mark. Returns the codes of the take, or `None` for the
+/// mark. Returns `Unspelled` for any other line.
 pub(crate) fn next_take<F, S: ItemSource<F>>(
     feed: &mut Feed<S>,
     from: &mut F,
@@ -48,7 +49,7 @@ pub(crate) fn next_take<F, S: ItemSource<F>>(
     }
 }
 
-/// Reads the next line, which has to be a line of a bound leaf.
+/// Reads the next line of `feed`, which has to be a line of a bound leaf. Returns `Unspelled` for any other line.
 pub(crate) fn next_allowance<F, S: ItemSource<F>>(
     feed: &mut Feed<S>,
     from: &mut F,
@@ -64,7 +65,8 @@ pub(crate) fn next_allowance<F, S: ItemSource<F>>(
     }
 }
 
-/// Reads the next line, which has to be the head of a certificate.
+/// Reads the next line of `feed`, which has to be the head of a certificate. Returns its format and its version, and
+/// `Unspelled` for any other line.
 pub(crate) fn next_head<F, S: ItemSource<F>>(
     feed: &mut Feed<S>,
     from: &mut F,
@@ -80,7 +82,7 @@ pub(crate) fn next_head<F, S: ItemSource<F>>(
     }
 }
 
-/// Reads the next line, which has to be that of the tolerance.
+/// Reads the next line of `feed`, which has to be that of the tolerance. Returns `Unspelled` for any other line.
 pub(crate) fn next_tolerance<F, S: ItemSource<F>>(
     feed: &mut Feed<S>,
     from: &mut F,
@@ -96,7 +98,7 @@ pub(crate) fn next_tolerance<F, S: ItemSource<F>>(
     }
 }
 
-/// Reads the next line, which has to be the order.
+/// Reads the next line of `feed`, which has to be the order. Returns its codes, and `Unspelled` for any other line.
 pub(crate) fn next_order<F, S: ItemSource<F>>(
     feed: &mut Feed<S>,
     from: &mut F,
@@ -112,7 +114,7 @@ pub(crate) fn next_order<F, S: ItemSource<F>>(
     }
 }
 
-/// Reads the next line, which has to be the limit.
+/// Reads the next line of `feed`, which has to be the limit, in counties. Returns `Unspelled` for any other line.
 pub(crate) fn next_limit<F, S: ItemSource<F>>(feed: &mut Feed<S>, from: &mut F) -> Result<u16, Halt>
     requires { feed.old.line ≤ feed.old.steps.used }
     ensures counts { CountsSteps feed.old feed.new }
@@ -125,8 +127,8 @@ pub(crate) fn next_limit<F, S: ItemSource<F>>(feed: &mut Feed<S>, from: &mut F) 
     }
 }
 
-/// Reads the next line, which has to be that of the target. Returns the number of its groups, or `None` if there is no
-/// target.
+/// Reads the next line of `feed`, which has to be that of the target. Returns the number of its groups, or `None` if
+/// there is no target. Returns `Unspelled` for any other line.
 pub(crate) fn next_target<F, S: ItemSource<F>>(
     feed: &mut Feed<S>,
     from: &mut F,
@@ -142,7 +144,7 @@ pub(crate) fn next_target<F, S: ItemSource<F>>(
     }
 }
 
-/// Reads the next line, which has to be a group of the target.
+/// Reads the next line of `feed`, which has to be a group of the target. Returns `Unspelled` for any other line.
 pub(crate) fn next_group<F, S: ItemSource<F>>(
     feed: &mut Feed<S>,
     from: &mut F,
@@ -158,7 +160,7 @@ pub(crate) fn next_group<F, S: ItemSource<F>>(
     }
 }
 
-/// Reads the next line, which has to be the end.
+/// Reads the next line of `feed`, which has to be the end. Returns `Unspelled` for any other line.
 pub(crate) fn next_end<F, S: ItemSource<F>>(feed: &mut Feed<S>, from: &mut F) -> Result<(), Halt>
     requires { feed.old.line ≤ feed.old.steps.used }
     ensures counts { CountsSteps feed.old feed.new }

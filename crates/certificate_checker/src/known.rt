@@ -146,8 +146,9 @@ pub fn raised_known<C: CountySet>(
     Ok(Some(raised))
 }
 
-/// Returns the position that knows the groups of one county more, at the same state. Returns `None` if a group of the
-/// known size fits, if that size is the round's limit, or if a part of the rest is stuck.
+/// Returns the position that knows the groups of one county more than `position`, at the same state. Returns `None` if
+/// a group of the known size fits, if that size is at least the round's limit, or if a part of the rest is stuck.
+/// Returns `StepLimit` if the `spare` steps ran out.
 fn larger_position<C: CountySet>(
     search: &SearchInput<C>,
     position: Position<C>,
@@ -249,7 +250,7 @@ fn with_ahead<C: CountySet>(
     }
 }
 
-/// Returns the branch at the place by a position of the branch's size.
+/// Returns the branch at `place` by a `position` of the branch's size, or `None` if the `spare` steps ran out.
 fn branch_of<C: CountySet>(
     search: &SearchInput<C>,
     position: &Position<C>,
@@ -372,8 +373,8 @@ fn open_place<C: CountySet>(
     Ok(Some(place))
 }
 
-/// Returns the branch at the county by what is known, if that tells its groups. What is known goes on to groups of the
-/// branch's limit, or is dropped.
+/// Returns the branch at `county` by what is `known` at `state`, if that tells its groups and the line names a `limit`.
+/// Otherwise returns `None`. What is known goes on to groups of the branch's limit, or is dropped.
 fn told_branch<C: CountySet>(
     input: &CheckInput<C>,
     state: &State<C>,
@@ -587,9 +588,9 @@ fn known_candidates<C: CountySet>(known: &Option<Position<C>>, size: u16) -> Opt
     None
 }
 
-/// Judges the line of a bound leaf as `judge_allowance` does. If what is known tells that no group of the size fits, a
-/// line without weights takes no step. If the groups of the size are known, weights are tested on them, and no step is
-/// taken.
+/// Judges the `line` of a bound leaf as `judge_allowance` does. If what is `known` tells that no group of `size`
+/// counties fits, a line without weights takes no step. If the groups of this size are known, weights are tested on
+/// them, and no step is taken.
 pub(crate) fn knowing_allowance<C: CountySet>(
     input: &CheckInput<C>,
     state: &State<C>,

@@ -34,7 +34,8 @@ fn found_at(fault: Option<CheckFault>, line: u64) -> Result<(), Halt>
     }
 }
 
-/// Judges a stuck leaf whose line was read last.
+/// Judges a stuck leaf at `county`, where `line` is the number of its line, which was read last. Returns its fault at
+/// that line, if it has one.
 pub(crate) fn judge_stuck_leaf<C: CountySet>(
     input: &CheckInput<C>,
     state: &State<C>,
@@ -49,7 +50,8 @@ pub(crate) fn judge_stuck_leaf<C: CountySet>(
     found_at(fault, line)
 }
 
-/// Judges a seats leaf whose line was read last.
+/// Judges a seats leaf, where `line` is the number of its line, which was read last. Returns its fault at that line, if
+/// it has one.
 pub(crate) fn judge_seats_leaf<C: CountySet>(
     input: &CheckInput<C>,
     state: &State<C>,

@@ -44,7 +44,7 @@ fn read_groups<F, S: ItemSource<F>>(
     Ok(groups)
 }
 
-/// Reads the target, if there is one.
+/// Reads the target from `feed`, or returns `None` if there is none.
 fn read_target<F, S: ItemSource<F>>(
     alloc: Global,
     feed: &mut Feed<S>,
@@ -67,7 +67,8 @@ fn read_target<F, S: ItemSource<F>>(
     }
 }
 
-/// Reads the format in the head, and the tolerance on the second line if the head is of version 2.
+/// Reads the format in the head from `feed`, and the tolerance on the second line if the head is of version 2. Returns
+/// no tolerance if it is of version 1.
 fn read_head<F, S: ItemSource<F>>(
     feed: &mut Feed<S>,
     from: &mut F,
@@ -89,7 +90,7 @@ fn read_head<F, S: ItemSource<F>>(
     }
 }
 
-/// Reads the round of a certificate.
+/// Reads the round of a certificate from `feed`: its head, its order, its limit and its target.
 pub(crate) fn read_round<F, S: ItemSource<F>>(
     alloc: Global,
     feed: &mut Feed<S>,

@@ -33,8 +33,8 @@ use state_groups::{State, copied_state};
 use state_judge::CheckFault;
 use std::alloc::{AllocError, Global};
 
-/// Returns the verdict on a tree whose lines have no fault, from the result of their judging. The stops that a fault of
-/// the text gives never come here.
+/// Returns the verdict on a tree whose lines have no fault, from `judged`, the result of their judging. The stops that
+/// a fault of the text gives never come here. Returns `AllocError` if memory was refused.
 fn said_of(judged: Result<(), Halt>) -> Result<TreeVerdict, AllocError>
     ensures { IsSaid judged result }
 {
@@ -46,7 +46,8 @@ fn said_of(judged: Result<(), Halt>) -> Result<TreeVerdict, AllocError>
     }
 }
 
-/// Returns the fault that ends the lines of a tree, if there is one.
+/// Returns the fault that ends `lines`, those of a tree in this `format` for an order of `places` counties, or `None`
+/// if there is none.
 fn fault_in(
     alloc: Global,
     lines: &[u8],

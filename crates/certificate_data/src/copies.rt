@@ -9,7 +9,7 @@ use crate::certificate::Certificate;
 use crate::tree::{Branch, Leaf, Take, Tree};
 use std::alloc::{AllocError, Global};
 
-/// Returns equal lines of a bound leaf, or an error if memory was refused.
+/// Returns a copy of `lines`, which are those of a bound leaf, or `AllocError` if memory was refused.
 fn copy_lines(alloc: Global, lines: &[Allowance]) -> Result<Vec<Allowance>, AllocError>
     ensures { IfOk result (λ v. v.items ≡ lines.now) }
 {

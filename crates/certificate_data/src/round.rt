@@ -40,7 +40,7 @@ impl Round {
     }
 }
 
-/// Returns an equal target, or an error if memory was refused.
+/// Returns a copy of `target`, or `AllocError` if memory was refused.
 fn copy_target(target: &Option<Grouping>) -> Result<Option<Grouping>, AllocError>
     ensures { IfOk result (λ copy. target_of copy ≡ target_of target.now) }
 {

@@ -255,7 +255,7 @@ impl<'a> Cursor<'a> {
     }
 }
 
-/// Checks that nothing is left.
+/// Checks that nothing is left at `cursor`.
 ///
 /// # Errors
 ///

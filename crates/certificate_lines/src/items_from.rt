@@ -59,7 +59,8 @@ fn read_item<S: Source>(
     }
 }
 
-/// Checks that no line is left.
+/// Checks that no line is left in `pieces`. Returns `AfterEnd` at `line` if one is left, `ReadFault` if the source
+/// could not be read, and `Memory` if memory was refused.
 fn read_end<S: Source>(pieces: &mut RawReader, line: u64, from: &mut S) -> Result<(), TextFault>
     requires { pieces.old.fault ≡ None }
     ensures read { ReadsEnd (left_at [] line pieces.old) (S.given from.old) result (left_at [] line pieces.new) (S.given from.new) }

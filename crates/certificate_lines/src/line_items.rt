@@ -27,7 +27,8 @@ const DEPTH: usize = MAX_COUNTIES + 2;
 /// What is wanted, as a stack. Its top, which is wanted next, is its last element.
 pub(crate) type Stack = ArrayVec<Wanted, DEPTH>;
 
-/// Returns what is wanted after a head.
+/// Returns what is wanted after a head of this `format` and `version`: the order for version 1, and the tolerance for
+/// version 2.
 fn after_head(format: Format, version: Version) -> Wanted
     ensures { result ∷ [] ≡ wanted_after want.Head (item.Head format version) }
 {
@@ -292,7 +293,7 @@ fn allowance_item(
     Ok(Item::Allows(allowance))
 }
 
-/// Reads the limit, where it is wanted.
+/// Reads the limit from the `bytes` of a line, where it is wanted. `ended` says whether an LF ended the line.
 fn limit_item(bytes: &[u8], ended: bool) -> Result<Item, TextKind>
     ensures read { HasItem want.Limit bytes.now ended result }
     ensures stacked { (stack : List WantedValue) → IsStacked want.Limit result stack stack }
@@ -301,7 +302,7 @@ fn limit_item(bytes: &[u8], ended: bool) -> Result<Item, TextKind>
     Ok(Item::Limit(limit_on(&mut words)?))
 }
 
-/// Reads the end, where it is wanted.
+/// Reads the end from the `bytes` of a line, where it is wanted. `ended` says whether an LF ended the line.
 fn end_item(bytes: &[u8], ended: bool) -> Result<Item, TextKind>
     ensures read { HasItem want.End bytes.now ended result }
     ensures stacked { (stack : List WantedValue) → IsStacked want.End result stack stack }

@@ -29,7 +29,7 @@ pub(crate) const PLAIN_HEAD_TWO: &[u8] = b"county-groups certificate 2";
 /// The first line of a wide certificate of version 2.
 pub(crate) const WIDE_HEAD_TWO: &[u8] = b"county-groups wide certificate 2";
 
-/// Returns the format and the version that the first line names.
+/// Returns the format and the version that `bytes`, the first line, name. Returns `BadHead` if they are no head.
 #[tactic(auto, unfolding(crate::specs::Lines::head_on))]
 pub(crate) fn head_on(bytes: &[u8]) -> Result<(Format, Version), TextKind>
     ensures { result ≡ head_on bytes.now }
@@ -47,7 +47,8 @@ pub(crate) fn head_on(bytes: &[u8]) -> Result<(Format, Version), TextKind>
     }
 }
 
-/// Reads the tolerance that a certificate names, which is a fraction of at most a half.
+/// Reads the tolerance that a certificate names from the `words` of its line. It is a fraction of at most a half, with
+/// a numerator of at most 500 and a denominator from 1 to 1,000.
 #[tactic(auto, unfolding(crate::specs::Lines::tolerance_on))]
 pub(crate) fn tolerance_on(words: &mut Words) -> Result<Tolerance, TextKind>
     ensures { result ≡ tolerance_on words.old }
@@ -66,7 +67,7 @@ pub(crate) fn tolerance_on(words: &mut Words) -> Result<Tolerance, TextKind>
     }
 }
 
-/// Reads the order.
+/// Reads the order, at most 256 codes, from the `words` of its line.
 #[tactic(auto, unfolding(crate::specs::Lines::order_on))]
 pub(crate) fn order_on(alloc: Global, words: &mut Words) -> Result<Codes, TextKind>
     ensures { GivesUnless (λ k. k ≡ Memory) (λ c. c) result (order_on words.old) }
@@ -76,7 +77,7 @@ pub(crate) fn order_on(alloc: Global, words: &mut Words) -> Result<Codes, TextKi
     words.codes_left(alloc)
 }
 
-/// Reads the limit.
+/// Reads the limit, from 0 to 256 counties, from the `words` of its line.
 #[tactic(auto, unfolding(crate::specs::Lines::limit_on))]
 pub(crate) fn limit_on(words: &mut Words) -> Result<u16, TextKind>
     ensures { result ≡ limit_on words.old }
@@ -86,7 +87,7 @@ pub(crate) fn limit_on(words: &mut Words) -> Result<u16, TextKind>
     Ok(words.number(0, MOST)? as u16)
 }
 
-/// Reads the number of groups of the target, or `None` if there is no target.
+/// Reads the number of groups of the target, from 0 to 256, from `words`, or returns `None` if there is no target.
 #[tactic(auto, unfolding(crate::specs::Lines::target_on))]
 pub(crate) fn target_on(words: &mut Words) -> Result<Option<u16>, TextKind>
     ensures { result ≡ target_on words.old }
@@ -100,7 +101,8 @@ pub(crate) fn target_on(words: &mut Words) -> Result<Option<u16>, TextKind>
     }
 }
 
-/// Reads a group of the target.
+/// Reads a group of the target from the `words` of its line: its seats, from 0 to 65,535, and the codes of 1 to 256
+/// counties.
 #[tactic(auto, unfolding(crate::specs::Lines::group_on))]
 pub(crate) fn group_on(alloc: Global, words: &mut Words) -> Result<Group, TextKind>
     ensures { GivesUnless (λ k. k ≡ Memory) (λ g. g) result (group_on words.old) }
@@ -219,7 +221,8 @@ pub(crate) fn part_on(
     }
 }
 
-/// Reads the codes of a take, or `None` at the mark.
+/// Reads the codes of a take, from 1 to 256, from the `words` of its line, or returns `None` at the mark. Returns
+/// `BadWord` for any other first word.
 #[tactic(auto, unfolding(crate::specs::Lines::take_on))]
 pub(crate) fn take_on(alloc: Global, words: &mut Words) -> Result<Option<Codes>, TextKind>
     ensures { GivesUnless (λ k. k ≡ Memory) (λ c. c) result (take_on words.old) }
@@ -265,7 +268,7 @@ fn weigh_on(alloc: Global, words: &mut Words) -> Result<Allowance, TextKind>
     }
 }
 
-/// Reads a line of a bound leaf.
+/// Reads a line of a bound leaf from `words`. Returns `BadWord` if its first word is neither `room` nor `weigh`.
 #[tactic(auto, unfolding(crate::specs::Lines::allowance_on))]
 pub(crate) fn allowance_on(alloc: Global, words: &mut Words) -> Result<Allowance, TextKind>
     ensures { GivesUnless (λ k. k ≡ Memory) (λ a. a) result (allowance_on words.old) }
@@ -280,7 +283,7 @@ pub(crate) fn allowance_on(alloc: Global, words: &mut Words) -> Result<Allowance
     }
 }
 
-/// Reads the end.
+/// Reads the end from the `words` of its line, which is `end` alone.
 #[tactic(auto, unfolding(crate::specs::Lines::end_on))]
 pub(crate) fn end_on(words: &mut Words) -> Result<(), TextKind>
     ensures { result ≡ end_on words.old }

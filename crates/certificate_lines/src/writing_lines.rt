@@ -29,7 +29,7 @@ pub fn push_head(out: &mut Vec<u8>, format: Format, version: Version) -> Result<
     out.extend_from_slice(b"\n")
 }
 
-/// Appends the line that names the tolerance.
+/// Appends the line that names `tolerance`: `window`, its numerator and its denominator.
 pub fn push_tolerance(out: &mut Vec<u8>, tolerance: Tolerance) -> Result<(), AllocError>
     ensures { OnOk result (out.new.items ≡ out.old.items ++ item_line (item.Within tolerance)) }
 {

@@ -16,7 +16,7 @@ use certificate_lines::{
 };
 use county_codes::{Group, Grouping, Tolerance};
 
-/// Returns whether the lines of a bound leaf after its first one fit.
+/// Returns whether the lines of `allowances`, those of a bound leaf after its first one, fit.
 fn allowances_fit(allowances: &[Allowance]) -> bool
     ensures { Tests (allowances_wanted (length allowances.now)) (map item.Allows allowances.now) [] result }
 {
@@ -28,7 +28,7 @@ fn allowances_fit(allowances: &[Allowance]) -> bool
     true
 }
 
-/// Returns whether the lines of a bound leaf fit.
+/// Returns whether the lines of a bound leaf with these `allowances` fit, of which there may be at most 256.
 fn bound_fits(allowances: &[Allowance]) -> bool
     ensures { (format : Format) (levels : ℕ)
         → Tests (want.Tree format levels ∷ []) (leaf_items (bound (map allowance_of allowances.now))) [] result }
@@ -87,7 +87,7 @@ pub fn tree_fits(tree: &Tree, format: Format, levels: u16) -> bool
     leaf_fits(&tree.leaf)
 }
 
-/// Returns whether the head fits, and the line of the tolerance if one is named.
+/// Returns whether the head fits, and the line of `tolerance` if one is named.
 fn head_fits(tolerance: Option<Tolerance>) -> bool
     ensures { (format : Format)
         → Tests (want.Head ∷ []) (items_of_head format tolerance) (want.Order format ∷ []) result }

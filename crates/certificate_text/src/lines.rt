@@ -35,7 +35,7 @@ fn push_weigh_line(out: &mut Vec<u8>, quota: u32, weights: &[Weight]) -> Result<
     Ok(())
 }
 
-/// Appends a line of a bound leaf.
+/// Appends the line of `allowance`, which is one of a bound leaf.
 fn push_allowance(out: &mut Vec<u8>, allowance: &Allowance) -> Result<(), AllocError>
     ensures { OnOk result (Added (item.Allows allowance.now ∷ []) out.old.items out.new.items) }
 {
@@ -45,7 +45,7 @@ fn push_allowance(out: &mut Vec<u8>, allowance: &Allowance) -> Result<(), AllocE
     }
 }
 
-/// Appends the lines of a bound leaf after its first one.
+/// Appends the lines of `allowances`, which are those of a bound leaf after its first one.
 fn push_allowances(out: &mut Vec<u8>, allowances: &[Allowance]) -> Result<(), AllocError>
     ensures { OnOk result (Added (map item.Allows allowances.now) out.old.items out.new.items) }
 {
@@ -69,7 +69,8 @@ fn push_leaf(out: &mut Vec<u8>, leaf: &Leaf) -> Result<(), AllocError>
     }
 }
 
-/// Appends the line that opens a branch. Returns an error if memory was refused.
+/// Appends the line that opens a branch at `county`, with its `limit` if there is one. Returns an error if memory was
+/// refused.
 pub fn push_branch_line(
     out: &mut Vec<u8>,
     county: CountyCode,
@@ -83,7 +84,7 @@ pub fn push_branch_line(
     }
 }
 
-/// Appends the line of a take. Returns an error if memory was refused.
+/// Appends the line of a take of the counties `codes`. Returns an error if memory was refused.
 pub fn push_take_line(out: &mut Vec<u8>, codes: &[CountyCode]) -> Result<(), AllocError>
     ensures { OnOk result (Added (item.Takes codes.now ∷ []) out.old.items out.new.items) }
 {
@@ -143,7 +144,7 @@ pub fn tree_lines(alloc: Global, tree: &Tree) -> Result<Vec<u8>, AllocError>
     Ok(out)
 }
 
-/// Appends the head, and the line of the tolerance if one is named.
+/// Appends the head of this `format`, and the line of `tolerance` if one is named.
 fn push_head_lines(
     out: &mut Vec<u8>,
     format: Format,

@@ -55,7 +55,8 @@ fn groups_at(alloc: Global, cursor: &mut Cursor, count: u16) -> Result<Vec<Group
     Ok(groups)
 }
 
-/// Reads the groups that a branch takes, each with its tree, up to the mark of the branch.
+/// Reads from `cursor` the groups that a branch takes, each with its tree, up to the mark of the branch. The branches
+/// of these trees may open `levels - 1` levels.
 #[cycle(tree_lines)]
 fn takes_at(
     alloc: Global,
@@ -125,7 +126,7 @@ fn tree_at(
     }
 }
 
-/// Reads the format, and the tolerance if one is named.
+/// Reads the format from the head at `cursor`, and the tolerance if one is named.
 fn head_at(cursor: &mut Cursor) -> Result<(Format, Option<Tolerance>), TextFault>
     ensures read { IfOk result (λ h. ReadsItems (want.Head ∷ []) cursor.old (items_of_head h.0 h.1) (want.Order h.0
         ∷ []) cursor.new) }
@@ -141,7 +142,7 @@ fn head_at(cursor: &mut Cursor) -> Result<(Format, Option<Tolerance>), TextFault
     }
 }
 
-/// Reads the target, or `None` if there is none.
+/// Reads the target at `cursor`, or returns `None` if there is none.
 fn target_at(alloc: Global, cursor: &mut Cursor) -> Result<Option<Grouping>, TextFault>
     ensures { ReadsAll (want.Target ∷ []) (λ t. items_of_target (target_of t)) [] cursor.old result cursor.new }
 {

@@ -34,7 +34,7 @@ fn text_of(bytes: &[u8]) -> Option<&str>
     }
 }
 
-/// Returns the name that a line `file NAME` gives. Any other line gives none.
+/// Returns the name that `line` gives if it is `file NAME`. Returns `None` for any other line.
 fn named_file(line: &[u8]) -> Option<&[u8]>
     ensures { option_map (λ s. s.now) result ≡ file_name line.now }
 {
@@ -128,7 +128,7 @@ fn take_line<'a>(pieces: &mut RawLines<'a>) -> &'a [u8]
     }
 }
 
-/// Returns the first line and the files of a case, or `None` if the line or the name of a file isn't UTF-8.
+/// Returns the first line and the files of the case `text`, or `None` if the line or the name of a file isn't UTF-8.
 fn parts_in<'a>(
     alloc: Global,
     text: &'a [u8],
@@ -209,8 +209,8 @@ fn case_answer(
     }
 }
 
-/// Reads and runs a case, and returns the exit status and the run that has ended. All that `run_case` promises holds of
-/// it and of its status.
+/// Reads a case from `input` and runs it, and returns the exit status and the run that has ended. All that `run_case`
+/// promises holds of it and of its status.
 pub fn run_case_with_notes<R: Source, W: Sink>(
     alloc: Global,
     input: &mut R,
@@ -254,9 +254,9 @@ pub fn run_case_with_notes<R: Source, W: Sink>(
     }
 }
 
-/// Reads a case and runs its words over its files, which are held in memory. Returns the exit status. The files that
-/// were stored follow the answer on `out`. If the first line or the name of a file isn't UTF-8, nothing is written and
-/// the status is 2. A case of more than 16,777,216 bytes is refused. If the reading failed, the answer is
+/// Reads a case from `input` and runs its words over its files, which are held in memory. Returns the exit status. The
+/// files that were stored follow the answer on `out`. If the first line or the name of a file isn't UTF-8, nothing is
+/// written and the status is 2. A case of more than 16,777,216 bytes is refused. If the reading failed, the answer is
 /// `device case Device`.
 pub fn run_case<R: Source, W: Sink>(alloc: Global, input: &mut R, out: &mut W) -> u8
     requires { R.is_failed input.old ≡ false }

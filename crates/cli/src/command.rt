@@ -29,7 +29,7 @@ use cli_words::{CommandWords, WordsEnd, parse};
 use std::alloc::{AllocError, Global};
 use written_output::Written;
 
-/// Runs a command. Returns its answer, or the refusal with which it ends before that. What `board` and `desk` have to
+/// Runs `command`. Returns its answer, or the refusal with which it ends before that. What `board` and `desk` have to
 /// say before it is written to `out` at once.
 fn command_end<H: FileStore, W: Sink, V: Watcher>(
     alloc: Global,
@@ -60,7 +60,7 @@ fn command_end<H: FileStore, W: Sink, V: Watcher>(
     }
 }
 
-/// Runs a command and returns its answer. Returns `AllocError` if memory was refused. What `board` and `desk` have to
+/// Runs `command` and returns its answer. Returns `AllocError` if memory was refused. What `board` and `desk` have to
 /// say before it is written to `out` at once.
 pub(crate) fn command_answer<H: FileStore, W: Sink, V: Watcher>(
     alloc: Global,
@@ -84,7 +84,8 @@ pub(crate) fn command_answer<H: FileStore, W: Sink, V: Watcher>(
     }
 }
 
-/// Returns the text and the status of the answer to words that give no command.
+/// Returns the text and the status of the answer to words that give no command, as `words_end` tells. The status is 0
+/// for help and the version, 2 for a fault of the words, and 5 if memory was refused to them.
 fn end_text(alloc: Global, words_end: &WordsEnd) -> Result<(Vec<u8>, u8), AllocError>
     ensures { IfOk result (λ r. IsEndAnswer words_end.now (record { text = r.0.items; status = r.1 })) }
 {
@@ -96,7 +97,7 @@ fn end_text(alloc: Global, words_end: &WordsEnd) -> Result<(Vec<u8>, u8), AllocE
     Ok((Vec::from_slice(alloc, text)?, status))
 }
 
-/// Returns the answer to words that give no command.
+/// Returns the answer to words that give no command, as `words_end` tells.
 fn words_end_answer(alloc: Global, words_end: WordsEnd) -> Result<RunAnswer, AllocError>
     ensures { IfOk result (λ a. IsEndAnswer words_end (answer_of a)) }
 {
@@ -171,8 +172,8 @@ fn deliver_said<W: Sink>(out: &mut W, written: &Written, said: &Result<RunAnswer
     }
 }
 
-/// Runs one command, and returns the exit status and the run that has ended. `watcher` is told how far a search is. All that
-/// `run` promises holds of it and of its status, for each watcher.
+/// Runs the command of `words`, and returns the exit status and the run that has ended. `watcher` is told how far a
+/// search is. All that `run` promises holds of it and of its status, for each watcher.
 pub fn run_with_notes<H: FileStore, W: Sink, V: Watcher>(
     alloc: Global,
     words: &[&str],

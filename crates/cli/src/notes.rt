@@ -72,18 +72,19 @@ impl Notes {
         self.note_states(notes);
     }
 
-    /// Notes the counties that were read, and what else the census files say.
+    /// Notes how many `counties` were read and how many people they have, and what else the census files say, as
+    /// `notes` tell.
     pub(crate) fn note_counties(&mut self, counties: &[County], notes: &CensusNotes) {
         self.note_people(counties);
         self.note_census(notes);
     }
 
-    /// Notes the first bytes of the geographic header.
+    /// Notes `head`, the first bytes of the geographic header.
     pub(crate) fn note_geo_head(&mut self, head: Vec<u8>) {
         self.geo_head = head;
     }
 
-    /// Notes whether the adjacency file has a pair of listed counties.
+    /// Notes whether the adjacency file has a pair of listed counties, as `has_pairs` tells.
     pub(crate) fn note_pairs(&mut self, has_pairs: bool) {
         self.has_pairs = Some(has_pairs);
     }
@@ -100,7 +101,8 @@ impl Notes {
         self.stored.add(option);
     }
 
-    /// Notes the report of a command, or the text of a list or of a board, whose files could not all be stored.
+    /// Notes `report`, which is that of a command, or the text of a list or of a board, whose files could not all be
+    /// stored.
     pub(crate) fn note_report(&mut self, report: Vec<u8>) {
         self.report = Some(report);
     }

@@ -28,8 +28,9 @@ fn is_recorded(status: u8) -> bool
     status == 0 || status == 1 || status == 3
 }
 
-/// Returns the answer that stands once the record was handed over. It is that of the run, or the answer to a refused
-/// file.
+/// Returns the answer that stands once the record was handed over. It is `answer`, that of the run, or the answer to a
+/// refused file. Unless the record was stored, the text of `answer` is noted. Returns `AllocError` if `handed_over`
+/// says that memory was refused.
 fn answer_after(
     handed_over: Result<(), Refusal>,
     answer: RunAnswer,
@@ -70,7 +71,8 @@ fn store_bytes<H: FileStore>(
     answer_after(handed_over, answer, notes)
 }
 
-/// Reports that a growth was refused while the record was composed. Nothing more is stored.
+/// Reports `AllocError`, since a growth was refused while the record was composed, and notes the text of `answer`.
+/// Nothing more is stored.
 fn uncomposed(answer: RunAnswer, notes: &mut Notes) -> Result<RunAnswer, AllocError>
     ensures { said_of result ≡ memory_answer }
 {
@@ -167,7 +169,8 @@ fn store_record<H: FileStore>(
     }
 }
 
-/// Runs a command whose words name a file for the record of the run, and returns its answer.
+/// Runs `command`, whose words name the file `name` for the record of the run, and returns its answer. The record is
+/// stored if the answer's status asks for it. Returns `AllocError` if memory was refused.
 fn answer_with_record<H: FileStore, W: Sink, V: Watcher>(
     alloc: Global,
     words: &[&str],
@@ -197,7 +200,7 @@ fn answer_with_record<H: FileStore, W: Sink, V: Watcher>(
     }
 }
 
-/// Runs a command and returns its answer. The record of the run is stored if the words name a file for it and the
+/// Runs `command` and returns its answer. The record of the run is stored if the words name a file for it and the
 /// answer's status asks for it. What `board` and `desk` have to say before it is written to `out` at once.
 pub(crate) fn answer_as_asked<H: FileStore, W: Sink, V: Watcher>(
     alloc: Global,

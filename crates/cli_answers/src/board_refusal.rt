@@ -64,7 +64,7 @@ fn word_of_board_fault(fault: BoardFault) -> &'static [u8]
     }
 }
 
-/// Returns the line `refused board KIND`.
+/// Returns the line `refused board KIND`, where KIND is `kind`.
 #[tactic(auto, unfolding(crate::specs::Refusals::refused_board))]
 fn board_text(alloc: Global, kind: &[u8]) -> Result<Vec<u8>, AllocError>
     ensures { IfOk result (λ v. v.items ≡ refused_board kind.now) }
@@ -89,9 +89,9 @@ fn refuse_budget(alloc: Global) -> Refusal
     Refusal::of_text(text, 3, RunOutcome::Board(BoardFault::Budget))
 }
 
-/// Returns the refusal of a board: `refused board KIND` with exit status 4. If the budget is too small to open the
-/// board, it is `budget` with exit status 3. A target that isn't lawful is `Target`, whatever its fault. Returns
-/// `Memory` if that is the fault, or if memory for the line was refused.
+/// Returns the refusal of a board for `fault`: `refused board KIND` with exit status 4. If the budget is too small to
+/// open the board, it is `budget` with exit status 3. A target that isn't lawful is `Target`, whatever its fault.
+/// Returns `Memory` if that is the fault, or if memory for the line was refused.
 pub fn refuse_board(alloc: Global, fault: BoardFault) -> Refusal
     ensures answer { RefusalShows (board_answer fault) result }
     ensures shown { IsShown result → fault ≢ board.Memory }

@@ -11,7 +11,7 @@ use field_lines::push_number;
 use state_judge::{CheckFault, push_check_fault};
 use std::alloc::{AllocError, Global};
 
-/// Returns the line `no KIND line L`.
+/// Returns the line `no KIND line L` for `fault` on the line `line`.
 #[tactic(auto, unfolding(crate::specs::CheckLines::no_line))]
 fn no_text(alloc: Global, fault: CheckFault, line: u64) -> Result<Vec<u8>, AllocError>
     ensures { IfOk result (λ v. v.items ≡ no_line fault line) }
@@ -29,8 +29,9 @@ fn no_certificate(fault: &CheckFault, line: u64) -> RunOutcome {
     RunOutcome::NoCertificate(*fault, line)
 }
 
-/// Returns the answer to a text that is no certificate: `no KIND line L` with exit status 1. If the kind tells of a
-/// fault of the text or of the target, that fault's own kind follows it. The line counts from 1.
+/// Returns the answer to a text that is no certificate: `no KIND line L` with exit status 1, for `fault` on the line
+/// `line`. If the kind tells of a fault of the text or of the target, that fault's own kind follows it. The line counts
+/// from 1.
 ///
 /// # Errors
 ///

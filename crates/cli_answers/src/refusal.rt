@@ -142,7 +142,7 @@ fn line_of_cut(fault: LineFault, line: u32) -> u32
     }
 }
 
-/// Returns the line `refused FILE KIND line L`.
+/// Returns the line `refused FILE KIND line L`, from `file`, `kind` and `line`.
 #[tactic(auto, unfolding(crate::specs::Refusals::refused_line))]
 fn refused_text(alloc: Global, file: &[u8], kind: &[u8], line: u64) -> Result<Vec<u8>, AllocError>
     ensures { IfOk result (λ v. v.items ≡ refused_line file.now kind.now line) }
@@ -271,7 +271,7 @@ pub fn refuse_assignments(alloc: Global, fault: AssignmentFault, refused: Refuse
     )
 }
 
-/// Returns the line `fault KIND`, with the group, the county or the seats of the fault after the kind.
+/// Returns the line `fault KIND` for `fault`, with the group, the county or the seats of the fault after the kind.
 #[tactic(auto, unfolding(crate::specs::Refusals::fault_line))]
 fn fault_text(alloc: Global, fault: GroupingFault) -> Result<Vec<u8>, AllocError>
     ensures { IfOk result (λ v. v.items ≡ fault_line fault) }
@@ -334,7 +334,7 @@ fn push_word(out: &mut Vec<u8>, word: &[u8]) -> Result<(), AllocError>
     out.extend_from_slice(word)
 }
 
-/// Appends the words for what is refused of a problem.
+/// Appends the words for the `fault` that a problem is refused for, with its codes or its set.
 fn push_problem(out: &mut Vec<u8>, fault: ProblemFault) -> Result<(), AllocError>
     ensures { OnOk result (out.new.items ≡ out.old.items ++ problem_words fault) }
 {
@@ -356,7 +356,7 @@ fn push_problem(out: &mut Vec<u8>, fault: ProblemFault) -> Result<(), AllocError
     }
 }
 
-/// Returns the line `refused problem KIND`, with the codes or the set of the fault after the kind.
+/// Returns the line `refused problem KIND` for `fault`, with the codes or the set of the fault after the kind.
 #[tactic(auto, unfolding(crate::specs::Refusals::refused_problem))]
 fn problem_text(alloc: Global, fault: ProblemFault) -> Result<Vec<u8>, AllocError>
     ensures { IfOk result (λ v. v.items ≡ refused_problem fault) }
@@ -367,8 +367,8 @@ fn problem_text(alloc: Global, fault: ProblemFault) -> Result<Vec<u8>, AllocErro
     Ok(out)
 }
 
-/// Returns the refusal of a problem: `refused problem KIND` with exit status 4. The codes or the set of the fault
-/// follow the kind. Returns `Memory` if that is the fault, or if memory for the line was refused.
+/// Returns the refusal of a problem for `fault`: `refused problem KIND` with exit status 4. The codes or the set of the
+/// fault follow the kind. Returns `Memory` if that is the fault, or if memory for the line was refused.
 pub fn refuse_problem(alloc: Global, fault: ProblemFault) -> Refusal
     ensures answer { RefusalShows (problem_answer fault) result }
     ensures shown { IsShown result → fault ≢ problem.Memory }
@@ -390,7 +390,7 @@ fn word_of_file_store_fault(fault: FileStoreFault) -> &'static [u8]
     }
 }
 
-/// Returns the line `device NAME KIND`.
+/// Returns the line `device NAME KIND`, from `name` and `kind`.
 #[tactic(auto, unfolding(crate::specs::Refusals::device_line))]
 fn device_text(alloc: Global, name: &[u8], kind: &[u8]) -> Result<Vec<u8>, AllocError>
     ensures { IfOk result (λ v. v.items ≡ device_line name.now kind.now) }

@@ -24,8 +24,8 @@ fn first_difference(own: &Counts, best: &Counts) -> Option<u16> {
     None
 }
 
-/// Explains that the certificate's grouping has greater counts than the lawful grouping. Names the first size at which
-/// they differ.
+/// Explains that the certificate's grouping has greater counts (`best`) than the lawful grouping (`own`). Names the
+/// first size, in counties, at which they differ.
 fn explain_lesser(
     out: &mut String,
     options: Options<'_>,
@@ -49,7 +49,7 @@ fn explain_lesser(
     }
 }
 
-/// Explains why a certificate doesn't show that a lawful grouping is best.
+/// Explains by `best_not_shown` why the certificate `text` doesn't show that a lawful grouping of `problem` is best.
 ///
 /// # Errors
 ///

@@ -36,7 +36,7 @@ fn remedy(fault: &BoardFault) -> &'static str {
     }
 }
 
-/// Explains why there is no board.
+/// Explains the `fault` for which there is no board, and says what helps against it.
 ///
 /// # Errors
 ///
@@ -61,7 +61,8 @@ pub(crate) fn explain_board(
     }
 }
 
-/// Returns what to do about pieces that wait.
+/// Returns what to do about pieces that wait, by the command of `options`. For `board` this is to run it again with
+/// more events. For any other command it is to append to the events and to run `share` again.
 fn way_on(options: Options<'_>) -> &'static str {
     match options.command {
         Some(CommandWords::Board(_)) => {

@@ -37,7 +37,8 @@ fn show_line(
     }
 }
 
-/// Returns the seats of a line `group SEATS CODE ..`, or `None` for any other line.
+/// Returns the seats of a `line` of the form `group SEATS CODE ..`. Returns `None` for any other line, and if the seats
+/// are missing or no number from 0 to 65,535.
 fn seats_in(line: &[u8]) -> Option<u32> {
     match field_at(line, b' ', 0) {
         Some(b"group") => number_in(field_at(line, b' ', 1)?, 0, 65_535),
@@ -45,7 +46,8 @@ fn seats_in(line: &[u8]) -> Option<u32> {
     }
 }
 
-/// Returns the seats of all groups of a certificate's target.
+/// Returns the seats of all groups of the target in a certificate's `text`. A line of a group counts nothing if its
+/// seats can't be read.
 fn target_seats(text: &[u8]) -> u64 {
     let mut seats: u64 = 0;
     for line in Fields::new(text, b'\n') {
@@ -54,7 +56,8 @@ fn target_seats(text: &[u8]) -> u64 {
     seats
 }
 
-/// Returns the tolerance of a line `tolerance PART WHOLE`, or `None` if a number is missing or out of range.
+/// Returns the tolerance of a `line` of the form `window PART WHOLE`. The first word isn't checked. Returns `None` if a
+/// number is missing or out of range: `PART` is 0 to 500, and `WHOLE` is 1 to 1,000.
 fn tolerance_on(line: &[u8]) -> Option<Tolerance> {
     let numerator = number_in(field_at(line, b' ', 1)?, 0, 500)?;
     let denominator = number_in(field_at(line, b' ', 2)?, 1, 1_000)?;
@@ -64,7 +67,8 @@ fn tolerance_on(line: &[u8]) -> Option<Tolerance> {
     })
 }
 
-/// Returns the tolerance that a certificate is for: that of its second line, or one twentieth if it names none.
+/// Returns the tolerance that the certificate `text` is for. This is the tolerance of its second line, or one twentieth
+/// if that line names none that can be read.
 fn tolerance_in(text: &[u8]) -> Tolerance {
     let line = whole_line(text, 2).unwrap_or(&[]);
     match field_at(line, b' ', 0) {
@@ -73,7 +77,7 @@ fn tolerance_in(text: &[u8]) -> Tolerance {
     }
 }
 
-/// Names the tolerance of a certificate, and that of the problem.
+/// Names the tolerance that the certificate `text` is for, and that of `problem`.
 fn explain_tolerances(out: &mut String, text: &[u8], problem: &Problem) -> Result<(), AllocError> {
     let (named, asked) = (tolerance_in(text), problem.tolerance());
     writeln!(
@@ -83,7 +87,8 @@ fn explain_tolerances(out: &mut String, text: &[u8], problem: &Problem) -> Resul
     )
 }
 
-/// Says what was done to the `text` on its way, or what else helps.
+/// Says what was done to the `text` of `file` on its way, or what else helps against the `fault`. If the fault is one
+/// of the target or of the tolerance, this compares the certificate with `problem` first.
 fn explain_help(
     out: &mut String,
     file: NamedFile<'_>,
@@ -118,7 +123,8 @@ fn explain_help(
     )
 }
 
-/// Explains why a text is no certificate of the problem: what is wrong with its line, the line, and what to do.
+/// Explains the `fault` in line `number` of `text`, for which it is no certificate of `problem`. This tells what is
+/// wrong with the line, the line if it is known, and what to do.
 ///
 /// # Errors
 ///

@@ -134,7 +134,7 @@ fn explain_judged(
     }
 }
 
-/// Explains what the run came to. Says nothing if all is well.
+/// Explains the outcome of the run that has `ended`. Says nothing if all is well.
 fn explain_outcome(
     rt: &impl Files,
     out: &mut String,
@@ -179,7 +179,7 @@ fn explain_outcome(
     }
 }
 
-/// Warns if the adjacency file hasn't a single pair of listed counties.
+/// Warns if the adjacency file hasn't a single pair of listed counties, as `notes` tell.
 fn warn_of_pairs(out: &mut String, options: Options<'_>, notes: &Notes) -> Result<(), AllocError> {
     if notes.has_pairs != Some(false) {
         return Ok(());
@@ -191,7 +191,8 @@ fn warn_of_pairs(out: &mut String, options: Options<'_>, notes: &Notes) -> Resul
     )
 }
 
-/// Warns of what the run met on its way.
+/// Warns of what `run` met on its way. The warnings of the state's people and of older files are left out if `options`
+/// have no command.
 fn warn(
     rt: &impl Files,
     out: &mut String,
@@ -209,10 +210,11 @@ fn warn(
     warn_of_older_files(rt, out, command, notes.stored)
 }
 
-/// Returns what a person is told of a run that has ended, in whole lines that each begin with `countygroups: `. Of a
-/// run that went well only warnings are told, unless standard output is a terminal. At a terminal, the groups of the
-/// answer follow with the names of their counties, or the findings of an audit by kind. If a store failed after a
-/// search, the report of the search follows as it is.
+/// Returns what a person is told of the run that has `ended`, in whole lines that each begin with `countygroups: `. If
+/// the answer could not be written, this is told in the place of the outcome. Of a run that went well only warnings are
+/// told, unless standard output is a terminal. At a terminal, the groups of the answer follow with the names of their
+/// counties, or the findings of an audit by kind. If a store failed after a search, the report of the search follows as
+/// it is.
 ///
 /// # Errors
 ///

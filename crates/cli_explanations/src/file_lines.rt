@@ -56,7 +56,8 @@ pub(crate) fn looks_like(text: &[u8]) -> Option<FileOption> {
     }
 }
 
-/// Returns the STATE of the first county line of a geographic header, if it has one.
+/// Returns the STATE of the first county line in `text`, the start of a geographic header. A county line has `050` in
+/// its field 3, and its field 13 is the STATE. Returns `None` if there is no such line or field.
 pub(crate) fn county_state(text: &[u8]) -> Option<&[u8]> {
     for line in Fields::new(text, b'\n') {
         if let Some(b"050") = field_at(line, b'|', 2) {
@@ -71,7 +72,7 @@ pub(crate) fn is_utf16(text: &[u8]) -> bool {
     matches!(text, [0xff, 0xfe, ..] | [0xfe, 0xff, ..])
 }
 
-/// Returns whether a file is a zip archive, by its first bytes.
+/// Returns whether `text`, a file or its start, begins with the bytes `PK`, as a zip archive does.
 pub(crate) fn is_zip(text: &[u8]) -> bool {
     text.starts_with(b"PK")
 }

@@ -9,7 +9,7 @@ use std::alloc::AllocError;
 use std::fmt::Write;
 
 /// Returns whether one of the `findings` names `set`.
-fn is_named(findings: &Findings, set: Set) -> bool {
+pub(crate) fn is_named(findings: &Findings, set: Set) -> bool {
     for finding in &findings.list {
         let (first, second) = match finding {
             Finding::Crosses(_, first, second) => (*first, *second),
@@ -50,7 +50,8 @@ fn explain_set(
     }
 }
 
-/// Says with which county each set begins that a finding names.
+/// Says with which county each group of `grouping` and each withdrawn set of `problem` begins that one of the
+/// `findings` names.
 fn explain_sets(
     out: &mut String,
     findings: &Findings,

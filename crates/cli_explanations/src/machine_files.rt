@@ -39,7 +39,7 @@ pub(crate) fn closed_reason(rt: &impl Files, path: &str) -> Option<&'static str>
     }
 }
 
-/// Returns an error of the system in plain words.
+/// Returns plain words for `reason`, an error of the system.
 pub(crate) fn words_of_reason(reason: ErrorKind) -> &'static str {
     match reason {
         ErrorKind::NotFound => "no such file or folder",

@@ -2,6 +2,7 @@
 //! of an audit by kind.
 
 use crate::county_names::push_county;
+use crate::findings::is_named;
 use crate::options::Options;
 use crate::shown_bytes::start_of;
 use baf_auditor::{Finding, Findings, Set};
@@ -47,7 +48,7 @@ const KINDS: [Kind; 6] = [
     },
 ];
 
-/// Appends what stands before a county: a blank before the first, and a comma and a blank before any other.
+/// Appends what stands before a county: a blank if it `is_first`, and a comma and a blank before any other.
 fn push_mark(out: &mut String, is_first: bool) -> Result<(), AllocError> {
     if is_first {
         out.push_str(" ")
@@ -111,7 +112,8 @@ fn push_groups(out: &mut String, head: &[u8], answer: &[u8]) -> Result<(), Alloc
     Ok(())
 }
 
-/// Returns the index in `KINDS` of a finding's kind, or `None` if its kind isn't counted.
+/// Returns the index in `KINDS` of the kind of `finding`. Returns `None` if the finding is a fault of the grouping,
+/// which isn't counted.
 fn kind_of(finding: &Finding) -> Option<usize> {
     match finding {
         Finding::Grouping(_) => None,
@@ -124,7 +126,7 @@ fn kind_of(finding: &Finding) -> Option<usize> {
     }
 }
 
-/// Appends how many findings of each kind there are. A kind without findings has no line.
+/// Appends how many of the `findings` there are of each kind. A kind without findings has no line.
 fn push_kinds(out: &mut String, findings: &Findings) -> Result<(), AllocError> {
     for (place, kind) in KINDS.iter().enumerate() {
         let count = findings
@@ -139,21 +141,6 @@ fn push_kinds(out: &mut String, findings: &Findings) -> Result<(), AllocError> {
         }
     }
     Ok(())
-}
-
-/// Returns whether one of the `findings` names `set`.
-fn names_set(findings: &Findings, set: Set) -> bool {
-    for finding in &findings.list {
-        let is_named = match finding {
-            Finding::Crosses(_, first, second) => *first == set || *second == set,
-            Finding::WrongNumber(named, _, _) => *named == set,
-            _ => false,
-        };
-        if is_named {
-            return true;
-        }
-    }
-    false
 }
 
 /// Appends the names of the counties of a set that a finding names. `noun` and `number` tell which set it is.
@@ -176,7 +163,8 @@ fn push_set(
     out.push_str("\n")
 }
 
-/// Appends the findings of an audit by kind, and the sets that they name with the names of their counties.
+/// Appends the number of `findings` of each kind, and then the sets of `subject` that they name, with the names of
+/// their counties. `head` is the start of the geographic header, which has these names.
 fn push_findings(
     out: &mut String,
     head: &[u8],
@@ -186,13 +174,13 @@ fn push_findings(
     push_kinds(out, findings)?;
     if let Some(grouping) = &subject.grouping {
         for (number, group) in (1..=u32::MAX).zip(&grouping.groups) {
-            if names_set(findings, Set::Group(number)) {
+            if is_named(findings, Set::Group(number)) {
                 push_set(out, head, "group", number, &group.codes)?;
             }
         }
     }
     for (number, set) in (1..=u32::MAX).zip(subject.problem.withdrawn()) {
-        if names_set(findings, Set::Withdrawn(number)) {
+        if is_named(findings, Set::Withdrawn(number)) {
             push_set(out, head, "withdrawn set", number, &set.codes)?;
         }
     }
@@ -210,8 +198,9 @@ fn has_groups(command: CommandWords<'_>) -> bool {
     )
 }
 
-/// Appends what a person at a terminal is told after an answer. This is either the groups of a report or of a listing
-/// with the names of their counties, or the findings of an audit by kind.
+/// Appends what a person at a terminal is told after the answer of `run`. This is either the groups of a report or of a
+/// listing with the names of their counties, or the findings of an audit by kind. Appends nothing if the answer can
+/// have no groups and there are no findings.
 ///
 /// # Errors
 ///

@@ -106,7 +106,7 @@ fn warn_of_one_name(
     Ok(())
 }
 
-/// Warns if two outputs have one name.
+/// Warns of each two outputs of `command` that have one name.
 fn warn_of_shared_names(out: &mut String, command: CommandWords<'_>) -> Result<(), AllocError> {
     for (option, noun) in OUTPUTS {
         if let Some(path) = path_in(command, option) {
@@ -116,7 +116,8 @@ fn warn_of_shared_names(out: &mut String, command: CommandWords<'_>) -> Result<(
     Ok(())
 }
 
-/// Warns of what is amiss with the names of the outputs, before the run.
+/// Warns of what is amiss with the names of the outputs of `command`, before the run. The name may be that of another
+/// output or of an input, or no file can be stored under it.
 ///
 /// # Errors
 ///

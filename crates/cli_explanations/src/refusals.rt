@@ -95,7 +95,8 @@ fn explain_state(out: &mut String, text: &[u8]) -> Result<(), AllocError> {
     }
 }
 
-/// Returns the census file that an `audit` could not read a second time because it is a pipe. Returns `None` otherwise.
+/// Returns the census file that an `audit` could not read a second time because it is a pipe. The `kind` of the fault
+/// and the `text` that was read tell which file this is. Returns `None` otherwise.
 fn spent_file<'a>(
     rt: &impl Files,
     options: Options<'a>,
@@ -112,7 +113,8 @@ fn spent_file<'a>(
     }
 }
 
-/// Says what helps against a fault of the geographic header or of segment 1.
+/// Says what helps against a fault of this `kind` in the geographic header or in segment 1, whichever is the file of
+/// `option`. `text` is the text of that file, or its start.
 fn explain_census(
     rt: &impl Files,
     out: &mut String,
@@ -159,7 +161,7 @@ fn name_on(line: Option<&[u8]>) -> &[u8] {
     }
 }
 
-/// Says what helps against a NAME that isn't UTF-8.
+/// Says what helps against the NAME on a county `line` that isn't UTF-8, and shows the NAME.
 fn explain_name(out: &mut String, line: Option<&[u8]>) -> Result<(), AllocError> {
     let name = start_of(name_on(line));
     writeln!(
@@ -211,7 +213,8 @@ pub(crate) fn explain_refused(
     explain_help(rt, out, options, option, fault, (text.head(), line))
 }
 
-/// Explains why the problem is refused.
+/// Explains the `fault` for which the problem is refused, and names the file at fault. If the tolerance is out of
+/// range, this names its two options instead.
 ///
 /// # Errors
 ///

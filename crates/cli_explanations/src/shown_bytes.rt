@@ -13,8 +13,8 @@ pub(crate) struct Shown<'a> {
     most: usize,
 }
 
-/// Returns the start of a line or a field as it may be shown, up to 120 characters. After 120 characters, dots stand
-/// for the rest.
+/// Returns the start of `bytes`, a line or a field, as it may be shown, up to 120 characters. After 120 characters,
+/// dots stand for the rest.
 pub(crate) fn start_of(bytes: &[u8]) -> Shown<'_> {
     Shown { bytes, most: MOST }
 }

@@ -8,7 +8,8 @@ use cli_words::CommandWords;
 use std::alloc::AllocError;
 use std::fmt::Write;
 
-/// Warns if the counties that were read have another number of people in all than the state's own line.
+/// Warns if the counties that were read have another number of people in all than the state's own line, as `notes`
+/// tell. Says nothing if one of the two numbers was not read.
 ///
 /// # Errors
 ///
@@ -31,7 +32,7 @@ pub(crate) fn warn_of_state(
     )
 }
 
-/// Returns whether both bytes are ASCII letters.
+/// Returns whether both of `letters` are ASCII letters.
 fn are_letters(letters: [u8; 2]) -> bool {
     let [first, second] = letters;
     first.is_ascii_alphabetic() && second.is_ascii_alphabetic()
@@ -44,7 +45,8 @@ fn push_letters(out: &mut String, letters: [u8; 2]) -> Result<(), AllocError> {
     write!(out, "{first}{second}")
 }
 
-/// Warns if the geographic header and segment 1 name two states.
+/// Warns if the geographic header and segment 1 name two states, as `notes` tell. Says nothing if a name was not read
+/// or isn't two ASCII letters.
 ///
 /// # Errors
 ///

@@ -108,7 +108,7 @@ fn is_refusal(outcome: &RunOutcome, warning: Warning) -> bool {
         )
 }
 
-/// Appends the warnings that the run noted, but for those that its refusal says already.
+/// Appends a line for each warning that `run` noted, but for those that its refusal says already.
 ///
 /// # Errors
 ///

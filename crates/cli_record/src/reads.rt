@@ -85,7 +85,7 @@ fn push_read(
     }
 }
 
-/// Appends the line of a file that the words may name, if it was read.
+/// Appends the line of a file to `reads`, if the words give its `name` and the file was read.
 fn push_if_named(
     reads: &mut Vec<FileRead>,
     sums: &[EventSum],
@@ -101,7 +101,7 @@ fn push_if_named(
     }
 }
 
-/// Appends the lines of the two census files, each if it was read.
+/// Appends to `reads` the lines of the two census files that `words` name, each if it was read.
 fn push_census(
     reads: &mut Vec<FileRead>,
     sums: &[EventSum],
@@ -114,7 +114,7 @@ fn push_census(
     push_read(reads, sums, ReadFile::Segment1, words.segment)
 }
 
-/// Appends the lines of the files of a problem, each if it was read.
+/// Appends to `reads` the lines of the files of a problem that `words` name, each if it was read.
 fn push_problem(
     reads: &mut Vec<FileRead>,
     sums: &[EventSum],
@@ -145,7 +145,7 @@ fn push_problem_and(
     push_read(reads, sums, file, name)
 }
 
-/// Appends the lines of the files of a board, each if it was read.
+/// Appends to `reads` the lines of the files of a board that `words` name, each if it was read.
 fn push_board(
     reads: &mut Vec<FileRead>,
     sums: &[EventSum],
@@ -163,7 +163,7 @@ fn push_board(
     )
 }
 
-/// Appends the lines of the files that `judge` reads, each if it was read.
+/// Appends to `reads` the lines of the files that `judge` reads by its `words`, each if it was read.
 fn push_judge(
     reads: &mut Vec<FileRead>,
     sums: &[EventSum],
@@ -177,7 +177,7 @@ fn push_judge(
     push_if_named(reads, sums, ReadFile::Certificate, words.certificate)
 }
 
-/// Appends the lines of the files that `list` reads, each if it was read.
+/// Appends to `reads` the lines of the files that `list` reads by its `words`, each if it was read.
 fn push_list(
     reads: &mut Vec<FileRead>,
     sums: &[EventSum],
@@ -191,7 +191,7 @@ fn push_list(
     push_read(reads, sums, ReadFile::Certificate, words.check.certificate)
 }
 
-/// Appends the lines of the files that `audit` reads, each if it was read.
+/// Appends to `reads` the lines of the files that `audit` reads by its `words`, each if it was read.
 fn push_audit(
     reads: &mut Vec<FileRead>,
     sums: &[EventSum],
@@ -220,7 +220,7 @@ fn push_board_and_events(
     push_read(reads, sums, ReadFile::Events, events)
 }
 
-/// Appends the lines of the files that `piece` reads, each if it was read.
+/// Appends to `reads` the lines of the files that `piece` reads by its `words`, each if it was read.
 fn push_piece(
     reads: &mut Vec<FileRead>,
     sums: &[EventSum],
@@ -233,7 +233,8 @@ fn push_piece(
     push_if_named(reads, sums, ReadFile::Events, words.events)
 }
 
-/// Appends the lines of the files of a problem, and then that of a certificate, each if it was read.
+/// Appends to `reads` the lines of the files of a problem that `words` name, and then that of the certificate, each if
+/// it was read.
 fn push_certificate(
     reads: &mut Vec<FileRead>,
     sums: &[EventSum],

@@ -13,7 +13,7 @@ use cli_file_stores::EventSum;
 use cli_words::{CommandWords, version_text};
 use std::alloc::{AllocError, Global};
 
-/// Returns the name of the file that the words give for the record of the run, if they give one.
+/// Returns the name of the file that `command` gives for the record of the run, or `None` if it gives none.
 pub fn record_file<'a>(command: &CommandWords<'a>) -> Option<&'a str>
     ensures { option_map (λ n. n.now) result ≡ record_name_of command.now }
 {
@@ -42,7 +42,8 @@ fn texts_of(alloc: Global, words: &[&str]) -> Result<Vec<String>, AllocError>
     Ok(texts)
 }
 
-/// Returns what the record says of a run.
+/// Returns what the record says of the run of `command`: the version, the `words`, the files read and stored, the
+/// `status` and the answer in `text`. `sums` are those of the events of the run's file store.
 fn run_of(
     alloc: Global,
     words: &[&str],

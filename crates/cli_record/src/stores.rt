@@ -82,7 +82,7 @@ fn push_audit(
     }
 }
 
-/// Appends the option of a listed grouping, if one is to be stored.
+/// Appends `Out`, the option of a listed grouping, to `options`, if `words` ask for one to be stored.
 fn push_if_listed(
     options: &mut Vec<StoreOption>,
     words: &Option<StoredWords<'_>>,

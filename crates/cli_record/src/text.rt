@@ -11,7 +11,7 @@ use cli_file_stores::ByteSum;
 use field_lines::push_number;
 use std::alloc::{AllocError, Global};
 
-/// Appends the word for a file that is read.
+/// Appends the word for `file`, the kind of a file that is read.
 fn push_file_word(out: &mut Vec<u8>, file: ReadFile) -> Result<(), AllocError>
     ensures { OnOk result (out.new.items ≡ out.old.items ++ word_of_file file) }
 {
@@ -55,7 +55,7 @@ fn push_named_sum(out: &mut Vec<u8>, sum: &ByteSum, name: &[u8]) -> Result<(), A
     push_escaped(out, name)
 }
 
-/// Appends ` left` if a file was left before its end.
+/// Appends ` left` if the file was `left` before its end.
 fn push_left(out: &mut Vec<u8>, left: bool) -> Result<(), AllocError>
     ensures { OnOk result (out.new.items ≡ out.old.items ++ left_word left) }
 {
@@ -75,7 +75,7 @@ fn push_line(out: &mut Vec<u8>, word: &[u8], bytes: &[u8]) -> Result<(), AllocEr
     out.extend_from_slice(b"\n")
 }
 
-/// Appends the line of a file that was read.
+/// Appends the line of `read`, a file that was read.
 #[tactic(auto, unfolding(crate::specs::Record::read_line))]
 fn push_read(out: &mut Vec<u8>, read: &FileRead) -> Result<(), AllocError>
     ensures { OnOk result (out.new.items ≡ out.old.items ++ read_line read.now) }
@@ -87,7 +87,7 @@ fn push_read(out: &mut Vec<u8>, read: &FileRead) -> Result<(), AllocError>
     out.extend_from_slice(b"\n")
 }
 
-/// Appends the line of a file that was stored.
+/// Appends the line of `stored`, a file that was stored.
 #[tactic(auto, unfolding(crate::specs::Record::stored_line))]
 fn push_stored(out: &mut Vec<u8>, stored: &FileStored) -> Result<(), AllocError>
     ensures { OnOk result (out.new.items ≡ out.old.items ++ stored_line stored.now) }
@@ -108,7 +108,7 @@ fn push_words(out: &mut Vec<u8>, words: &[String]) -> Result<(), AllocError>
     Ok(())
 }
 
-/// Appends a line for each file that was read.
+/// Appends a line for each of `reads`, the files that were read.
 fn push_reads(out: &mut Vec<u8>, reads: &[FileRead]) -> Result<(), AllocError>
     ensures { OnOk result (out.new.items ≡ out.old.items ++ flat_map read_line reads.now) }
 {
@@ -118,7 +118,7 @@ fn push_reads(out: &mut Vec<u8>, reads: &[FileRead]) -> Result<(), AllocError>
     Ok(())
 }
 
-/// Appends a line for each file that was stored.
+/// Appends a line for each of `stores`, the files that were stored.
 fn push_stores(out: &mut Vec<u8>, stores: &[FileStored]) -> Result<(), AllocError>
     ensures { OnOk result (out.new.items ≡ out.old.items ++ flat_map stored_line stores.now) }
 {
@@ -138,7 +138,7 @@ fn push_status(out: &mut Vec<u8>, status: u8) -> Result<(), AllocError>
     out.extend_from_slice(b"\n")
 }
 
-/// Appends the line that says what the text is, and that of the version.
+/// Appends the line that says what the text is, and then that of `version`.
 #[tactic(auto, unfolding(crate::specs::Record::head_lines))]
 fn push_head(out: &mut Vec<u8>, version: &[u8]) -> Result<(), AllocError>
     ensures { OnOk result (out.new.items ≡ out.old.items ++ head_lines version.now) }
@@ -147,7 +147,7 @@ fn push_head(out: &mut Vec<u8>, version: &[u8]) -> Result<(), AllocError>
     push_line(out, b"version ", version)
 }
 
-/// Appends the line that says what the text is, that of the version, and those of the words.
+/// Appends the line that says what the text is, and then those of the version and of the words of `run`.
 fn push_asked(out: &mut Vec<u8>, run: &Run) -> Result<(), AllocError>
     ensures { OnOk result (out.new.items ≡ out.old.items ++ asked_lines run.now) }
 {
@@ -155,7 +155,7 @@ fn push_asked(out: &mut Vec<u8>, run: &Run) -> Result<(), AllocError>
     push_words(out, &run.words)
 }
 
-/// Appends the lines of the files that were read, and then those of the files that were stored.
+/// Appends the lines of the files that `run` read, and then those of the files that it stored.
 fn push_files(out: &mut Vec<u8>, run: &Run) -> Result<(), AllocError>
     ensures { OnOk result (out.new.items ≡ out.old.items ++ file_lines run.now) }
 {
@@ -163,7 +163,7 @@ fn push_files(out: &mut Vec<u8>, run: &Run) -> Result<(), AllocError>
     push_stores(out, &run.stores)
 }
 
-/// Appends the lines of the status and of the answer.
+/// Appends the lines of the status and of the answer of `run`.
 fn push_end(out: &mut Vec<u8>, run: &Run) -> Result<(), AllocError>
     ensures { OnOk result (out.new.items ≡ out.old.items ++ end_lines run.now) }
 {

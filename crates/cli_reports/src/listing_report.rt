@@ -144,7 +144,7 @@ fn listing_answer(
     }
 }
 
-/// Returns the table of all listed groupings, or `None` if it isn't asked for.
+/// Returns the table of all listed `groupings`, or `None` if no table is asked for, so that `tabled` has no names.
 fn table_of_all(
     alloc: Global,
     tabled: &Tabled,

@@ -183,7 +183,7 @@ fn report_open(
     })
 }
 
-/// Returns what is said of the solver's answer.
+/// Returns what is said of `found`, the solver's answer, with the texts for the files of `solve`.
 fn report_answer(alloc: Global, tabled: &Tabled, found: SolverAnswer) -> Result<Solved, AllocError>
     requires answer { (limit : ℕ) × IsSolveAnswer (problem_of tabled.now.problem) limit found }
     requires best { SolveIsRight (problem_of tabled.now.problem) found }

@@ -18,7 +18,7 @@ fn has_each(set: &[CountyCode], codes: &[CountyCode]) -> bool
     codes.iter().all(|code| has_code(set, *code))
 }
 
-/// Returns whether two sets have the same counties.
+/// Returns whether the sets `first` and `second` have the same counties, in any order.
 fn have_same_counties(first: &[CountyCode], second: &[CountyCode]) -> bool
     ensures { result ≡ are_same_counties first.now second.now }
 {
@@ -43,7 +43,7 @@ fn has_sets_of(first: &[Group], second: &[Group]) -> bool
         .all(|group| has_set(second, group.codes.as_slice()))
 }
 
-/// Returns whether two groupings have the same sets, in any order and with any seats.
+/// Returns whether the groupings `first` and `second` have the same sets, in any order and with any seats.
 fn have_same_sets(first: &[Group], second: &[Group]) -> bool
     ensures { result ≡ are_same_sets first.now second.now }
 {

@@ -221,7 +221,7 @@ fn text_option<'a>(alloc: Global, name: &'a str, value_name: &'a str, help: &'a 
         .help(help)
 }
 
-/// Creates a required option `--name FILE`.
+/// Creates a required option `--name FILE` with this `name` and `help`.
 fn file_option<'a>(alloc: Global, name: &'a str, help: &'a str) -> Arg<'a>
     ensures rule { rule_of result ≡ required (text_option name.entry.now) }
     ensures local { result.global ≡ false }
@@ -273,7 +273,8 @@ fn whole_option<'a>(alloc: Global) -> Arg<'a>
         .default_value("20")
 }
 
-/// Creates an option `--name STEPS`, from 0 to 18,446,744,073,709,551,615. The default is 10,000,000.
+/// Creates an option `--name STEPS` with this `name` and `help`, from 0 to 18,446,744,073,709,551,615. The default is
+/// 10,000,000.
 fn steps_option<'a>(alloc: Global, name: &'a str, help: &'a str) -> Arg<'a>
     ensures rule { rule_of result ≡ of_steps (text_option name.entry.now) }
     ensures local { result.global ≡ false }
@@ -432,7 +433,7 @@ fn check_command<'a>(alloc: Global) -> Result<Command<'a>, AllocError>
     with_option(made, table_option(alloc))
 }
 
-/// Creates an option `--name NUMBER`, from 0 to 4,294,967,295.
+/// Creates an option `--name NUMBER` with this `name` and `help`, from 0 to 4,294,967,295.
 fn number_option<'a>(alloc: Global, name: &'a str, help: &'a str) -> Arg<'a>
     ensures rule { rule_of result ≡ number_option name.entry.now }
     ensures local { result.global ≡ false }
@@ -550,7 +551,7 @@ fn share_command<'a>(alloc: Global) -> Result<Command<'a>, AllocError>
     with_option(made, certificate)
 }
 
-/// Creates a required option `--name NUMBER`, from 0 to 4,294,967,295.
+/// Creates a required option `--name NUMBER` with this `name` and `help`, from 0 to 4,294,967,295.
 fn required_number_option<'a>(alloc: Global, name: &'a str, help: &'a str) -> Arg<'a>
     ensures rule { rule_of result ≡ required (number_option name.entry.now) }
     ensures local { result.global ≡ false }

@@ -48,7 +48,7 @@ pub(crate) fn number_or_none<'a>(found: &ArgMatches<'a>, name: &str) -> Option<u
     found.get_one::<u32>(name)
 }
 
-/// Reads the number of seats.
+/// Reads the number of seats of the chamber, 1 to 1,000, from the values `found`.
 pub(crate) fn chamber<'a>(found: &ArgMatches<'a>) -> u16
     requires { HasItsValue (rows_of (found_of found.now)) chamber_option }
     ensures number { GivesNumber (codes "chamber") (rows_of (found_of found.now)) result }
@@ -57,7 +57,7 @@ pub(crate) fn chamber<'a>(found: &ArgMatches<'a>) -> u16
     found.get_one::<u16>("chamber").unwrap()
 }
 
-/// Reads the state's FIPS code.
+/// Reads the state's FIPS code, 0 to 99, from the values `found`. It is 37 if the words don't give it.
 pub(crate) fn state<'a>(found: &ArgMatches<'a>) -> u8
     requires { HasItsValue (rows_of (found_of found.now)) state_option }
     ensures number { GivesNumber (codes "state") (rows_of (found_of found.now)) result }
@@ -67,7 +67,8 @@ pub(crate) fn state<'a>(found: &ArgMatches<'a>) -> u8
     found.get_one::<u8>("state").unwrap()
 }
 
-/// Reads the tolerance: a part of a whole.
+/// Reads the tolerance from the values `found`. Its numerator is the value of `--part`, and its denominator that of
+/// `--of`.
 pub(crate) fn tolerance<'a>(found: &ArgMatches<'a>) -> Tolerance
     requires part { HasItsValue (rows_of (found_of found.now)) part_option }
     requires whole { HasItsValue (rows_of (found_of found.now)) whole_option }
@@ -79,7 +80,8 @@ pub(crate) fn tolerance<'a>(found: &ArgMatches<'a>) -> Tolerance
     }
 }
 
-/// Reads the limit of a board's first round, or `None` if the words don't give it.
+/// Reads the limit of a board's first round, in counties of a group, from the values `found`. Returns `None` if the
+/// words don't give it.
 pub(crate) fn limit<'a>(found: &ArgMatches<'a>) -> Option<u16>
     requires { HasItsValue (rows_of (found_of found.now)) limit_option }
     ensures { GivesItsNumber (codes "limit") (rows_of (found_of found.now)) result }
@@ -87,7 +89,7 @@ pub(crate) fn limit<'a>(found: &ArgMatches<'a>) -> Option<u16>
     found.get_one::<u16>("limit")
 }
 
-/// Reads the most branchings above a piece, or `None` if the words don't give it.
+/// Reads the most branchings above a piece from the values `found`. Returns `None` if the words don't give it.
 pub(crate) fn depth<'a>(found: &ArgMatches<'a>) -> Option<u8>
     requires { HasItsValue (rows_of (found_of found.now)) depth_option }
     ensures { GivesItsNumber (codes "depth") (rows_of (found_of found.now)) result }

@@ -241,7 +241,7 @@ pub struct DeskWords<'a> {
     pub steps: u64,
 }
 
-/// Reads the values of the options that each subcommand has.
+/// Reads from `found` the values of the options that each subcommand has.
 fn common_words<'a>(found: &ArgMatches<'a>) -> CommonWords<'a>
     requires { HasValues common_options (rows_of (found_of found.now)) }
     ensures { SaysCommon (rows_of (found_of found.now)) result }
@@ -256,7 +256,7 @@ fn common_words<'a>(found: &ArgMatches<'a>) -> CommonWords<'a>
     }
 }
 
-/// Reads the values of the options that give a problem.
+/// Reads from `found` the values of the options that give a problem.
 fn problem_words<'a>(found: &ArgMatches<'a>) -> ProblemWords<'a>
     requires { HasValues problem_options (rows_of (found_of found.now)) }
     ensures { SaysProblem (rows_of (found_of found.now)) result }
@@ -269,7 +269,7 @@ fn problem_words<'a>(found: &ArgMatches<'a>) -> ProblemWords<'a>
     }
 }
 
-/// Reads the values of the options that give a problem, and the name of the file of the grouping.
+/// Reads from `found` the values of the options that give a problem, and the name of the file of the grouping.
 fn grouping_words<'a>(found: &ArgMatches<'a>) -> (ProblemWords<'a>, &'a str)
     requires { HasValues grouping_options (rows_of (found_of found.now)) }
     ensures problem { SaysProblem (rows_of (found_of found.now)) result.0 }
@@ -279,7 +279,7 @@ fn grouping_words<'a>(found: &ArgMatches<'a>) -> (ProblemWords<'a>, &'a str)
     (problem, path(found, "grouping"))
 }
 
-/// Reads the values of the options of `judge`.
+/// Reads from `found` the values of the options of `judge`.
 fn judge_words<'a>(found: &ArgMatches<'a>) -> JudgeWords<'a>
     requires { HasValues judge_options (rows_of (found_of found.now)) }
     ensures { SaysJudge (rows_of (found_of found.now)) result }
@@ -295,7 +295,7 @@ fn judge_words<'a>(found: &ArgMatches<'a>) -> JudgeWords<'a>
     }
 }
 
-/// Reads the values of the options of `solve`.
+/// Reads from `found` the values of the options of `solve`.
 fn solve_words<'a>(found: &ArgMatches<'a>) -> SolveWords<'a>
     requires { HasValues solve_options (rows_of (found_of found.now)) }
     ensures { SaysSolve (rows_of (found_of found.now)) result }
@@ -310,7 +310,7 @@ fn solve_words<'a>(found: &ArgMatches<'a>) -> SolveWords<'a>
     }
 }
 
-/// Reads the values of the options that give a certificate.
+/// Reads from `found` the values of the options that give a problem and its certificate.
 fn certificate_words<'a>(found: &ArgMatches<'a>) -> CertificateWords<'a>
     requires { HasValues certificate_options (rows_of (found_of found.now)) }
     ensures { SaysCertificate (rows_of (found_of found.now)) result }
@@ -322,7 +322,7 @@ fn certificate_words<'a>(found: &ArgMatches<'a>) -> CertificateWords<'a>
     }
 }
 
-/// Reads the values of the options of `check`.
+/// Reads from `found` the values of the options of `check`.
 fn check_words<'a>(found: &ArgMatches<'a>) -> CheckWords<'a>
     requires { HasValues check_options (rows_of (found_of found.now)) }
     ensures { SaysCheck (rows_of (found_of found.now)) result }
@@ -333,7 +333,7 @@ fn check_words<'a>(found: &ArgMatches<'a>) -> CheckWords<'a>
     }
 }
 
-/// Reads the values of the options of `audit`.
+/// Reads from `found` the values of the options of `audit`.
 fn audit_words<'a>(found: &ArgMatches<'a>) -> AuditWords<'a>
     requires { HasValues audit_options (rows_of (found_of found.now)) }
     ensures { SaysAudit (rows_of (found_of found.now)) result }
@@ -346,8 +346,9 @@ fn audit_words<'a>(found: &ArgMatches<'a>) -> AuditWords<'a>
     }
 }
 
-/// Reads which listed grouping is stored, and where, from the values of the options of `list`. Returns the fault
-/// `NumberOrOut` if one of `--number` and `--out` is given without the other.
+/// Reads which listed grouping is stored, and where, from `found`, the values of the options of `list`. Returns `None`
+/// if neither `--number` nor `--out` is given. Returns the fault `NumberOrOut` if one of them is given without the
+/// other.
 fn stored_words<'a>(found: &ArgMatches<'a>) -> Result<Option<StoredWords<'a>>, OptionsFault>
     requires { HasValues list_options (rows_of (found_of found.now)) }
     ensures { MatchResult
@@ -391,8 +392,8 @@ fn list_words_with<'a>(
     }
 }
 
-/// Reads the values of the options of `list`. Returns a fault if one of `--number` and `--out` is given without the
-/// other, or `--which` beside both.
+/// Reads from `found` the values of the options of `list`. Returns the fault `NumberOrOut` if one of `--number` and
+/// `--out` is given without the other. Returns `WhichAndStored` if `--which` is given beside both.
 fn list_words<'a>(found: &ArgMatches<'a>) -> Result<ListWords<'a>, OptionsFault>
     requires { HasValues list_options (rows_of (found_of found.now)) }
     ensures { MatchResult
@@ -411,8 +412,8 @@ fn list_words<'a>(found: &ArgMatches<'a>) -> Result<ListWords<'a>, OptionsFault>
     }
 }
 
-/// Reads how the rounds of a board are from the values of its options. Returns the fault `Depth` if `--depth` is given
-/// without `--limit`.
+/// Reads how the rounds of a board are from `found`, the values of its options. Returns the fault `Depth` if `--depth`
+/// is given without `--limit`.
 fn round_words<'a>(found: &ArgMatches<'a>) -> Result<RoundWords, OptionsFault>
     requires { HasValues board_options (rows_of (found_of found.now)) }
     ensures { MatchResult
@@ -431,8 +432,8 @@ fn round_words<'a>(found: &ArgMatches<'a>) -> Result<RoundWords, OptionsFault>
     }
 }
 
-/// Reads the values of the options that give a board. Returns the fault `Depth` if `--depth` is given without
-/// `--limit`.
+/// Reads from `found` the values of the options that give a board. Returns the fault `Depth` if `--depth` is given
+/// without `--limit`.
 fn board_words<'a>(found: &ArgMatches<'a>) -> Result<BoardWords<'a>, OptionsFault>
     requires { HasValues board_options (rows_of (found_of found.now)) }
     ensures { MatchResult
@@ -449,7 +450,8 @@ fn board_words<'a>(found: &ArgMatches<'a>) -> Result<BoardWords<'a>, OptionsFaul
     })
 }
 
-/// Reads the values of the options of `share`. Returns the fault `Depth` if `--depth` is given without `--limit`.
+/// Reads from `found` the values of the options of `share`. Returns the fault `Depth` if `--depth` is given without
+/// `--limit`.
 fn share_words<'a>(found: &ArgMatches<'a>) -> Result<ShareWords<'a>, OptionsFault>
     requires { HasValues share_options (rows_of (found_of found.now)) }
     ensures { MatchResult
@@ -467,7 +469,8 @@ fn share_words<'a>(found: &ArgMatches<'a>) -> Result<ShareWords<'a>, OptionsFaul
     })
 }
 
-/// Reads the values of the options of `piece`. Returns the fault `Depth` if `--depth` is given without `--limit`.
+/// Reads from `found` the values of the options of `piece`. Returns the fault `Depth` if `--depth` is given without
+/// `--limit`.
 fn piece_words<'a>(found: &ArgMatches<'a>) -> Result<PieceWords<'a>, OptionsFault>
     requires { HasValues piece_options (rows_of (found_of found.now)) }
     ensures { MatchResult
@@ -485,7 +488,8 @@ fn piece_words<'a>(found: &ArgMatches<'a>) -> Result<PieceWords<'a>, OptionsFaul
     })
 }
 
-/// Reads the values of the options of `board`. Returns the fault `Depth` if `--depth` is given without `--limit`.
+/// Reads from `found` the values of the options of `board`. Returns the fault `Depth` if `--depth` is given without
+/// `--limit`.
 fn serve_words<'a>(found: &ArgMatches<'a>) -> Result<ServeWords<'a>, OptionsFault>
     requires { HasValues serve_options (rows_of (found_of found.now)) }
     ensures { MatchResult
@@ -502,7 +506,7 @@ fn serve_words<'a>(found: &ArgMatches<'a>) -> Result<ServeWords<'a>, OptionsFaul
     })
 }
 
-/// Reads the values of the options of `desk`.
+/// Reads from `found` the values of the options of `desk`.
 fn desk_words<'a>(found: &ArgMatches<'a>) -> DeskWords<'a>
     requires { HasValues desk_options (rows_of (found_of found.now)) }
     ensures { SaysDesk (rows_of (found_of found.now)) result }
@@ -534,7 +538,7 @@ fn command_words<'a>(name: &str, found: &ArgMatches<'a>) -> Result<CommandWords<
     }
 }
 
-/// Reads the command of the subcommand that was found. Returns a fault if its options don't go together.
+/// Reads the command of the subcommand in `matches`. Returns a fault if its options don't go together.
 fn command_in<'a>(matches: &ArgMatches<'a>) -> Result<CommandWords<'a>, OptionsFault>
     requires { IsSomeAnd (subcommand_rows_of matches.now) HasCommand }
     ensures { MatchResult
@@ -558,7 +562,7 @@ fn matches_in<'a>(alloc: Global, words: &'a [&'a str]) -> Result<ArgMatches<'a>,
     program.try_get_matches_from(words)
 }
 
-/// Parses the words after the program's name into the command that they say.
+/// Parses `words`, those after the program's name, into the command that they say.
 ///
 /// Words that `clap` doesn't take end in `Help` or `Version` if they ask for that before anything is wrong, and else in
 /// `Usage`. Words of `list` end in `Usage` too if they give one of `--number` and `--out` without the other, or

@@ -21,7 +21,8 @@ pub struct CountyGraph<'a, 'b, C> {
 }
 
 impl<'a, 'b, C: CountySet> CountyGraph<'a, 'b, C> {
-    /// Builds the county graph of a problem by the places of an order. Returns an error if memory was refused.
+    /// Builds the county graph of the problem of `ordered`, by the places of its order. Returns `AllocError` if memory
+    /// was refused.
     pub fn build(
         alloc: Global,
         ordered: &'a Ordered<'b>,

@@ -32,7 +32,7 @@ fn next_place<C: CountySet, T: GrowthTest<C>>(
     test.next_place(input.graph.ordered, &growth.front)
 }
 
-/// Takes a step, or returns `StepLimit` if none is left.
+/// Takes one of the `steps`, or returns `StepLimit` if none is left.
 fn take_step(steps: &mut Steps) -> Result<(), Stop>
     ensures limit { steps.new.limit ≡ steps.old.limit }
     ensures used { MatchResult
@@ -119,7 +119,8 @@ fn end_growth<C: CountySet, T: GrowthTest<C>>(
     Ok(())
 }
 
-/// Passes over a growth. This takes a step if the test counts it.
+/// Passes over a `growth`. This takes one of the `steps` if the test counts growths that are passed over, and returns
+/// `StepLimit` if none is left.
 fn pass_over<C: CountySet, T: GrowthTest<C>>(
     input: &GrowthInput<C>,
     growth: &Growth<C>,

@@ -23,7 +23,8 @@ fn row<C: CountySet>(alloc: Global, ordered: &Ordered, place: u16) -> Result<C, 
     Ok(near)
 }
 
-/// Returns the row of each place, in the order of the places. A row is the set of the places adjacent to a place.
+/// Returns the row of each place of `ordered`, in the order of the places. A row is the set of the places adjacent to a
+/// place.
 pub(crate) fn neighbour_rows<C: CountySet>(
     alloc: Global,
     ordered: &Ordered,

@@ -36,7 +36,7 @@ impl Tolerance {
         1 <= self.denominator && self.denominator <= 1000 && 2 * u32::from(self.numerator) <= u32::from(self.denominator)
     }
 
-    /// Returns whether the two fractions are equal.
+    /// Returns whether this fraction and `other` are equal, such as 1/20 and 5/100.
     pub fn same_as(self, other: Tolerance) -> bool
         ensures { result ≡ same_tolerance self other }
     {

@@ -27,7 +27,7 @@ impl Withdrawn {
     }
 }
 
-/// Returns equal sets, in the same order.
+/// Returns copies of `sets`, in the same order. Returns `AllocError` if memory was refused.
 pub fn copy_sets(alloc: Global, sets: &[Withdrawn]) -> Result<Vec<Withdrawn>, AllocError>
     ensures { IfOk result (λ v. v.items ≡ sets.now) }
 {

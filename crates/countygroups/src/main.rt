@@ -14,7 +14,7 @@ use std::io::{ErrorKind, IsTerminal};
 use std::process::ExitCode;
 use std::{env, io};
 
-/// Says that a case is awaited, if there is no word and standard input is a terminal.
+/// Says on standard error that a case is awaited, if there are no `words` and standard input is a terminal.
 fn announce(rt: &HostRuntime, words: &[&str]) {
     if words.is_empty() && rt.stdin().is_terminal() {
         let _ = eprintln!(rt;
@@ -23,7 +23,7 @@ fn announce(rt: &HostRuntime, words: &[&str]) {
     }
 }
 
-/// Writes to standard error what a person is told. If memory for the text was refused, says so.
+/// Writes `text`, what a person is told, to standard error. If memory for the text was refused, says so.
 fn tell(rt: &HostRuntime, text: Result<String, AllocError>) {
     match text {
         Ok(text) => {

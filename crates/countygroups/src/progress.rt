@@ -27,8 +27,8 @@ pub(crate) struct Progress<'a> {
     round: Option<String>,
 }
 
-/// Returns the number of groups of each size, from one county on. Two points at the end stand for groups of more than
-/// `SHOWN` counties.
+/// Returns the number of groups of each size in `grouping`, from one county on, with a blank before each number. Two
+/// points at the end stand for groups of more than `SHOWN` counties.
 fn counts(alloc: Global, grouping: &Grouping) -> Result<String, AllocError> {
     let mut text = String::new(alloc);
     let mut left = grouping.groups.len();
@@ -50,7 +50,8 @@ fn counts(alloc: Global, grouping: &Grouping) -> Result<String, AllocError> {
     Ok(text)
 }
 
-/// Returns the text of a round, with the counts of the best grouping so far.
+/// Returns the text of a round whose groups have up to `limit` counties, with the counts of `target`, the best grouping
+/// so far.
 fn round_text(alloc: Global, limit: u16, target: &Grouping) -> Result<String, AllocError> {
     let counts = counts(alloc, target)?;
     format!(in alloc; "groups of up to {limit} counties, best counts so far{counts}")

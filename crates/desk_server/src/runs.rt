@@ -18,7 +18,8 @@ use place_sets::{CountySet, MaskSet, WideSet, fits_mask};
 use std::alloc::Global;
 use written_output::Written;
 
-/// Returns what `prove_pieces` returns, with any form of sets of places that has room for the counties.
+/// Does what `prove_pieces` does, and returns what it returns. `C` is any form of sets of places that has room for the
+/// counties of `problem`.
 fn prove_over<C: CountySet, S: Source, W: Sink>(
     alloc: Global,
     problem: &Problem,

@@ -23,7 +23,7 @@ impl GivenLog {
         GivenLog {}
     }
 
-    /// Appends the bytes to the log.
+    /// Appends `_bytes` to the log.
     pub fn note(&mut self, _bytes: &[u8])
         ensures { self.new.bytes ≡ self.old.bytes ++ _bytes.now }
     {}

@@ -20,8 +20,9 @@ pub trait LinesFrom<F> {
     /// The lines that are left.
     ghost left: { Self → LinesLeft };
 
-    /// Returns the next line that isn't blank, after its number, which counts from 1. The line is lent until the next
-    /// call. Returns `None` at the end of the text.
+    /// Returns the next line that isn't blank, after its number, which counts from 1. Further bytes are pulled from
+    /// `from` unless the text stands in memory. The line is lent until the next call. Returns `None` at the end of the
+    /// text.
     ///
     /// # Errors
     ///

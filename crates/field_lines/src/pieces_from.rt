@@ -20,7 +20,8 @@ pub trait PiecesFrom<F> {
     /// The pieces that are left.
     ghost left: { Self → PiecesLeft };
 
-    /// Returns the next piece, which is lent until the next call. Returns `None` at the end of the text.
+    /// Returns the next piece, which is lent until the next call. Further bytes are pulled from `from` unless the text
+    /// stands in memory. Returns `None` at the end of the text.
     ///
     /// # Errors
     ///

@@ -146,8 +146,8 @@ impl PulledBytes {
         Ok(count)
     }
 
-    /// Returns the piece at the front, after as many pulls as it takes to tell, or `None` at the end. A piece that is
-    /// longer than a line may be is cut short.
+    /// Returns the piece at the front, after as many pulls from `source` as it takes to tell, or `None` at the end. A
+    /// piece of more than 65,536 bytes may be cut short. Returns `SourceFault` if the source failed.
     pub(crate) fn front<S: Source>(
         &mut self,
         source: &mut S,
@@ -185,7 +185,7 @@ impl PulledBytes {
         piece.unwrap_or(b"")
     }
 
-    /// Returns the bytes of the piece at the front.
+    /// Returns the bytes of `front`, the piece at the front.
     pub(crate) fn piece(&self, front: FrontPiece) -> &[u8]
         requires { IsWithin self.now.bytes front.length front.ended }
         ensures value { result.now ≡ take front.length self.now.bytes }
@@ -194,7 +194,8 @@ impl PulledBytes {
         &self.held()[..front.length]
     }
 
-    /// Takes the piece at the front, and returns where it lies.
+    /// Takes `front`, the piece at the front, with the LF that ends it, if one does. Returns where the piece lies,
+    /// without the LF.
     pub(crate) fn take_piece(&mut self, front: FrontPiece) -> TakenPiece
         requires within { IsWithin self.old.bytes front.length front.ended }
         requires short { front.length ≤ 65536 }

@@ -28,9 +28,9 @@ fn add_group(alloc: Global, groups: &mut Vec<Group>, line: &[u8]) -> Result<(), 
     Ok(())
 }
 
-/// Reads the grouping of a text, with its groups in the order of the lines. The text is a cut text (`Lines` of
-/// `field_lines`), and a line is cut into fields at each pipe. Field 1 is the number of seats, 0 to 65,535. Each field
-/// from the second on is a code of five digits. A text without lines gives no groups.
+/// Reads the grouping of the text `bytes`, with its groups in the order of the lines. The text is a cut text (`Lines`
+/// of `field_lines`), and a line is cut into fields at each pipe. Field 1 is the number of seats, 0 to 65,535. Each
+/// field from the second on is a code of five digits. A text without lines gives no groups.
 ///
 /// # Errors
 ///

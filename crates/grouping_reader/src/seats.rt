@@ -20,7 +20,8 @@ pub fn code_in(field: &[u8]) -> Option<CountyCode>
     CountyCode::new(five_digits(field)?)
 }
 
-/// Reads the codes of a line's fields from the second on.
+/// Reads the codes of the fields of `line` from the second on. Returns `BadCode` if one of them isn't five digits, or
+/// `Memory` if memory was refused.
 fn codes_in(alloc: Global, line: &[u8]) -> Result<Codes, CodeLineKind>
     ensures { GivesUnless (λ f. f ≡ Memory) (λ c. c) result (codes_on (drop 1 (fields_of 124 line.now))) }
 {

@@ -56,7 +56,7 @@ fn push_words_label(out: &mut Vec<u8>, words: &[u8], label: &Label) -> Result<()
     out.extend_from_slice(label.as_bytes())
 }
 
-/// Appends the finding of a district that has blocks in two sets.
+/// Appends the finding that the district of this `label` has blocks in the two sets `first` and `second`.
 fn push_crossing(
     out: &mut Vec<u8>,
     label: &Label,

@@ -8,7 +8,7 @@ use county_codes::Tolerance;
 use county_problem::Problem;
 use std::alloc::AllocError;
 
-/// Appends the line of a tolerance.
+/// Appends the line of `tolerance`, which is `window`, the numerator and the denominator.
 fn push_named(out: &mut Vec<u8>, tolerance: Tolerance) -> Result<(), AllocError>
     ensures { OnOk result (out.new.items ≡ out.old.items ++ named_line tolerance) }
 {
@@ -17,7 +17,7 @@ fn push_named(out: &mut Vec<u8>, tolerance: Tolerance) -> Result<(), AllocError>
     out.extend_from_slice(b"\n")
 }
 
-/// Appends the line of a tolerance, if it is named.
+/// Appends the line of `tolerance`, if it is named.
 #[tactic(auto, unfolding(crate::specs::FirstLines::tolerance_line))]
 fn push_tolerance(out: &mut Vec<u8>, tolerance: Option<Tolerance>) -> Result<(), AllocError>
     ensures { OnOk result (out.new.items ≡ out.old.items ++ tolerance_line tolerance) }
@@ -28,7 +28,7 @@ fn push_tolerance(out: &mut Vec<u8>, tolerance: Option<Tolerance>) -> Result<(),
     }
 }
 
-/// Appends the people, the chamber, and the tolerance if it isn't one twentieth.
+/// Appends the lines of the people, of the chamber, and of the tolerance of `problem` if it isn't one twentieth.
 ///
 /// # Errors
 ///

@@ -15,8 +15,8 @@ use county_problem::Problem;
 use field_lines::push_number;
 use std::alloc::{AllocError, Global};
 
-/// Appends the people, the chamber, the tolerance, the seats left and the number of counties. If the tolerance is one
-/// twentieth, it has no line.
+/// Appends the people, the chamber, the tolerance, the seats left and the number of counties of `problem`, each in a
+/// line. If the tolerance is one twentieth, it has no line.
 ///
 /// # Errors
 ///

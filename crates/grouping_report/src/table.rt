@@ -24,7 +24,7 @@ fn push_run(out: &mut Vec<u8>, run: Option<(u16, u16)>) -> Result<(), AllocError
     }
 }
 
-/// Appends the least and the greatest people of a district, or `none` if the first bound is above the second.
+/// Appends `bounds`, the least and the greatest people of a district, or `none` if the first bound is above the second.
 fn push_bounds(out: &mut Vec<u8>, bounds: (u64, u64)) -> Result<(), AllocError>
     ensures { OnOk result (out.new.items ≡ out.old.items ++ bounds_text bounds) }
 {

@@ -18,8 +18,8 @@ use county_codes::Grouping;
 use county_problem::{Counts, Problem, judge};
 use std::alloc::{AllocError, Global};
 
-/// Returns the number of the line behind that of the target, for a target without groups. A tolerance that is named has
-/// a line of its own.
+/// Returns the number of the line behind that of the target in a certificate of this `round`, for a target without
+/// groups. It is 6 if a tolerance is named, which has a line of its own, and 5 otherwise.
 fn line_behind(round: &Round) -> u64
     ensures value { result ≡ tolerance_line round.now.tolerance + 4 }
     ensures small { result ≤ 6 }

@@ -108,7 +108,8 @@ fn weight_of(weights: &[Weight], code: CountyCode) -> u32
 }
 
 impl Position {
-    /// Creates the position at which the tree of a certificate begins. Returns an error if memory was refused.
+    /// Creates the position at which the tree of a certificate of `problem` begins, where no group is closed. Returns
+    /// `AllocError` if memory was refused.
     pub(crate) fn first(alloc: Global, problem: &Problem) -> Result<Position, AllocError>
         ensures { IfOk result (IsPosition (problem_of problem.now) (empty_state (problem_of problem.now))) }
     {
@@ -118,7 +119,7 @@ impl Position {
         })
     }
 
-    /// Returns the position where one more group is closed, or an error if memory was refused.
+    /// Returns the position where the group of `codes` is closed, too. Returns `AllocError` if memory was refused.
     pub(crate) fn with_closed(&self, alloc: Global, codes: &Codes) -> Result<Position, AllocError>
         ensures { (p : ProblemOf) (s : State) → IsPosition p s self.now
             → IfOk result (IsPosition p (close codes.now s)) }

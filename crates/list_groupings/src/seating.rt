@@ -45,7 +45,7 @@ fn ascending_sets(
     Ok(sets)
 }
 
-/// Returns the people of each set, in turn.
+/// Returns the people of the counties of each of `sets`, in turn, as `problem` has them.
 fn people_of_sets(alloc: Global, problem: &Problem, sets: &[Codes]) -> Result<Vec<u64>, AllocError>
     requires once { All (λ g. (c : ℕ) → count c g ≤ 1) sets.now }
     ensures { IfOk result (λ v. v.items ≡ map (people_of (problem_of problem.now)) sets.now) }

@@ -9,7 +9,7 @@ use county_codes::{Codes, CountyCode, Group, Grouping};
 use std::alloc::AllocError;
 use std::cmp::Ordering;
 
-/// Compares sets of counties by size, and sets of one size by their codes.
+/// Compares the sets of counties `a` and `b` by size, and sets of one size by their codes.
 fn by_size_and_codes(a: &[CountyCode], b: &[CountyCode]) -> Ordering
     ensures { result ≡ set_order a.now b.now }
 {
@@ -19,7 +19,8 @@ fn by_size_and_codes(a: &[CountyCode], b: &[CountyCode]) -> Ordering
     }
 }
 
-/// Compares lists of groups by the first sets in which they differ.
+/// Compares the lists of groups `a` and `b` by the first sets in which they differ. If one list begins with all sets of
+/// the other, the shorter list comes first.
 fn by_groups(a: &[Group], b: &[Group]) -> Ordering
     ensures { result ≡ slice_cmp set_order (sets_of a.now) (sets_of b.now) }
 {
@@ -35,7 +36,7 @@ fn by_groups(a: &[Group], b: &[Group]) -> Ordering
     a.len().cmp(&b.len())
 }
 
-/// Returns the sets sorted by size, and sets of one size by their codes.
+/// Returns `sets` sorted by size, and sets of one size by their codes. Returns `AllocError` if memory was refused.
 pub(crate) fn sorted_sets(sets: Vec<Codes>) -> Result<Vec<Codes>, AllocError>
     ensures same { IfOk result (λ v. IsPermutation sets.items v.items) }
     ensures sorted { IfOk result (λ v. IsSortedBy (λ g h. is_lt (set_order g h)) v.items) }
@@ -45,7 +46,7 @@ pub(crate) fn sorted_sets(sets: Vec<Codes>) -> Result<Vec<Codes>, AllocError>
     Ok(sets)
 }
 
-/// Returns the groupings sorted by their lists of groups.
+/// Returns the groupings of `list` sorted by their lists of groups. Returns `AllocError` if memory was refused.
 pub(crate) fn sorted_groupings(list: Vec<Grouping>) -> Result<Vec<Grouping>, AllocError>
     ensures same { IfOk result (λ v. IsPermutation list.items v.items) }
     ensures sorted { IfOk

@@ -88,7 +88,8 @@ fn add_end(
     Ok(())
 }
 
-/// Goes through a leaf.
+/// Goes through `leaf` at `position`. A bound leaf may add a grouping to `found`. Of any other leaf only its one line
+/// is counted. Returns `Open` if the leaf has a gap, or `Memory` if memory was refused.
 fn put_leaf(
     input: &WalkInput,
     position: &Position,
@@ -112,7 +113,8 @@ fn put_leaf(
     }
 }
 
-/// Goes through the takes of a branch, and past the mark behind them.
+/// Goes through the `takes` of a branch from `position` on, and past the mark behind them. Returns `Open` at the first
+/// gap, or `Memory` if memory was refused.
 #[cycle(walk)]
 fn put_takes(
     input: &WalkInput,

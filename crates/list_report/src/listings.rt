@@ -14,7 +14,8 @@ use county_problem::Problem;
 use grouping_report::{push_answer, push_counts, push_head};
 use std::alloc::{AllocError, Global};
 
-/// Returns the regions of the counties that no shared set has, with their alternatives.
+/// Returns the regions of those of the `counties` that no `shared` set has, each with its alternatives in the `listed`
+/// groupings. The `shared` sets are those that all `listed` groupings have.
 fn found_regions(
     alloc: Global,
     counties: &[County],
@@ -29,7 +30,8 @@ fn found_regions(
     regions_with(alloc, listed, &parts)
 }
 
-/// Appends the part of the text that stands behind the counts.
+/// Appends the part of the text that stands behind the counts: the shared sets of the `listed` groupings, the regions,
+/// and the alternatives of each grouping. At least one grouping is listed.
 fn push_body(
     alloc: Global,
     out: &mut Vec<u8>,
@@ -46,7 +48,7 @@ fn push_body(
     push_choices(alloc, out, &regions, listed)
 }
 
-/// Returns the text of a list of groupings, of which there is at least one.
+/// Returns the text of a list of `groupings` for `problem`. There is at least one grouping.
 ///
 /// The text begins with the problem's people, chamber, seats left and counties, `answer all`, and the counts of the
 /// first grouping. Then it says how many groupings are listed, and gives the groups that all of them share.

@@ -26,7 +26,7 @@ fn is_taken(sets: &[Codes], code: CountyCode) -> bool
     sets.iter().any(|set| has_code(set.as_slice(), code))
 }
 
-/// Returns the codes of the counties that no shared set has, in their order.
+/// Returns the codes of those of the `counties` that no `shared` set has, in their order.
 fn unshared_codes(
     alloc: Global,
     counties: &[County],
@@ -43,7 +43,7 @@ fn unshared_codes(
     Ok(unshared)
 }
 
-/// Returns the places where each county is a region of its own.
+/// Returns the places where each of the `unshared` counties is a region of its own.
 fn lone_places(alloc: Global, unshared: &[CountyCode]) -> Result<Vec<Place>, AllocError>
     ensures { IfOk result (λ v. v.items ≡ places_at (λ c. c) unshared.now) }
 {

@@ -38,7 +38,7 @@ impl Sets {
         self.sets.as_slice()
     }
 
-    /// Returns whether both lists have the same sets in the same order.
+    /// Returns whether this list and `other` have the same sets in the same order.
     pub(crate) fn is_same(&self, other: &Sets) -> bool
         ensures { result ≡ same_sets self.now other.now }
     {
@@ -57,7 +57,7 @@ fn group_sets(alloc: Global, groups: &[Group]) -> Result<Sets, AllocError>
     Ok(Sets::new(sets))
 }
 
-/// Returns the sets of each grouping, in turn.
+/// Returns the sets of each of the `groupings`, in turn.
 pub(crate) fn listed_sets(alloc: Global, groupings: &[Grouping]) -> Result<Vec<Sets>, AllocError>
     ensures { IfOk result (λ v. v.items ≡ map sets_of (map (λ g. g.groups.items) groupings.now)) }
 {

@@ -34,7 +34,8 @@ fn kept_by_all(alloc: Global, listed: &[Sets], sets: &[Codes]) -> Result<Vec<Cod
     Ok(shared)
 }
 
-/// Returns the sets of the first listed grouping that all of them have.
+/// Returns the sets of the first of the `listed` groupings that all of them have, in their order. Returns no set if no
+/// grouping is listed.
 pub(crate) fn shared_by_all(alloc: Global, listed: &[Sets]) -> Result<Vec<Codes>, AllocError>
     ensures { IfOk result (λ v. v.items ≡ shared_sets listed.now) }
 {
@@ -56,7 +57,7 @@ fn push_unshared(out: &mut Vec<Codes>, shared: &[Codes], sets: &[Codes]) -> Resu
     Ok(())
 }
 
-/// Returns the sets of all listed groupings that aren't shared, one grouping after the other.
+/// Returns the sets of all `listed` groupings that aren't among the `shared` sets, one grouping after the other.
 pub(crate) fn not_shared(
     alloc: Global,
     shared: &[Codes],

@@ -29,7 +29,8 @@ fn people_of(problem: &Problem, set: &[CountyCode]) -> u64
     people
 }
 
-/// Appends the number of seats, or the least and the greatest number, or `none`.
+/// Appends the number of seats if the least and the greatest of `run` are equal, and otherwise both. Appends `none` if
+/// `run` is `None`.
 fn push_seats(out: &mut Vec<u8>, run: Option<(u16, u16)>) -> Result<(), AllocError>
     ensures { OnOk result (out.new.items ≡ out.old.items ++ seats_words run) }
 {
@@ -45,7 +46,7 @@ fn push_seats(out: &mut Vec<u8>, run: Option<(u16, u16)>) -> Result<(), AllocErr
     }
 }
 
-/// Appends the line of a set.
+/// Appends the line of `set`, with the seats of `run` and the `people` of the set.
 fn push_line(
     out: &mut Vec<u8>,
     run: Option<(u16, u16)>,
@@ -62,7 +63,7 @@ fn push_line(
     out.extend_from_slice(b"\n")
 }
 
-/// Appends the lines of sets.
+/// Appends a line for each of the `sets`, with the seats that its people suit in `problem`.
 fn push_lines(out: &mut Vec<u8>, problem: &Problem, sets: &[Codes]) -> Result<(), AllocError>
     ensures { OnOk result (out.new.items ≡ out.old.items ++ set_lines problem.now sets.now) }
 {
@@ -73,7 +74,7 @@ fn push_lines(out: &mut Vec<u8>, problem: &Problem, sets: &[Codes]) -> Result<()
     Ok(())
 }
 
-/// Appends how many groupings are listed, how many sets they share, and the lines of these sets.
+/// Appends the `number` of listed groupings, how many sets they share, and the lines of the `shared` sets.
 pub(crate) fn push_shared(
     out: &mut Vec<u8>,
     problem: &Problem,
@@ -88,7 +89,7 @@ pub(crate) fn push_shared(
     push_lines(out, problem, shared)
 }
 
-/// Appends an alternative: its number, and a line for each set.
+/// Appends an alternative: its `number`, and a line for each of its `sets`.
 fn push_alternative(
     out: &mut Vec<u8>,
     problem: &Problem,
@@ -104,7 +105,7 @@ fn push_alternative(
     push_lines(out, problem, sets)
 }
 
-/// Appends the alternatives of a region.
+/// Appends the `alternatives` of a region, numbered from 1.
 fn push_alternatives(
     out: &mut Vec<u8>,
     problem: &Problem,
@@ -118,7 +119,7 @@ fn push_alternatives(
     Ok(())
 }
 
-/// Appends the line of a region.
+/// Appends the line of `region`: its `number`, and how many counties and alternatives it has.
 fn push_region_line(out: &mut Vec<u8>, number: u64, region: &Region) -> Result<(), AllocError>
     ensures { OnOk result (out.new.items
         ≡ out.old.items ++ region_line number (length region.now.counties) (length region.now.alternatives)) }
@@ -131,7 +132,7 @@ fn push_region_line(out: &mut Vec<u8>, number: u64, region: &Region) -> Result<(
     out.extend_from_slice(b"\n")
 }
 
-/// Appends a region: its line, and its alternatives.
+/// Appends `region`: its line with its `number`, and its alternatives.
 fn push_region(
     out: &mut Vec<u8>,
     problem: &Problem,
@@ -146,7 +147,7 @@ fn push_region(
     push_alternatives(out, problem, region.alternatives.as_slice())
 }
 
-/// Appends the regions.
+/// Appends the `regions`, numbered from 1.
 pub(crate) fn push_regions(
     out: &mut Vec<u8>,
     problem: &Problem,
@@ -160,7 +161,7 @@ pub(crate) fn push_regions(
     Ok(())
 }
 
-/// Appends the numbers of a grouping's alternatives, one for each region.
+/// Appends the numbers of the alternatives that a grouping with these `sets` has, one for each of the `regions`.
 fn push_numbers(
     alloc: Global,
     out: &mut Vec<u8>,
@@ -177,7 +178,8 @@ fn push_numbers(
     Ok(())
 }
 
-/// Appends the line of a grouping's alternatives.
+/// Appends the line of a grouping with these `sets`: its `number`, and that of its alternative for each of the
+/// `regions`.
 fn push_choice_line(
     alloc: Global,
     out: &mut Vec<u8>,
@@ -195,7 +197,8 @@ fn push_choice_line(
     out.extend_from_slice(b"\n")
 }
 
-/// Appends a line of alternatives for each grouping.
+/// Appends a line for each `listed` grouping, with its alternatives for the `regions`. The groupings are numbered from
+/// 1.
 fn push_choice_lines(
     alloc: Global,
     out: &mut Vec<u8>,
@@ -210,7 +213,8 @@ fn push_choice_lines(
     Ok(())
 }
 
-/// Appends that each combination of alternatives is listed, or the alternatives of each grouping.
+/// Appends that each combination of alternatives of the `regions` is listed, or else a line of alternatives for each
+/// `listed` grouping. At least one grouping is listed.
 pub(crate) fn push_choices(
     alloc: Global,
     out: &mut Vec<u8>,

@@ -13,7 +13,8 @@ use certificate_lines::{branch_fits, levels_after, take_fits};
 use certificate_text::tree_fits;
 use partial_trees::{PartialTake, PartialTree};
 
-/// Returns whether the lines of the tree behind all branches fit, or the line of the open leaf there.
+/// Returns whether the lines behind all branches fit the `format` and this number of `levels`. They are the lines of
+/// the tree `rest`, or the line of the open leaf, which always fits.
 fn rest_fits(rest: &Option<Tree>, format: Format, levels: u16) -> bool
     ensures { Tests (want.Part format levels ∷ []) (items_of_part (rest_of rest.now)) [] result }
 {

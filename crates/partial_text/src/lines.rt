@@ -19,7 +19,7 @@ fn push_open_line(out: &mut Vec<u8>) -> Result<(), AllocError>
     out.extend_from_slice(b"open\n")
 }
 
-/// Appends the lines of the tree behind all branches, or the line of the open leaf there.
+/// Appends the lines of `rest`, the tree behind all branches, or the line of the open leaf if there is no such tree.
 fn push_rest(out: &mut Vec<u8>, rest: &Option<Tree>) -> Result<(), AllocError>
     ensures { OnOk result (AddsLines (items_of_part (rest_of rest.now)) out.old.items out.new.items) }
 {

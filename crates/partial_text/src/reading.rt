@@ -187,7 +187,8 @@ fn with_open_leaf(
     })
 }
 
-/// Reads the groups that a branch takes, each with its partial tree, up to the mark of the branch.
+/// Reads the groups that a branch takes, each with its partial tree, up to the mark of the branch. The trees may open
+/// one level fewer than `levels`, which is at least 1.
 #[cycle(part_lines)]
 fn takes_at(
     alloc: Global,

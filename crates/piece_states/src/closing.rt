@@ -17,7 +17,7 @@ use place_sets::CountySet;
 use state_groups::{State, closed_state, fits, people_in};
 use std::alloc::{AllocError, Global};
 
-/// Returns the places of the order whose codes are in the list.
+/// Returns the places of `ordered` whose counties have one of the `codes`.
 fn places_with<C: CountySet>(
     alloc: Global,
     ordered: &Ordered,
@@ -37,7 +37,7 @@ fn places_with<C: CountySet>(
     Ok(set)
 }
 
-/// Returns whether the group is connected.
+/// Returns whether `group` is connected. An empty group isn't connected.
 fn is_connected<C: CountySet>(graph: &CountyGraph<C>, group: &C) -> Result<bool, AllocError>
     requires graph { IsGraph C.test C.PLACES graph.now }
     requires below { (x : ℕ) → C.test group.now x ≡ true → x < graph_places graph.now }
@@ -51,7 +51,7 @@ fn is_connected<C: CountySet>(graph: &CountyGraph<C>, group: &C) -> Result<bool,
     Ok(part.size() == group.size())
 }
 
-/// Returns whether the group fits the state, in this format.
+/// Returns whether `group` is connected and fits `state`, in this `format`.
 fn group_fits<C: CountySet>(
     graph: &CountyGraph<C>,
     format: Format,
@@ -73,7 +73,9 @@ fn group_fits<C: CountySet>(
     fits(graph, format, state, group, people)
 }
 
-/// Returns the set of the places of a group that is told, or `None` if the group may not be closed at the state.
+/// Returns the set of the places of `group`, or `None` if the group may not be closed at `state` in this `round`. It
+/// may be closed if it has at most as many counties as the limit, names them in the order of places, and fits the
+/// state.
 fn told_group<C: CountySet>(
     graph: &CountyGraph<C>,
     round: &Round,
@@ -104,7 +106,8 @@ fn told_group<C: CountySet>(
     Ok(Some(set))
 }
 
-/// Returns the state where the groups are closed, one after the other, or `None` if one of them may not be closed.
+/// Returns the state that comes from `state` when the `groups` are closed, one after the other. Returns `None` if one
+/// of them may not be closed in this `round`.
 pub(crate) fn close_told<C: CountySet>(
     graph: &CountyGraph<C>,
     round: &Round,

@@ -22,7 +22,8 @@ pub fn skipped(words: &mut Words, name: &[u8]) -> bool
     is
 }
 
-/// Reads the numbers of the round and of the piece from the words of the first line.
+/// Reads the numbers of the round and of the piece from the `words` of the first line. The line is the name `open` and
+/// these two numbers, each from 0 to 4,294,967,295.
 #[tactic(auto, unfolding(crate::specs::TextLines::open_on))]
 pub(crate) fn open_on(words: &mut Words) -> Result<(u32, u32), TextKind>
     ensures { result ≡ open_on words.old }

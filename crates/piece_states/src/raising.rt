@@ -12,7 +12,8 @@ use county_problem::Ordered;
 use place_sets::CountySet;
 use state_groups::{State, raise_place};
 
-/// Returns whether a county may ask for this size in a round of this format and limit.
+/// Returns whether a county may ask for a group of at least `size` counties, in a round of this `format` and `limit`.
+/// In a plain format only `limit` + 1 may be asked for, and in a wide one any size from 1 on.
 fn is_asked_size(format: Format, limit: u16, size: u16) -> bool
     ensures { IsTrue result ↔ ((1 ≤ size) × IsLeastSize format limit size) }
 {
@@ -22,8 +23,8 @@ fn is_asked_size(format: Format, limit: u16, size: u16) -> bool
     }
 }
 
-/// Raises the county to what it asks for, if it may ask, and returns whether it may. If it may not, the state stays the
-/// same.
+/// Raises the county of `asked` to the size that it asks for, if it may ask, and returns whether it may. If it may not,
+/// `state` stays the same. It may ask if it is in the rest, and if the size may be asked for in this `round`.
 fn raise_told<C: CountySet>(
     ordered: &Ordered,
     round: &Round,
@@ -54,7 +55,8 @@ fn raise_told<C: CountySet>(
     true
 }
 
-/// Returns the state where the counties are raised, one after the other, or `None` if one of them may not ask.
+/// Returns the state that comes from `state` when the counties of `asked` are raised, one after the other. Returns
+/// `None` if one of them may not ask in this `round`.
 pub(crate) fn raise_all_told<C: CountySet>(
     ordered: &Ordered,
     round: &Round,

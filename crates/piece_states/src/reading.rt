@@ -15,7 +15,7 @@ use certificate_lines::{Cursor, TextFault, push_on};
 use county_codes::Codes;
 use std::alloc::Global;
 
-/// Reads the first line: the numbers of the round and of the piece.
+/// Reads the first line at `cursor`: the numbers of the round and of the piece.
 fn first_line(cursor: &mut Cursor) -> Result<(u32, u32), TextFault>
     ensures { ReadsLine (λ r. r) (by_words open_on) cursor.old result cursor.new }
 {
@@ -37,7 +37,7 @@ fn told_line(alloc: Global, closing: bool, cursor: &mut Cursor) -> Result<ToldLi
     }
 }
 
-/// Reads the lines behind the first up to the end: the closed groups, and then what counties ask for.
+/// Reads the lines behind the first, from `cursor` up to the end: the closed groups, and then what counties ask for.
 fn told_lines(alloc: Global, cursor: &mut Cursor) -> Result<(Vec<Codes>, Vec<Asked>), TextFault>
     ensures read { GivesUnless IsTextMemory (λ r. record { closed = r.0.items; asked = map asked_of r.1.items }) result
         (told_from true cursor.old.number (lines_of cursor.old)) }

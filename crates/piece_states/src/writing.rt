@@ -62,7 +62,7 @@ fn push_asked_at<C: CountySet>(
     push_code_and_number_line(out, b"least ", ordered.code(place), u32::from(least))
 }
 
-/// Appends a line for each county of the rest that asks for a size, in the order of places.
+/// Appends a line for each county of the rest of `state` that asks for a size, in the order of places.
 fn push_asked<C: CountySet>(
     ordered: &Ordered,
     state: &State<C>,

@@ -120,7 +120,7 @@ fn some_areas(found: BTreeMap<u64, u32>, area: Area) -> Result<BTreeMap<u64, u32
     }
 }
 
-/// Reads the people of each area of a state by its code, from the lines of geo and of segment 1. Segment 1 is read
+/// Reads the people of each `area` of `state` by its code, from the lines of `geo` and of `segment1`. Segment 1 is read
 /// whole, and then geo. If the state has no such area, that is a fault only if no line is at fault.
 fn read_lines<F, L: LinesFrom<F>, G, M: LinesFrom<G>>(
     alloc: Global,
@@ -147,7 +147,7 @@ fn read_lines<F, L: LinesFrom<F>, G, M: LinesFrom<G>>(
     some_areas(found, area)
 }
 
-/// Returns the people of each area of a state by its code, or the first fault of the texts of geo and of segment 1.
+/// Returns the people of each `area` of `state` by its code, or the first fault of the texts `geo` and `segment1`.
 fn read_texts(
     alloc: Global,
     area: Area,
@@ -174,7 +174,7 @@ fn read_texts(
     )
 }
 
-/// Reads the people of each area of a state by its code, in ascending order, from the texts of geo and of segment 1.
+/// Reads the people of each `area` of `state` by its code, in ascending order, from the texts `geo` and `segment1`.
 pub(crate) fn read_areas(
     alloc: Global,
     area: Area,
@@ -195,7 +195,7 @@ pub(crate) fn read_areas(
     }
 }
 
-/// Reads the people of each area of a state by its code, in ascending order, from the sources of geo and of segment 1.
+/// Reads the people of each `area` of `state` by its code, in ascending order, from the sources `geo` and `segment1`.
 pub(crate) fn read_areas_from<G: Source, S: Source>(
     alloc: Global,
     area: Area,

@@ -25,7 +25,7 @@ pub struct Block {
     pub people: u32,
 }
 
-/// Returns the entries as blocks, in the order of their codes.
+/// Returns the entries of `found` as blocks, in the order of their codes.
 fn list(alloc: Global, found: &BTreeMap<u64, u32>) -> Result<Vec<Block>, AllocError>
     ensures { IfOk result (λ v. v.items ≡ map (λ e. block_of e.0 e.1) found.now.entries) }
 {
@@ -38,10 +38,10 @@ fn list(alloc: Global, found: &BTreeMap<u64, u32>) -> Result<Vec<Block>, AllocEr
         .collect(alloc)
 }
 
-/// Reads the blocks of a state with their people, ascending by code, from the files from which `read_counties` reads
-/// the counties. A block line of geo has SUMLEV (field 3) `750`. Its GEOCOMP and its STATE are those of a county line.
-/// Its code is GEOCODE (field 10, fifteen digits), and its COUNTY isn't looked at. Its people are found as those of a
-/// county are.
+/// Reads the blocks of `state` with their people, ascending by code, from the files from which `read_counties` reads
+/// the counties. A block line of `geo` has SUMLEV (field 3) `750`. Its GEOCOMP and its STATE are those of a county
+/// line. Its code is GEOCODE (field 10, fifteen digits), and its COUNTY isn't looked at. Its people are found as those
+/// of a county are.
 ///
 /// # Errors
 ///
@@ -71,9 +71,9 @@ pub fn read_blocks(
     Ok(blocks)
 }
 
-/// Reads the blocks of a state, as `read_blocks` does, from the sources of geo and of segment 1. Neither source has
-/// failed before. Segment 1 is read first. Geo is read only if segment 1 has no fault. The answer holds for each pair
-/// of texts that begin with what the sources gave. `notes` have what the reading noted.
+/// Reads the blocks of `state`, as `read_blocks` does, from the sources `geo` and `segment1`. Neither source has failed
+/// before. Segment 1 is read first. Geo is read only if segment 1 has no fault. The answer holds for each pair of texts
+/// that begin with what the sources gave. `notes` have what the reading noted.
 ///
 /// # Errors
 ///

@@ -25,8 +25,8 @@ fn county(code: u64, people: u32) -> Option<County>
     Some(County { code, people })
 }
 
-/// Returns the entries as counties, in the order of their codes. An entry whose code isn't that of a county is left
-/// out.
+/// Returns the entries of `found` as counties, in the order of their codes. An entry whose code isn't that of a county
+/// is left out.
 pub(crate) fn list(alloc: Global, found: &BTreeMap<u64, u32>) -> Result<Vec<County>, AllocError>
     ensures { IfOk result (λ v. v.items ≡ filter_map (λ e. county_in e.0 e.1) found.now.entries) }
 {
@@ -74,7 +74,7 @@ pub fn read_counties(
     Ok(counties)
 }
 
-/// Reads the counties of a state, as `read_counties` does, from the sources of geo and of segment 1. Neither source has
+/// Reads the counties of `state`, as `read_counties` does, from the sources `geo` and `segment1`. Neither source has
 /// failed before. Segment 1 is read first. Geo is read only if segment 1 has no fault. The answer holds for each pair
 /// of texts that begin with what the sources gave. `notes` have what the reading noted.
 ///

@@ -114,7 +114,7 @@ fn some_found(found: FoundCounties) -> Result<FoundCounties, NamedFault>
     }
 }
 
-/// Finds the counties of a state with the names on their lines, from the lines of geo and of segment 1. Segment 1 is
+/// Finds the counties of `state` with the names on their lines, from the lines of `geo` and of `segment1`. Segment 1 is
 /// read whole, and then geo once. If the state has no county, that is a fault only if no line is at fault.
 fn find_counties<F, L: LinesFrom<F>, G, M: LinesFrom<G>>(
     alloc: Global,
@@ -156,7 +156,7 @@ fn named(alloc: Global, found: &FoundCounties) -> Result<Vec<NamedCounty>, Alloc
     with_names(alloc, &counties, &found.names)
 }
 
-/// Finds the counties of a state with the names on their lines, from the texts of geo and of segment 1.
+/// Finds the counties of `state` with the names on their lines, from the texts `geo` and `segment1`.
 fn find_in_texts(
     alloc: Global,
     geo: &[u8],
@@ -181,7 +181,7 @@ fn find_in_texts(
     )
 }
 
-/// Finds the counties of a state with the names on their lines, from the sources of geo and of segment 1.
+/// Finds the counties of `state` with the names on their lines, from the sources `geo` and `segment1`.
 fn find_in_sources<G: Source, S: Source>(
     alloc: Global,
     geo: &mut G,
@@ -216,8 +216,8 @@ fn find_in_sources<G: Source, S: Source>(
     )
 }
 
-/// Reads the counties of a state as `read_counties` does, each with its NAME. That is field 88 of its line of geo. The
-/// name is empty if the line has fewer fields.
+/// Reads the counties of `state` from the texts `geo` and `segment1`, as `read_counties` does, each with its NAME. That
+/// is field 88 of its line of geo. The name is empty if the line has fewer fields.
 ///
 /// # Errors
 ///
@@ -245,10 +245,10 @@ pub fn read_named_counties(
     }
 }
 
-/// Reads the counties of a state with their names, as `read_named_counties` does, from the sources of geo and of
-/// segment 1. Neither source has failed before. Segment 1 is read first. Geo is read once, and only if segment 1 has no
-/// fault. The answer holds for each pair of texts that begin with what the sources gave. `notes` have what the reading
-/// noted.
+/// Reads the counties of `state` with their names, as `read_named_counties` does, from the sources `geo` and
+/// `segment1`. Neither source has failed before. Segment 1 is read first. Geo is read once, and only if segment 1 has
+/// no fault. The answer holds for each pair of texts that begin with what the sources gave. `notes` have what the
+/// reading noted.
 ///
 /// # Errors
 ///

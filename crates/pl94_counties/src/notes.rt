@@ -29,7 +29,8 @@ pub struct CensusNotes {
     has_state_line: bool,
 }
 
-/// Returns STUSAB of a line of geo or of segment 1, if it has two bytes.
+/// Returns STUSAB (field 2) of `line`, a line of geo or of segment 1. Returns `None` if the line lacks the field, or if
+/// the field hasn't two bytes.
 fn letters_on(line: &[u8]) -> Option<[u8; 2]> {
     match field_at(line, DELIMITER, 1)? {
         [first, second] => Some([*first, *second]),
@@ -37,7 +38,8 @@ fn letters_on(line: &[u8]) -> Option<[u8; 2]> {
     }
 }
 
-/// Returns the LOGRECNO of a line of geo, if it is the line of the state itself.
+/// Returns the LOGRECNO (field 8) of `line`, a line of geo, if it is the line of `state` itself. Returns `None` for any
+/// other line, and if the LOGRECNO isn't a number from 0 to 4,294,967,295.
 fn state_record(line: &[u8], state: u8) -> Option<u32> {
     if field_at(line, DELIMITER, 2)? != STATE_LEVEL || field_at(line, DELIMITER, 4)? != WHOLE {
         return None;
@@ -62,7 +64,7 @@ impl CensusNotes {
         }
     }
 
-    /// Notes a line of segment 1 that was read.
+    /// Notes the STUSAB of `line`, a line of segment 1 that was read. Only the first such line is noted.
     pub(crate) fn note_segment_line(&mut self, line: &[u8]) {
         if !self.has_segment_line {
             self.has_segment_line = true;
@@ -85,7 +87,8 @@ impl CensusNotes {
         }
     }
 
-    /// Notes the bytes of the line that is at fault.
+    /// Notes the bytes of `line`, which is at fault, but at most the first 65,536. They replace the bytes that were
+    /// noted before. No bytes are noted if memory was refused.
     pub(crate) fn note_bad_line(&mut self, line: &[u8]) {
         let count = line.len().min(MAX_LINE);
         self.line.clear();
@@ -109,7 +112,7 @@ impl CensusNotes {
         }
     }
 
-    /// Notes the bytes of the line at which a reader stands, if the fault is that it is too long.
+    /// Notes the bytes of `line`, at which a reader stands, if `fault` is that the line is too long.
     pub(crate) fn note_long_line(&mut self, fault: LineFault, line: &[u8]) {
         if matches!(fault, LineFault::LineTooLong(_)) {
             self.note_bad_line(line);

@@ -12,7 +12,7 @@ use place_sets::CountySet;
 use state_groups::people_in;
 use std::alloc::{AllocError, Global};
 
-/// Returns the people of each set, in the same order.
+/// Returns the people of each of the `sets`, in the same order.
 fn people_of_sets<C: CountySet>(
     alloc: Global,
     ordered: &Ordered,
@@ -31,8 +31,8 @@ fn people_of_sets<C: CountySet>(
     Ok(people)
 }
 
-/// Returns seats for sets that have each county once, in the same order. Each set gets a number of seats that its
-/// people suit, and these numbers add up to the seats left of the problem. Such numbers must exist.
+/// Returns seats for `sets` that have each county of `ordered` once, in the same order. Each set gets a number of seats
+/// that its people suit, and these numbers add up to the seats left of the problem. Such numbers must exist.
 pub(crate) fn seats_for<C: CountySet>(
     alloc: Global,
     ordered: &Ordered,

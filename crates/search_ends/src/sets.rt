@@ -12,7 +12,7 @@ use place_sets::{CountySet, copy_sets, sorted};
 use state_groups::State;
 use std::alloc::AllocError;
 
-/// Returns the closed groups of a state and the connected parts of its rest, ordered by size and then by places. Sets
+/// Returns the closed groups of `state` and the connected parts of its rest, ordered by size and then by places. Sets
 /// that differ stand in that order.
 pub(crate) fn finished_sets<C: CountySet>(
     graph: &CountyGraph<C>,

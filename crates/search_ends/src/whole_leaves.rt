@@ -15,8 +15,8 @@ use state_groups::State;
 use state_judge::judge_seats;
 use std::alloc::AllocError;
 
-/// Returns a stuck leaf that is valid at the state, the one around the first place where there is any. If there is
-/// none, it returns the seats leaf, provided that it is valid. Returns `None` exactly if neither is valid.
+/// Returns a stuck leaf that is valid at `state`, the one around the first place where there is any. If there is none,
+/// it returns the seats leaf, provided that it is valid. Returns `None` exactly if neither is valid.
 ///
 /// Returns an error if memory was refused.
 pub fn whole_leaf<C: CountySet>(

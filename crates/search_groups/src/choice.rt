@@ -23,15 +23,15 @@ fn heavy_places<C: CountySet>(set: C, places: u16, weights: &[u32], quota: u64) 
     heavy
 }
 
-/// Returns the number of groups that have a place.
+/// Returns how many of the `groups` have `place`.
 fn groups_at<C: CountySet>(groups: &[C], place: u16) -> usize
     requires fits { place < C.PLACES }
 {
     groups.iter().filter(|group| group.has(place)).count()
 }
 
-/// Returns the place of a set that the fewest groups have, and the least of them if there are several. Returns `None`
-/// if the set has no place.
+/// Returns the place of `set` that the fewest of the `groups` have, and the least of them if there are several. Returns
+/// `None` if the set has no place.
 fn fewest_groups<C: CountySet>(groups: &[C], set: &C) -> Option<u16>
     ensures { MatchOption result ((x : ℕ) → C.test set.now x ≡ false) (λ place. C.test set.now place ≡ true) }
 {
@@ -49,9 +49,9 @@ fn fewest_groups<C: CountySet>(groups: &[C], set: &C) -> Option<u16>
     Some(best)
 }
 
-/// Returns a county to branch at, by its place. It is a county that is in the fewest groups, among those whose weight
-/// is at least a sixth of the lightest group's. If no county is that heavy, it is chosen among all counties of the
-/// groups. Returns `None` if no group has a county.
+/// Returns a county to branch at, by its place, which is below `places`. It is a county that is in the fewest of the
+/// `groups`, among those whose weight in `weights` is at least a sixth of the lightest group's. If no county is that
+/// heavy, it is chosen among all counties of the groups. Returns `None` if no group has a county.
 ///
 /// # Errors
 ///

@@ -18,7 +18,9 @@ use county_problem::Steps;
 use place_sets::CountySet;
 use state_groups::all_groups_of_size;
 
-/// Returns the groups of one county more that fit, where no group of at most the known size fits.
+/// Returns the groups that fit the state of `position` and have one county more than the size that it knows. It may be
+/// called only where no group of at most that size fits. Returns `StepLimit` only if all steps are used, and `Memory`
+/// only if memory was refused.
 pub fn next_groups<C: CountySet>(
     input: &SearchInput<C>,
     position: &Position<C>,
@@ -60,9 +62,9 @@ pub fn next_groups<C: CountySet>(
     }
 }
 
-/// Returns the groups of one county more. If they aren't listed yet, all that fit are listed, and a step is taken for
-/// each set that is looked through. Otherwise the dead ones are left out of the list, and a step is taken for each
-/// listed group.
+/// Returns the groups that have one county more than the size that `position` knows. If they aren't listed yet, all
+/// that fit are listed, and a step is taken for each set that is looked through. Otherwise the dead ones are left out
+/// of the list, and a step is taken for each listed group. Returns `StepLimit` only if all steps are used.
 pub fn larger_groups<C: CountySet>(
     input: &SearchInput<C>,
     position: &Position<C>,

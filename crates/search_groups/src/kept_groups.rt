@@ -125,7 +125,8 @@ pub fn groups_lacking<C: CountySet>(
     )
 }
 
-/// Returns the live groups, in the same order. A group is live if it leaves no part of the rest behind that is stuck.
+/// Returns the live ones of the `groups`, in the same order. A group is live at `state` if it leaves no part of the
+/// rest behind that is stuck.
 ///
 /// A step is taken for each group that is tested. Returns `StepLimit` only if all steps are used, and `Memory` only if
 /// a growth was refused.

@@ -18,7 +18,8 @@ use place_sets::CountySet;
 use state_groups::{State, closed_state, copied_state, first_state, raise_place};
 use std::alloc::AllocError;
 
-/// Returns the position at which a round begins. No group is closed, and nothing is known of any group.
+/// Returns the position at which the round of `input` begins. No group is closed, and nothing is known of any group.
+/// Returns an error if memory was refused.
 pub fn first_position<C: CountySet>(input: &SearchInput<C>) -> Result<Position<C>, AllocError>
     requires { IsSearchInput C.PLACES C.test input.now }
     ensures { IfOk result (λ at. IsPositionAt C.test input.now (empty_state (search_problem input.now)) at) }
@@ -219,8 +220,8 @@ pub fn raised_position<C: CountySet>(
     })
 }
 
-/// Returns the position without its dead groups, at the same state. A position that is already tested comes back as it
-/// is. Otherwise a step is taken for each group.
+/// Returns `position` without its dead groups, at the same state. A position that is already tested comes back as it
+/// is. Otherwise a step is taken for each group. Returns `StepLimit` only if all steps are used.
 pub fn without_dead<C: CountySet>(
     input: &SearchInput<C>,
     position: Position<C>,

@@ -62,7 +62,7 @@ fn find<'a, C: CountySet>(bucket: &'a [PartList<C>], part: &C, size: u16) -> Opt
     None
 }
 
-/// Returns the bucket of a part and a size. It depends on each place of the part.
+/// Returns the bucket of `part` and `size`, from 0 to 1,020. It depends on each place of the part.
 fn bucket_of<C: CountySet>(part: &C, size: u16) -> usize {
     let mut hash = u32::from(size) % BUCKETS;
     let mut from = 0;

@@ -8,7 +8,7 @@ use place_sets::CountySet;
 use state_groups::weight_in;
 use std::alloc::{AllocError, Global};
 
-/// Returns the places of all groups.
+/// Returns the places that some of the `groups` have.
 pub(crate) fn covered_by<C: CountySet>(alloc: Global, groups: &[C]) -> Result<C, AllocError>
     ensures { IfOk result (λ s. (x : ℕ) → C.test s x ≡ list_any (λ g. C.test g x) groups.now) }
 {
@@ -19,7 +19,8 @@ pub(crate) fn covered_by<C: CountySet>(alloc: Global, groups: &[C]) -> Result<C,
     Ok(covered)
 }
 
-/// Returns the index of the lightest group and its weight. If several are lightest, it is the first of them.
+/// Returns the index of the lightest of the `groups`, of which there is at least one, and its weight. The weight of a
+/// group is the sum of the `weights` at its places. If several are lightest, it is the first of them.
 pub(crate) fn lightest<C: CountySet>(weights: &[u32], groups: &[C]) -> (usize, u64)
     requires few { length weights.now ≤ most_counties }
     requires below { AreBelow (length weights.now) C.test groups.now }

@@ -11,7 +11,8 @@ use place_sets::CountySet;
 use state_groups::{State, has_stuck_part, is_stuck_at};
 use std::alloc::AllocError;
 
-/// Returns the first place of the rest around which the connected part is stuck. Returns `None` if no part is.
+/// Returns the first place of the rest of `state` around which the connected part is stuck. Returns `None` if no part
+/// is.
 fn stuck_place<C: CountySet>(
     graph: &CountyGraph<C>,
     state: &State<C>,
@@ -36,7 +37,7 @@ fn stuck_place<C: CountySet>(
     Ok(None)
 }
 
-/// Returns a county for which a stuck leaf is valid at the state: the connected part of the rest around it can't be
+/// Returns a county for which a stuck leaf is valid at `state`: the connected part of the rest around it can't be
 /// filled. If there are several, it is the one at the first place. Returns `None` exactly if there is no such county.
 ///
 /// Returns an error if memory was refused.

@@ -35,7 +35,8 @@ pub(crate) fn uniform<C: CountySet>(
     Ok(weights)
 }
 
-/// Makes each county of a group heavier by a fifth and 1. Returns whether one of them is past the limit.
+/// Makes each county of `group` heavier by 1 and a fifth of its weight, rounded down. No weight becomes greater than
+/// 1,000,000. Returns whether one of their `weights` is above 400,000 then.
 fn make_heavier<C: CountySet>(weights: &mut [u32], group: &C) -> bool
     requires below { (x : ℕ) → C.test group.now x ≡ true → x < length weights.old }
     requires range { All (λ w. w ≤ 1000000) weights.old }
@@ -54,7 +55,7 @@ fn make_heavier<C: CountySet>(weights: &mut [u32], group: &C) -> bool
     heavy
 }
 
-/// Halves all weights, rounding up.
+/// Halves each of the `weights`, rounding up.
 fn halve(weights: &mut [u32])
     requires range { All (λ w. w ≤ 1000000) weights.old }
     ensures count { length weights.new ≡ length weights.old }
@@ -65,7 +66,8 @@ fn halve(weights: &mut [u32])
     }
 }
 
-/// Makes each county of a group heavier. If one is too heavy then, all weights are halved.
+/// Makes each county of `group` heavier by 1 and a fifth of its weight. If one weighs more than 400,000 then, all
+/// `weights` are halved.
 pub(crate) fn raise<C: CountySet>(weights: &mut [u32], group: &C)
     requires below { (x : ℕ) → C.test group.now x ≡ true → x < length weights.old }
     requires range { All (λ w. w ≤ 1000000) weights.old }

@@ -16,7 +16,7 @@ use certificate_data::Round;
 use place_sets::CountySet;
 use std::alloc::{AllocError, Global};
 
-/// Returns the numbers of the pieces that wait, in the order of the list.
+/// Returns the numbers of the pieces that wait, in the order of `fates`. The pieces are numbered from 1.
 fn open_numbers(alloc: Global, fates: &[Fate]) -> Result<Vec<u32>, AllocError>
     requires { length fates.now < 4294967296 }
     ensures { IfOk result (λ v. v.items ≡ numbers_of 1 fates.now) }

@@ -69,7 +69,8 @@ fn open_takes<C: CountySet>(
     Ok(takes)
 }
 
-/// Returns the tree of a branch: its takes, and then the tree for the state where its county is raised.
+/// Returns the tree of `branching` at `state`: its takes, and then the tree for the state where its county is raised.
+/// The branching is the first of at most `depth`. The states of new pieces are appended to `states`.
 #[cycle(opening)]
 fn open_branch<C: CountySet>(
     input: &OpeningInput<C>,

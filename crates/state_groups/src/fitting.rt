@@ -34,7 +34,8 @@ pub fn open_places<C: CountySet>(
     Ok(open)
 }
 
-/// Returns whether each county of the group is open to a group of its size.
+/// Returns whether each county of `group` is open to a group of its size: it is in the rest of `state`, and doesn't ask
+/// for a larger group.
 pub fn is_open<C: CountySet>(state: &State<C>, group: &C) -> bool
     requires below { (x : ℕ) → C.test group.now x ≡ true → x < length state.now.least.items }
     ensures { IsTrue result

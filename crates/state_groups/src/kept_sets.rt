@@ -15,7 +15,7 @@ use county_problem::Ordered;
 use place_sets::CountySet;
 use std::alloc::AllocError;
 
-/// Returns the most populous place of the set, and the first of them if there are several. Returns `None` if the set is
+/// Returns the most populous place of `set`, and the first of them if there are several. Returns `None` if the set is
 /// empty.
 pub(crate) fn most_populous<C: CountySet>(ordered: &Ordered, set: &C) -> Option<u16>
     requires { (x : ℕ) → C.test set.now x ≡ true → x < length ordered.now.order }
@@ -32,7 +32,8 @@ pub(crate) fn most_populous<C: CountySet>(ordered: &Ordered, set: &C) -> Option<
     Some(found)
 }
 
-/// Returns whether the set has the size that is asked for. Unless the test is exact, any size will do.
+/// Returns whether `set` has the size that is asked for. If `test` is exact, that is the greatest allowed number of
+/// places. Otherwise any size will do.
 fn has_size<C: CountySet>(input: &GrowthInput<C>, test: &StateTest<C>, set: &C) -> bool
     requires small { length (places_of (places_in input.now) (C.test set.now)) ≤ input.now.limit }
     requires below { (x : ℕ) → C.test set.now x ≡ true → x < places_in input.now }

@@ -85,7 +85,7 @@ fn may_fit<C: CountySet>(
     }
 }
 
-/// Returns whether the people of a set, together with those of places in reach that join it, may fit.
+/// Returns whether the people of the set of `growth`, together with those of places in `reach` that join it, may fit.
 fn may_grow<C: CountySet>(
     input: &GrowthInput<C>,
     test: &StateTest<C>,
@@ -115,7 +115,7 @@ fn may_grow<C: CountySet>(
     may_fit(input, test, least, greatest)
 }
 
-/// Returns whether nothing can come of a growth. One reason is that no places that may join the set give it people that
+/// Returns whether nothing can come of `growth`. One reason is that no places that may join the set give it people that
 /// may fit. Only the places that it reaches by as many moves as places may join it are considered. The other reason is
 /// that the set leaves a part behind that can't be filled. A set that already has the greatest allowed number of places
 /// isn't passed over.

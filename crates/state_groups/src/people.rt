@@ -9,7 +9,7 @@ use county_problem::Ordered;
 use place_sets::CountySet;
 use std::alloc::{AllocError, Global};
 
-/// Returns the people and the place of each place of a set. The places with the fewest people come first.
+/// Returns the people and the place of each place of `set`. The places with the fewest people come first.
 pub(crate) fn places_by_people<C: CountySet>(
     alloc: Global,
     ordered: &Ordered,

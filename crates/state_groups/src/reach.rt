@@ -9,7 +9,7 @@ use connected_sets::{CountyGraph, Growth, GrowthInput};
 use place_sets::CountySet;
 use std::alloc::AllocError;
 
-/// Returns the places that are adjacent to a place of the set.
+/// Returns the places that are adjacent to a place of `set`.
 fn neighbours_of<C: CountySet>(graph: &CountyGraph<C>, set: &C) -> Result<C, AllocError>
     requires graph { IsGraph C.test C.PLACES graph.now }
     requires below { (x : ℕ) → C.test set.now x ≡ true → x < graph_places graph.now }

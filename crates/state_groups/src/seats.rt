@@ -15,7 +15,7 @@ use county_problem::Ordered;
 use place_sets::CountySet;
 use std::alloc::AllocError;
 
-/// Returns the least and the greatest number of seats that the people of a set suit. Returns `None` if they suit no
+/// Returns the least and the greatest number of seats that the people of `set` suit. Returns `None` if they suit no
 /// number.
 fn seats_in<C: CountySet>(ordered: &Ordered, set: &C) -> Option<(u64, u64)>
     requires { (x : ℕ) → C.test set.now x ≡ true → x < length ordered.now.order }
@@ -28,8 +28,8 @@ fn seats_in<C: CountySet>(ordered: &Ordered, set: &C) -> Option<(u64, u64)>
     Some((u64::from(low), u64::from(high)))
 }
 
-/// Returns the sum of the least numbers of seats of the sets, and the sum of the greatest. Returns `None` if the people
-/// of some set suit no number.
+/// Returns the sum of the least numbers of seats of the `sets`, and the sum of the greatest. Returns `None` if the
+/// people of some set suit no number.
 fn seat_sums<C: CountySet>(ordered: &Ordered, sets: &[C]) -> Option<(u64, u64)>
     requires few { length sets.now ≤ 65536 }
     requires below { All (λ s. (x : ℕ) → C.test s x ≡ true → x < length ordered.now.order) sets.now }
@@ -47,16 +47,16 @@ fn seat_sums<C: CountySet>(ordered: &Ordered, sets: &[C]) -> Option<(u64, u64)>
     Some((least, greatest))
 }
 
-/// Returns whether a number of seats is below the least or above the greatest.
+/// Returns whether this number of `seats` is below `least` or above `greatest`.
 fn is_outside(seats: u64, least: u64, greatest: u64) -> bool
     ensures { result ≡ (nat_lt seats least || nat_lt greatest seats) }
 {
     seats < least || greatest < seats
 }
 
-/// Returns whether a seats leaf is valid. Each connected part of the rest must suit some number of seats. Over the
-/// closed groups and these parts, the least numbers must add up to more than the seats left, or the greatest numbers to
-/// fewer.
+/// Returns whether a seats leaf is valid at `state`. Each connected part of the rest must suit some number of seats,
+/// and each closed group too. Over the closed groups and these parts, the least numbers must add up to more than the
+/// seats left, or the greatest numbers to fewer. Returns an error if memory was refused.
 pub fn is_off_seats<C: CountySet>(
     graph: &CountyGraph<C>,
     state: &State<C>,

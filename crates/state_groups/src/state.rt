@@ -37,7 +37,7 @@ fn all_places<C: CountySet>(alloc: Global, places: u16) -> Result<C, AllocError>
     Ok(all)
 }
 
-/// Returns a list with a 0 for each place.
+/// Returns a list with a 0 for each of this number of `places`.
 fn no_sizes(alloc: Global, places: u16) -> Result<Vec<u16>, AllocError>
     ensures count { IfOk result (λ v. length v.items ≡ places) }
     ensures none { IfOk result (λ v. (x : ℕ) → get_or v.items x 0 ≡ 0) }
@@ -49,7 +49,7 @@ fn no_sizes(alloc: Global, places: u16) -> Result<Vec<u16>, AllocError>
     Ok(least)
 }
 
-/// Sets the numbers at the places of a set to 0. The others stay the same.
+/// Sets the numbers of `least` at the places of `set` to 0. The others stay the same.
 fn clear_sizes<C: CountySet>(least: &mut Vec<u16>, set: &C)
     requires fits { length least.old.items ≤ C.PLACES }
     requires few { length least.old.items < 65536 }
@@ -64,7 +64,7 @@ fn clear_sizes<C: CountySet>(least: &mut Vec<u16>, set: &C)
     }
 }
 
-/// Returns the state of an order at which a search begins. No group is closed, and each county may lie in a group of
+/// Returns the state of `ordered` at which a search begins. No group is closed, and each county may lie in a group of
 /// any size.
 fn empty_by_places<C: CountySet>(alloc: Global, ordered: &Ordered) -> Result<State<C>, AllocError>
     requires fits { length ordered.now.order ≤ C.PLACES }
@@ -80,8 +80,8 @@ fn empty_by_places<C: CountySet>(alloc: Global, ordered: &Ordered) -> Result<Sta
     })
 }
 
-/// Returns the state at which a certificate begins. No group is closed, and nothing is asked of a county. Returns an
-/// error if memory was refused.
+/// Returns the state of `ordered` at which a certificate begins. No group is closed, and nothing is asked of a county.
+/// Returns an error if memory was refused.
 pub fn first_state<C: CountySet>(alloc: Global, ordered: &Ordered) -> Result<State<C>, AllocError>
     requires fits { length ordered.now.order ≤ C.PLACES }
     ensures value { IfOk result (λ s. state_at ordered.now.order C.test s
@@ -120,7 +120,7 @@ pub fn closed_state<C: CountySet>(
     })
 }
 
-/// Returns an equal state, or an error if memory was refused.
+/// Returns a state that equals `state`, or an error if memory was refused.
 pub fn copied_state<C: CountySet>(
     alloc: Global,
     ordered: &Ordered,

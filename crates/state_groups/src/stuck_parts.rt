@@ -32,8 +32,8 @@ pub(crate) fn asks_more<C: CountySet>(state: &State<C>, set: &C, size: u32) -> b
     false
 }
 
-/// Returns whether no groups can fill the set. That is so if its people suit no number of seats, or if one of its
-/// counties asks for a group of more counties than the set has.
+/// Returns whether no groups can fill the set `part` at `state`. That is so if its people suit no number of seats, or
+/// if one of its counties asks for a group of more counties than the set has.
 pub fn is_stuck<C: CountySet>(ordered: &Ordered, state: &State<C>, part: &C) -> bool
     requires places { length state.now.least.items ≡ length ordered.now.order }
     requires below { (x : ℕ) → C.test part.now x ≡ true → x < length ordered.now.order }
@@ -48,7 +48,7 @@ pub fn is_stuck<C: CountySet>(ordered: &Ordered, state: &State<C>, part: &C) -> 
     asks_more(state, part, part.size())
 }
 
-/// Returns whether the set has none of the free places and can't be filled.
+/// Returns whether the set `part` has none of the `free` places and can't be filled at `state`.
 fn is_cut_off<C: CountySet>(ordered: &Ordered, state: &State<C>, part: &C, free: &C) -> bool
     requires places { length state.now.least.items ≡ length ordered.now.order }
     requires below { (x : ℕ) → C.test part.now x ≡ true → x < length ordered.now.order }
@@ -62,7 +62,8 @@ fn is_cut_off<C: CountySet>(ordered: &Ordered, state: &State<C>, part: &C, free:
     is_stuck(ordered, state, part)
 }
 
-/// Returns whether the region has a connected part that has none of the free places and can't be filled.
+/// Returns whether `region` has a connected part that has none of the `free` places and can't be filled at `state`.
+/// Returns an error if memory was refused.
 pub fn has_stuck_part<C: CountySet>(
     graph: &CountyGraph<C>,
     state: &State<C>,
@@ -86,8 +87,9 @@ pub fn has_stuck_part<C: CountySet>(
     Ok(false)
 }
 
-/// Returns whether the set is too small for one of its places that isn't free. It is if it has fewer people than one
-/// seat asks for, or fewer places than that place asks for. Then nothing of the set around the place can be filled.
+/// Returns whether the set `part` is too small for one of its places that isn't `free`. It is if it has fewer people
+/// than one seat asks for, or fewer places than that place asks for. Then nothing of the set around the place can be
+/// filled.
 fn is_too_small<C: CountySet>(
     alloc: Global,
     ordered: &Ordered,
@@ -114,8 +116,8 @@ fn is_too_small<C: CountySet>(
     Ok(asks_more(state, &kept, part.size()))
 }
 
-/// Returns whether the set is stranded. A set without a free place is stranded if it can't be filled. Any other set is
-/// stranded if it is too small for a place that isn't free.
+/// Returns whether the set `part` is stranded. A set without a `free` place is stranded if it can't be filled. Any
+/// other set is stranded if it is too small for a place that isn't free.
 fn is_stranded<C: CountySet>(
     alloc: Global,
     ordered: &Ordered,
@@ -136,7 +138,7 @@ fn is_stranded<C: CountySet>(
     is_too_small(alloc, ordered, state, part, free)
 }
 
-/// Returns whether some connected part of the region is stranded.
+/// Returns whether some connected part of `region` is stranded at `state`, with these `free` places.
 fn has_stranded_part<C: CountySet>(
     graph: &CountyGraph<C>,
     state: &State<C>,
@@ -161,9 +163,9 @@ fn has_stranded_part<C: CountySet>(
     Ok(false)
 }
 
-/// Returns whether each group that has all of the set, and otherwise only free places, leaves a part behind that can't
+/// Returns whether each group that has all of `set`, and otherwise only `free` places, leaves a part behind that can't
 /// be filled. Either no free place can reach that part, or it lies in a part of what the set leaves that is too small
-/// for a place that isn't free. In a plain format no group is left out for that.
+/// for a place that isn't free. In a plain `format` no group is left out for that.
 ///
 /// # Errors
 ///
@@ -193,7 +195,8 @@ pub fn strands<C: CountySet>(
     }
 }
 
-/// Returns whether a group of the rest is live, which means that no connected part of the rest without it is stuck.
+/// Returns whether a `group` of the rest is live, which means that no connected part of the rest of `state` without it
+/// is stuck. Returns an error if memory was refused.
 pub fn is_live<C: CountySet>(
     graph: &CountyGraph<C>,
     state: &State<C>,

@@ -8,7 +8,7 @@ ghost use Rattle.county_problem.specs.OrderedValue.{problem_at};
 use county_problem::Ordered;
 use place_sets::CountySet;
 
-/// Returns the people of the counties at the places of a set.
+/// Returns the people of the counties at the places of `set`.
 pub fn people_in<C: CountySet>(ordered: &Ordered, set: &C) -> u64
     requires below { (x : ℕ) → C.test set.now x ≡ true → x < length ordered.now.order }
     ensures value { result
@@ -26,7 +26,7 @@ pub fn people_in<C: CountySet>(ordered: &Ordered, set: &C) -> u64
     people
 }
 
-/// Returns the sum of the weights at the places of a set.
+/// Returns the sum of the `weights` at the places of `set`.
 pub fn weight_in<C: CountySet>(weights: &[u32], set: &C) -> u64
     requires few { length weights.now ≤ 65536 }
     requires below { (x : ℕ) → C.test set.now x ≡ true → x < length weights.now }

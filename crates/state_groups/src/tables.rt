@@ -48,7 +48,8 @@ fn divided_people<C: CountySet>(
     }
 }
 
-/// Builds the tables for a state and a region of its rest.
+/// Builds the tables for `state` and a `region` of its rest, where groups have this `format` and at most `limit`
+/// counties.
 pub(crate) fn make_tables<C: CountySet>(
     alloc: Global,
     ordered: &Ordered,

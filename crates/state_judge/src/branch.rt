@@ -98,7 +98,7 @@ fn branch_place<C: CountySet>(
     }
 }
 
-/// Judges the line of a branch at a county, which has a limit of its own in a wide round, and lists its groups.
+/// Judges the line of a branch at `county`, which has a `limit` of its own in a wide round, and lists its groups.
 ///
 /// A step is taken for each set that is split.
 ///

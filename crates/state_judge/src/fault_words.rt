@@ -6,7 +6,8 @@ ghost use Rattle.state_judge.specs.FaultWords.{check_words};
 use crate::fault::CheckFault;
 use std::alloc::AllocError;
 
-/// Returns the words of a fault: its own, and those of the fault that it contains, if there is one.
+/// Returns the words of `fault`: its own, and those of the fault that it contains, if there is one. Otherwise the
+/// second words are empty.
 fn words_of(fault: CheckFault) -> (&'static [u8], &'static [u8])
     ensures { result.0.now ++ result.1.now ≡ check_words fault }
 {
@@ -29,7 +30,7 @@ fn words_of(fault: CheckFault) -> (&'static [u8], &'static [u8])
     }
 }
 
-/// Appends the words of a fault as they are in the lines of the program, such as `NotStuck`. If the fault is one of the
+/// Appends the words of `fault` as they are in the lines of the program, such as `NotStuck`. If the fault is one of the
 /// text or of the target, the word of that fault follows. It fails only if a growth was refused.
 pub fn push_check_fault(out: &mut Vec<u8>, fault: CheckFault) -> Result<(), AllocError>
     ensures { OnOk result (out.new.items ≡ out.old.items ++ check_words fault) }

@@ -45,8 +45,8 @@ pub fn judge_stuck<C: CountySet>(
     Ok(Some(CheckFault::NotStuck))
 }
 
-/// Returns the fault of a seats leaf, or `None` if the leaf is valid. The fault is `SeatsOpen` if a part of the rest
-/// suits no number of seats, or if the seats may add up to those left.
+/// Returns the fault of a seats leaf at `state`, or `None` if the leaf is valid. The fault is `SeatsOpen` if a part of
+/// the rest suits no number of seats, or if the seats may add up to those left.
 ///
 /// Returns an error if memory was refused.
 pub fn judge_seats<C: CountySet>(

@@ -29,7 +29,7 @@ struct State {
     pairs: Vec<(CountyCode, CountyCode)>,
 }
 
-/// Returns the counties with one person each. In a chamber with as many seats as counties, each set of them suits as
+/// Returns the `counties` with one person each. In a chamber with as many seats as counties, each set of them suits as
 /// many seats as it has counties.
 fn of_one_person(alloc: Global, counties: &[County]) -> Result<Vec<County>, AllocError> {
     let mut alike = Vec::new(alloc);
@@ -146,7 +146,7 @@ pub(crate) fn show_form(rt: &HostRuntime, limit: u16, form: &str) -> Result<()> 
     show_in(rt, &State::load(rt)?, limit, form)
 }
 
-/// Prints the pairs of adjacent counties.
+/// Prints the pairs of adjacent counties of `state`, a line for each pair.
 fn show_pairs(rt: &HostRuntime, state: &State) -> Result<()> {
     println!(rt; "-- carolina")?;
     for (a, b) in &state.pairs {

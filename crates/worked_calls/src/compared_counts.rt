@@ -34,7 +34,8 @@ fn counts_of(alloc: Global, sets: Sets) -> Result<Counts> {
     Ok(judge(alloc, &path, &grouping.copy()?)?)
 }
 
-/// Prints the size of the longest group, and how many groups there are of each size up to one more.
+/// Prints the size of the longest group that `counts` have, and how many groups there are of each size from 0 up to one
+/// more.
 fn show_counts(rt: &HostRuntime, counts: &Counts) -> Result<()> {
     println!(rt; "the longest group has {}", counts.longest())?;
     for size in 0..=counts.longest().saturating_add(1) {

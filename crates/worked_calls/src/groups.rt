@@ -19,7 +19,7 @@ const FEW_PEOPLE: Sketch = Sketch {
     chamber: 2,
 };
 
-/// Prints places on a line.
+/// Prints `places` on a line.
 fn show_list(rt: &HostRuntime, places: &[u16]) -> Result<()> {
     for place in places {
         print!(rt; " {place}")?;
@@ -28,7 +28,7 @@ fn show_list(rt: &HostRuntime, places: &[u16]) -> Result<()> {
     Ok(())
 }
 
-/// Prints the places of a set.
+/// Prints the places of `set` on a line.
 pub(crate) fn show_places<C: CountySet>(rt: &HostRuntime, set: &C) -> Result<()>
     requires { 128 ≤ C.PLACES }
 {
@@ -36,7 +36,7 @@ pub(crate) fn show_places<C: CountySet>(rt: &HostRuntime, set: &C) -> Result<()>
     show_list(rt, places.as_slice())
 }
 
-/// Prints the places of each set.
+/// Prints the places of each of the `sets`, a line for each set.
 fn show_each<C: CountySet>(rt: &HostRuntime, sets: &[C]) -> Result<()>
     requires { 128 ≤ C.PLACES }
 {
@@ -69,8 +69,9 @@ fn show_search(rt: &HostRuntime, search: Search, used: u64) -> Result<()> {
     Ok(())
 }
 
-/// Prints the groups from a place of an order, and how many steps they took. Prints nothing if the order has no such
-/// place. Returns an error if memory was refused.
+/// Prints the groups from a place of `ordered`, and how many steps they took. `search` has the place, the most counties
+/// of a group, and the most steps. Prints nothing if the order has no such place. Returns an error if memory was
+/// refused, or if the form of sets has too few places.
 fn show_groups<C: CountySet>(rt: &HostRuntime, ordered: &Ordered, search: Search) -> Result<()>
     requires { 128 ≤ C.PLACES }
 {

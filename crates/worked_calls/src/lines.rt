@@ -39,7 +39,7 @@ fn show_lengths(rt: &HostRuntime, text: &str) -> Result<()> {
     Ok(())
 }
 
-/// Prints the pieces of a text.
+/// Prints the first pieces of `text`, at most 20, each with its number and whether an LF ended it.
 fn show_pieces(rt: &HostRuntime, text: &[u8]) -> Result<()> {
     println!(rt; "pieces of {:?}", str::from_utf8(text)?)?;
     let mut pieces = RawLines::new(text);

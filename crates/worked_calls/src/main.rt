@@ -30,7 +30,7 @@ use anyhow::Result;
 use place_sets::{CountySet, ListSet, MaskSet, WideSet};
 use std::env;
 
-/// Prints what calls over one form of sets answer.
+/// Prints what calls over one form of sets answer, behind a line with the name `form`.
 fn show_sets<C: CountySet>(rt: &HostRuntime, form: &str) -> Result<()>
     requires { 128 ≤ C.PLACES }
 {

@@ -17,7 +17,7 @@ fn show_place(rt: &HostRuntime, ordered: &Ordered, place: u16) -> Result<()> {
     Ok(())
 }
 
-/// Prints an order as a whole, and its counties place by place.
+/// Prints `ordered` as a whole, and its counties place by place.
 fn show_places(rt: &HostRuntime, ordered: &Ordered) -> Result<()> {
     println!(rt; "{ordered:?}")?;
     println!(rt;

@@ -5,7 +5,7 @@ use anyhow::{Error, Result};
 use county_codes::CountyCode;
 use county_problem::{Problem, ProblemFault};
 
-/// Prints the counties of a problem.
+/// Prints the counties of `problem`, each with its people.
 fn show_counties(rt: &HostRuntime, problem: &Problem) -> Result<()> {
     for county in problem.counties() {
         println!(rt; "county {} of {}", county.code, county.people)?;
@@ -13,7 +13,7 @@ fn show_counties(rt: &HostRuntime, problem: &Problem) -> Result<()> {
     Ok(())
 }
 
-/// Prints the withdrawn sets of a problem.
+/// Prints how many seats and how many counties each withdrawn set of `problem` has.
 fn show_sets(rt: &HostRuntime, problem: &Problem) -> Result<()> {
     for set in problem.withdrawn() {
         let set = set.copy()?;
@@ -23,7 +23,7 @@ fn show_sets(rt: &HostRuntime, problem: &Problem) -> Result<()> {
     Ok(())
 }
 
-/// Prints whether some counties of a problem are adjacent.
+/// Prints whether some counties are adjacent in `problem`, for four pairs.
 fn show_pairs(rt: &HostRuntime, problem: &Problem) -> Result<()> {
     for (a, b) in [(1, 3), (3, 1), (3, 5), (1, 1)] {
         if let (Some(a), Some(b)) = (code(a), code(b)) {
@@ -33,7 +33,7 @@ fn show_pairs(rt: &HostRuntime, problem: &Problem) -> Result<()> {
     Ok(())
 }
 
-/// Prints the people of a listed county, and of a code that isn't listed.
+/// Prints the people of a county that `problem` lists, and of a code that it doesn't list.
 fn show_people(rt: &HostRuntime, problem: &Problem) -> Result<()> {
     for number in [3, 9] {
         if let Some(code) = code(number) {

@@ -21,8 +21,8 @@ fn show_cut<C: CountySet>(rt: &HostRuntime, part: &C, rest: &C) -> Result<()>
     show_places(rt, rest)
 }
 
-/// Prints the connected part around place 0 of the places that aren't in `out`, and the places that are left. Prints
-/// nothing if place 0 isn't among them.
+/// Prints the connected part around place 0 of the places of `ordered` that aren't in `out`, and the places that are
+/// left. Prints nothing if place 0 isn't among them.
 fn show_part<C: CountySet>(rt: &HostRuntime, ordered: &Ordered, out: &[u16]) -> Result<()>
     requires { 128 ≤ C.PLACES }
 {
@@ -46,7 +46,8 @@ fn show_part<C: CountySet>(rt: &HostRuntime, ordered: &Ordered, out: &[u16]) -> 
 /// Lists of places that are left out of the ring of four.
 const TAKEN: &[&[u16]] = &[&[], &[1], &[1, 3]];
 
-/// Prints parts of a problem's counties, in the order in which they are listed.
+/// Prints parts of the counties of `problem`, in the order in which they are listed. For each part, a list of places of
+/// `TAKEN` is left out.
 fn show_parts<C: CountySet>(rt: &HostRuntime, problem: &Problem) -> Result<()>
     requires { 128 ≤ C.PLACES }
 {

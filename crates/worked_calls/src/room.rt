@@ -6,7 +6,7 @@ use anyhow::{Error, Result};
 use county_problem::Ordered;
 use place_sets::CountySet;
 
-/// Checks that the form of sets has a place for each county of the order. Returns an error if it has fewer places.
+/// Checks that the form of sets has a place for each county of `ordered`. Returns an error if it has fewer places.
 pub(crate) fn room_for<C: CountySet>(ordered: &Ordered) -> Result<()>
     ensures { IfOk result (λ _. length ordered.now.order ≤ C.PLACES) }
 {

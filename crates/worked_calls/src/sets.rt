@@ -28,7 +28,7 @@ fn show_next<C: CountySet>(rt: &HostRuntime, set: &C) -> Result<()> {
     Ok(())
 }
 
-/// Prints how two sets stand to each other.
+/// Prints how the sets `one` and `other` stand to each other.
 fn show_relations<C: CountySet>(rt: &HostRuntime, one: &C, other: &C) -> Result<()> {
     println!(rt;
         "within {}, meets {}, first outside {:?}, order {:?}",

@@ -114,7 +114,7 @@ pub(crate) fn grouping(alloc: Global, sets: &[(u16, &[u32])]) -> Result<Grouping
     Ok(Grouping { groups })
 }
 
-/// Builds the withdrawn sets of a sketch, each with its seats.
+/// Builds the withdrawn sets of a sketch. Each of the `sets` gives its seats and the numbers of its counties.
 fn withdrawn(alloc: Global, sets: &[(u16, &[u32])]) -> Result<Vec<Withdrawn>, AllocError> {
     let mut list = Vec::new(alloc);
     for (seats, numbers) in sets {

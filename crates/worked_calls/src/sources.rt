@@ -37,8 +37,8 @@ impl Read for Script<'_> {
     }
 }
 
-/// Prints what five pulls of at most seven bytes give. Whether the source tells a failure is printed first, and again
-/// for each pull that fails.
+/// Prints what five pulls of at most seven bytes of `source` give. Whether the source tells a failure is printed first,
+/// behind its `name`, and again for each pull that fails.
 fn show_pulls<S: Source>(rt: &HostRuntime, name: &str, mut source: S) -> Result<()>
 where
     S: Drop,

@@ -71,7 +71,7 @@ fn show_raised<C: CountySet>(rt: &HostRuntime, ordered: &Ordered, state: State<C
     show_closed(rt, ordered, &state)
 }
 
-/// Prints the first state of an order, and those that come from it.
+/// Prints the first state of `ordered`, and those that come from it.
 fn show_states<C: CountySet>(rt: &HostRuntime, ordered: &Ordered) -> Result<()>
     requires { 128 ≤ C.PLACES }
 {

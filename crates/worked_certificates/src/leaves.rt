@@ -120,7 +120,8 @@ fn checked<C: CountySet>(
     Ok(format!(in alloc; "a {kind} leaf, checked {said}")?)
 }
 
-/// Returns in words which leaf is found where nothing is closed, and what the checker says of it.
+/// Returns in words which leaf of `round` is found where nothing is closed, and what the checker says of it. If no leaf
+/// is found, the words say so.
 fn first_leaf(alloc: Global, problem: &Problem, ordered: &Ordered, round: &Round) -> Result<String>
     requires few { length ordered.now.order ≤ 128 }
     requires same { ordered.now.order ≡ round.now.order }

@@ -36,7 +36,7 @@ use std::fs;
 /// How many trees are made.
 const TREES: u32 = 10_000;
 
-/// Prints what is said of a case.
+/// Prints the name of `case` and what is said of its bytes.
 fn show_case(rt: &HostRuntime, case: &Case) -> Result<()> {
     let said = reading(rt.alloc(), case.kind, &case.bytes)?;
     println!(rt; "{}: {said}", case.name)?;

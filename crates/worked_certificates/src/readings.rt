@@ -6,12 +6,12 @@ use certificate_lines::{ItemSource, Items, TextFault, TextKind, Words};
 use certificate_text::{front_tree, read_tree, write_tree};
 use std::alloc::Global;
 
-/// Returns the word for what a comparison showed.
+/// Returns the word for what a comparison showed: `equal` or `DIFFERENT`.
 fn outcome(equal: bool) -> &'static str {
     if equal { "equal" } else { "DIFFERENT" }
 }
 
-/// Returns whether one more item comes, or the fault that ends the items.
+/// Returns whether one more of the `items` comes, or the fault that ends them.
 fn comes<S: ItemSource<()>>(items: &mut S) -> std::result::Result<bool, TextFault> {
     Ok(items.next_item(&mut ())?.is_some())
 }
@@ -24,7 +24,8 @@ fn of_text(fault: TextFault) -> Result<TextFault> {
     }
 }
 
-/// Counts the items that come. Returns how many they are, and the fault that ends them, if there is one.
+/// Counts the `items` that come. Returns how many they are, and the fault that ends them, if there is one. Returns an
+/// error if memory was refused.
 fn count_items<S: ItemSource<()>>(items: &mut S) -> Result<(u64, Option<TextFault>)> {
     for count in 0..u64::MAX {
         match comes(items) {
@@ -47,8 +48,8 @@ fn fault_said(alloc: Global, fault: TextFault, met: Option<TextFault>) -> Result
     }
 }
 
-/// Reads a tree, for an order of three counties. Returns in words how many lines it has and whether its copy is written
-/// back as the same bytes, or its fault.
+/// Reads `bytes` as a tree in this `format`, for an order of three counties. Returns in words how many lines it has and
+/// whether its copy is written back as the same bytes, or its fault.
 fn tree(alloc: Global, bytes: &[u8], format: Format) -> Result<String> {
     let (lines, met) = count_items(&mut Items::of_tree(alloc, bytes, format, 3))?;
     match read_tree(alloc, bytes, format, 3) {
@@ -61,8 +62,8 @@ fn tree(alloc: Global, bytes: &[u8], format: Format) -> Result<String> {
     }
 }
 
-/// Reads a tree in front of other bytes, for an order of three counties. Returns in words how many bytes are left and
-/// whether the tree is written back as the same bytes, or its fault.
+/// Reads the tree in this `format` with which `bytes` begin, for an order of three counties. Returns in words how many
+/// bytes are left and whether the tree is written back as the same bytes, or its fault.
 fn front(alloc: Global, bytes: &[u8], format: Format) -> Result<String> {
     match front_tree(alloc, bytes, format, 3) {
         Ok((tree, place)) => {
@@ -79,8 +80,8 @@ fn front(alloc: Global, bytes: &[u8], format: Format) -> Result<String> {
     }
 }
 
-/// Reads the words of a line: the name `line`, a number up to 128, and codes. Returns the number and how many codes
-/// there are.
+/// Reads `bytes` as the words of a line: the name `line`, a number up to 128, and codes. Returns the number and how
+/// many codes there are.
 fn line_of(alloc: Global, bytes: &[u8]) -> std::result::Result<(u32, usize), TextKind> {
     let mut words = Words::new(bytes, true)?;
     words.named(b"line")?;
@@ -90,7 +91,8 @@ fn line_of(alloc: Global, bytes: &[u8]) -> std::result::Result<(u32, usize), Tex
     Ok((number, codes.as_slice().len()))
 }
 
-/// Reads a line of words. Returns in words its number and how many codes it has, or its fault.
+/// Reads `bytes`, with or without a last LF, as a line of words. Returns in words its number and how many codes it has,
+/// or its fault. Returns an error if memory was refused.
 fn words(alloc: Global, bytes: &[u8]) -> Result<String> {
     let line = bytes.strip_suffix(b"\n").unwrap_or(bytes);
     match line_of(alloc, line) {

@@ -20,8 +20,8 @@ fn named<D: Display>(alloc: Global, name: &str, said: &D) -> Result<String> {
     Ok(format!(in alloc; "{name}: {said}")?)
 }
 
-/// Returns what is said of a value that was to be `written`: how many bytes its text has, or the fault. Returns an
-/// error if memory was refused.
+/// Returns what is said of the value `name` that was to be `written`: how many bytes its text has, or the fault.
+/// Returns an error if memory was refused.
 fn said(
     alloc: Global,
     name: &str,
@@ -140,7 +140,7 @@ fn grouped(alloc: Global, count: u32) -> Result<String> {
     said(alloc, &name, write(alloc, &certificate))
 }
 
-/// Appends what is said of certificates that name a tolerance: at the ends of its range, and past them.
+/// Appends to `lines` what is said of certificates that name a tolerance: at the ends of its range, and past them.
 fn allowances(alloc: Global, lines: &mut Vec<String>) -> Result<()> {
     for (numerator, denominator) in [
         (1, 20),
@@ -156,7 +156,7 @@ fn allowances(alloc: Global, lines: &mut Vec<String>) -> Result<()> {
     Ok(())
 }
 
-/// Appends what is said of certificates at a limit and one past it, and of those that name a tolerance.
+/// Appends to `lines` what is said of certificates at a limit and one past it, and of those that name a tolerance.
 fn certificates(alloc: Global, lines: &mut Vec<String>) -> Result<()> {
     allowances(alloc, lines)?;
     for limit in [256, 257] {
@@ -202,7 +202,7 @@ fn take_said(alloc: Global, levels: u16, count: u32) -> Result<String>
     )
 }
 
-/// Appends what is said of branches and takes at a limit and one past it, and of takes that no text spells.
+/// Appends to `lines` what is said of branches and takes at a limit and one past it, and of takes that no text spells.
 fn branches(alloc: Global, lines: &mut Vec<String>) -> Result<()> {
     for format in [(Format::Plain, "plain"), (Format::Wide, "wide")] {
         for limit in [
@@ -226,7 +226,8 @@ fn bound_said(alloc: Global, count: u32) -> Result<String> {
     tree_said(alloc, &name, &bound(alloc, count)?, Format::Plain, 0)
 }
 
-/// Returns what is said of a line of weights.
+/// Returns what is said of a line of weights, behind `name`. The line has this `quota`, and each county of `places` has
+/// this `weight`.
 fn weights_said(
     alloc: Global,
     name: &str,
@@ -238,7 +239,7 @@ fn weights_said(
     tree_said(alloc, name, &tree, Format::Plain, 0)
 }
 
-/// Appends what is said of bound leaves, and of their lines, at a limit and one past it.
+/// Appends to `lines` what is said of bound leaves, and of their lines, at a limit and one past it.
 fn bounds(alloc: Global, lines: &mut Vec<String>) -> Result<()> {
     for count in [256, 257] {
         lines.push(bound_said(alloc, count)?)?;
@@ -257,7 +258,7 @@ fn bounds(alloc: Global, lines: &mut Vec<String>) -> Result<()> {
     Ok(())
 }
 
-/// Appends what is said of lines of 65,535, 65,536 and 65,537 bytes.
+/// Appends to `lines` what is said of lines of weights that have 65,535, 65,536 and 65,537 bytes.
 fn long_lines(alloc: Global, lines: &mut Vec<String>) -> Result<()> {
     let mut places = Vec::new(alloc);
     for place in 0..8_191 {

@@ -51,7 +51,7 @@ pub(crate) fn show_listed(rt: &HostRuntime, problem: &Problem, text: &[u8]) -> R
     }
 }
 
-/// Prints all best groupings by the solver's certificate, or that the answer is open.
+/// Prints all best groupings of `problem` by the solver's certificate, that there is none, or that the answer is open.
 pub(crate) fn show_solved(rt: &HostRuntime, problem: &Problem) -> Result<()> {
     match solve(rt.alloc(), problem, ENOUGH)? {
         Answer::Best(_, certificate) => {

@@ -69,7 +69,7 @@ fn code(number: u32) -> Result<CountyCode> {
     CountyCode::new(37_000_u32.saturating_add(number)).context("a code")
 }
 
-/// Builds the withdrawn set of one county, with one seat.
+/// Builds the withdrawn set of the one county whose last three digits are `number`, with one seat.
 fn withdrawn_set(alloc: Global, number: u32) -> Result<Withdrawn> {
     let mut codes = Vec::new(alloc);
     codes.push(code(number)?)?;

@@ -54,7 +54,8 @@ fn fault_said(alloc: Global, fault: Pl94Fault) -> Result<String> {
     Ok(format!(in alloc; "{fault}")?)
 }
 
-/// Returns in words the counties with their people, or the fault. Returns an error if memory was refused.
+/// Returns in words the counties that were `read` with their people, or the fault. Returns an error if memory was
+/// refused.
 fn counties_said(alloc: Global, read: Result<Vec<County>, Pl94Fault>) -> Result<String> {
     let counties = match read {
         Ok(counties) => counties,
@@ -67,7 +68,8 @@ fn counties_said(alloc: Global, read: Result<Vec<County>, Pl94Fault>) -> Result<
     Ok(said)
 }
 
-/// Returns in words the blocks with their people, or the fault. Returns an error if memory was refused.
+/// Returns in words the blocks that were `read` with their people, or the fault. Returns an error if memory was
+/// refused.
 fn blocks_said(alloc: Global, read: Result<Vec<Block>, Pl94Fault>) -> Result<String> {
     let blocks = match read {
         Ok(blocks) => blocks,
@@ -119,7 +121,7 @@ impl Call for Census<'_> {
     }
 }
 
-/// Prints the counties and blocks of files that come in parts.
+/// Prints, behind `name`, the counties and blocks of the files `geo` and `segment1`, which come in parts.
 fn show_in_parts(rt: &HostRuntime, name: &str, geo: &str, segment1: &str) -> Result<()> {
     for list in [List::Counties, List::Blocks] {
         let failing = File::Geo;
@@ -134,7 +136,7 @@ fn show_in_parts(rt: &HostRuntime, name: &str, geo: &str, segment1: &str) -> Res
     Ok(())
 }
 
-/// Prints the counties and blocks of two files, one of which fails.
+/// Prints the counties and blocks of two files, of which the file `failing` fails.
 fn show_failures(rt: &HostRuntime, failing: File) -> Result<()> {
     for (list, name) in [(List::Counties, "counties"), (List::Blocks, "blocks")] {
         let census = Census {

@@ -11,7 +11,7 @@ use std::{fs, str};
 /// The text of the file `ten`.
 const TEN: &str = "0123456789";
 
-/// Creates a file in memory.
+/// Creates a file in memory with this `name` and `text`.
 fn file(alloc: Global, name: &str, text: &str) -> Result<MemoryFile> {
     Ok(MemoryFile {
         name: String::from_str(alloc, name)?,
@@ -42,7 +42,7 @@ fn pulled<S: Source>(alloc: Global, source: &mut S, pulls: u32) -> Result<String
     Ok(text)
 }
 
-/// Returns in words where a reader stood, or the fault. Returns an error if memory was refused.
+/// Returns in words the `end`, where a reader stood, or the fault. Returns an error if memory was refused.
 fn end_said(alloc: Global, end: Result<ReadEnd, FileStoreFault>) -> Result<String> {
     match end {
         Ok(end) => Ok(format!(in alloc; "{end:?}")?),
@@ -127,7 +127,7 @@ fn show_machine(rt: &HostRuntime) -> Result<()> {
     Ok(())
 }
 
-/// Returns in words what the load of a file gives. Returns an error if memory was refused.
+/// Returns in words what the load of the file `name` from `file_store` gives. Returns an error if memory was refused.
 fn load_said(alloc: Global, file_store: &mut MemoryFileStore, name: &str) -> Result<String> {
     match file_store.load(alloc, name) {
         Ok(bytes) => Ok(format!(in alloc; "{:?}", str::from_utf8(&bytes)?)?),

@@ -14,7 +14,7 @@ struct LinesOf<'a> {
     text: &'a [u8],
 }
 
-/// Returns the answer of one call in words. Returns an error if memory was refused.
+/// Returns in words the answer `next` of one call. Returns an error if memory was refused.
 fn answer(alloc: Global, next: Result<Option<(u32, &[u8])>, LineFault>) -> Result<String> {
     match next {
         Ok(Some((number, line))) => {
@@ -27,7 +27,7 @@ fn answer(alloc: Global, next: Result<Option<(u32, &[u8])>, LineFault>) -> Resul
     }
 }
 
-/// Returns the answers of `CALLS` calls in a row.
+/// Returns in words the answers of `CALLS` calls of `lines` in a row.
 fn answers<F, L: LinesFrom<F>>(alloc: Global, lines: &mut L, from: &mut F) -> Result<String> {
     let mut answers = Answers::new(alloc);
     for _ in 0..CALLS {

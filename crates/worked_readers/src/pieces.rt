@@ -14,7 +14,7 @@ struct PiecesOf<'a> {
     text: &'a [u8],
 }
 
-/// Returns the answer of one call in words. Returns an error if memory was refused.
+/// Returns in words the answer `next` of one call. Returns an error if memory was refused.
 fn answer(alloc: Global, next: Result<Option<Piece<'_>>, LineFault>) -> Result<String> {
     match next {
         Ok(Some(piece)) => {
@@ -28,7 +28,7 @@ fn answer(alloc: Global, next: Result<Option<Piece<'_>>, LineFault>) -> Result<S
     }
 }
 
-/// Returns the answers of `CALLS` calls in a row.
+/// Returns in words the answers of `CALLS` calls of `pieces` in a row.
 fn answers<F, P: PiecesFrom<F>>(alloc: Global, pieces: &mut P, from: &mut F) -> Result<String> {
     let mut answers = Answers::new(alloc);
     for _ in 0..CALLS {

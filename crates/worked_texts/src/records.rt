@@ -9,7 +9,7 @@ fn text(rt: &HostRuntime, from: &str) -> Result<String> {
     Ok(String::from_str(rt.alloc(), from)?)
 }
 
-/// Returns the words of a command as a list of `String`s.
+/// Returns the words `from` of a command as a list of `String`s.
 fn words(rt: &HostRuntime, from: &[&str]) -> Result<Vec<String>> {
     let mut list = Vec::new(rt.alloc());
     for word in from {

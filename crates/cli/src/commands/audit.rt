@@ -53,7 +53,7 @@ fn audit_plan(
     })
 }
 
-/// Returns what `audit` says of the assignments of a file, before anything is stored.
+/// Returns what `audit` says of the assignments whose file `words` name, before anything is stored.
 fn audit_files<H: FileStore>(
     alloc: Global,
     words: AuditWords<'_>,
@@ -74,8 +74,8 @@ fn audit_files<H: FileStore>(
 }
 
 /// Returns all that is wrong with the assignments of a plan. The problem is built first. Then the census blocks, the
-/// grouping and the assignments are read, in this order. The table of the districts is stored if the words name its
-/// file, whether or not anything is found. The first fault met is the answer.
+/// grouping and the assignments are read, in this order. The table of the districts is stored if `words` name its file,
+/// whether or not anything is found. The first fault met is the answer.
 pub(crate) fn audit<H: FileStore>(
     alloc: Global,
     words: AuditWords<'_>,

@@ -30,7 +30,7 @@ use county_problem::Problem;
 use std::alloc::Global;
 use written_output::Written;
 
-/// Returns the refusal of a board that stopped.
+/// Returns the refusal of a board that stopped with `stop`.
 fn refuse_stop(alloc: Global, stop: ServeStop) -> Refusal
     ensures { IsStopRefusal stop result }
 {
@@ -46,8 +46,8 @@ fn refuse_stop(alloc: Global, stop: ServeStop) -> Refusal
     }
 }
 
-/// Returns how the board stands that has taken the events of standard input. What the board says is written to `out` at
-/// once.
+/// Returns how the board stands that has taken the events of standard input, with `grouping` as its first target. What
+/// the board says is written to `out` at once.
 fn serve_input<H: FileStore, W: Sink>(
     alloc: Global,
     problem: &Problem,
@@ -86,7 +86,8 @@ fn serve_input<H: FileStore, W: Sink>(
     }
 }
 
-/// Returns the outcome of `board` before anything is stored. What the board says is written to `out` at once.
+/// Returns the outcome of `board` for `words`, before anything is stored. What the board says is written to `out` at
+/// once.
 fn serve_files<H: FileStore, W: Sink>(
     alloc: Global,
     words: ServeWords<'_>,
@@ -112,8 +113,8 @@ fn serve_files<H: FileStore, W: Sink>(
     serve_input(alloc, &problem, &grouping, words, file_store, out, written)
 }
 
-/// Opens a board that takes the events of standard input as they come, and stores the certificate that it joins. The
-/// other files are read before. What the board says is written to `out` at once.
+/// Opens the board of `words`, which takes the events of standard input as they come, and stores the certificate that
+/// it joins. The other files are read before. What the board says is written to `out` at once.
 pub(crate) fn board<H: FileStore, W: Sink>(
     alloc: Global,
     words: ServeWords<'_>,

@@ -41,7 +41,8 @@ fn said(
     }
 }
 
-/// Checks the certificate of a file. The file is read once, piece by piece, and no further than the verdict asks.
+/// Checks the certificate whose file `words` name against the problem of `tabled`. The file is read once, piece by
+/// piece, and no further than the verdict asks.
 fn check_file<H: FileStore>(
     alloc: Global,
     words: CertificateWords<'_>,
@@ -62,7 +63,7 @@ fn check_file<H: FileStore>(
     said(checked, FaultText::Read { head, line }, tabled.problem)
 }
 
-/// Returns the verdict on the certificate of a file, before anything is stored.
+/// Returns the verdict on the certificate whose file `words` name, before anything is stored.
 fn check_files<H: FileStore>(
     alloc: Global,
     words: CheckWords<'_>,
@@ -78,8 +79,8 @@ fn check_files<H: FileStore>(
     check_file(alloc, words.check, tabled, file_store)
 }
 
-/// Returns the verdict on a certificate. The problem is built before the certificate is opened. If a grouping is best,
-/// its table is then stored. The first fault met is the answer.
+/// Returns the verdict on the certificate whose file `words` name. The problem is built before the certificate is
+/// opened. If a grouping is best, its table is then stored. The first fault met is the answer.
 pub(crate) fn check<H: FileStore>(
     alloc: Global,
     words: CheckWords<'_>,

@@ -23,7 +23,7 @@ use desk_server::prove_pieces;
 use std::alloc::Global;
 use written_output::Written;
 
-/// Returns the refusal of a text that isn't one of a board.
+/// Returns the refusal of a text that isn't one of a board, for its `fault`.
 fn refuse_text(alloc: Global, fault: TextFault) -> Refusal
     ensures answer { RefusalShows (pieces_answer fault) result }
     ensures shown { IsShown result → fault.kind ≢ text.Memory }
@@ -48,7 +48,8 @@ fn answer_of_end(alloc: Global) -> RunAnswer
     }
 }
 
-/// Proves the pieces that standard input tells. What is said of each is written to `out` at once.
+/// Proves the pieces of `problem` that standard input tells, each within `steps` steps. What is said of each is written
+/// to `out` at once.
 fn prove_input<H: FileStore, W: Sink>(
     alloc: Global,
     problem: &Problem,
@@ -75,7 +76,7 @@ fn prove_input<H: FileStore, W: Sink>(
     }
 }
 
-/// Returns the outcome of `desk`. What is said of each piece is written to `out` at once.
+/// Returns the outcome of `desk` for `words`. What is said of each piece is written to `out` at once.
 fn prove_files<H: FileStore, W: Sink>(
     alloc: Global,
     words: DeskWords<'_>,
@@ -95,8 +96,8 @@ fn prove_files<H: FileStore, W: Sink>(
     prove_input(alloc, &problem, words.steps, file_store, out, written)
 }
 
-/// Proves the pieces that standard input tells, one after the other. The problem is built before. What is said of each
-/// piece is written to `out` at once.
+/// Proves the pieces that standard input tells, one after the other. The problem of `words` is built before. What is
+/// said of each piece is written to `out` at once.
 pub(crate) fn desk<H: FileStore, W: Sink>(
     alloc: Global,
     words: DeskWords<'_>,

@@ -81,7 +81,7 @@ fn verdict(
     }
 }
 
-/// Returns what is said of the grouping of a file, before anything is stored.
+/// Returns what is said of the grouping whose file `words` name, before anything is stored.
 fn judge_files<H: FileStore>(
     alloc: Global,
     words: JudgeWords<'_>,
@@ -99,9 +99,9 @@ fn judge_files<H: FileStore>(
     verdict(alloc, tabled, grouping, certificate, words.budget)
 }
 
-/// Judges whether a grouping is lawful, and with a certificate whether it is best. The problem is built first. Then the
-/// grouping is loaded and read, and then the certificate is loaded. If the grouping is lawful, its table is then
-/// stored. The first fault met is the answer.
+/// Judges whether the grouping whose file `words` name is lawful, and with a certificate whether it is best. The
+/// problem is built first. Then the grouping is loaded and read, and then the certificate is loaded. If the grouping is
+/// lawful, its table is then stored. The first fault met is the answer.
 pub(crate) fn judge<H: FileStore>(
     alloc: Global,
     words: JudgeWords<'_>,

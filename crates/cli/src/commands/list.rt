@@ -19,7 +19,7 @@ use cli_words::{CommandWords, ListWords, StoredWords};
 use county_codes::Grouping;
 use std::alloc::Global;
 
-/// Returns the number of the grouping to store, if one is to be stored.
+/// Returns the number in `words` of the grouping to store, or `None` if none is to be stored.
 fn number_in(words: Option<StoredWords<'_>>) -> Option<u32>
     ensures { result ≡ option_map (λ w. w.number) words.entry }
 {
@@ -29,7 +29,7 @@ fn number_in(words: Option<StoredWords<'_>>) -> Option<u32>
     }
 }
 
-/// Returns the name of the file that the grouping is written to, if one is to be stored.
+/// Returns the name in `words` of the file that the grouping is written to, or `None` if none is to be stored.
 fn out_in<'a>(words: Option<StoredWords<'a>>) -> Option<&'a str>
     ensures { result ≡ option_map (λ w. w.out) words.entry }
 {
@@ -58,7 +58,7 @@ fn load_which<H: FileStore>(
     }
 }
 
-/// Returns what `list` says of the certificate of a file, before anything is stored.
+/// Returns what `list` says of the certificate whose file `words` name, before anything is stored.
 fn list_files<H: FileStore>(
     alloc: Global,
     words: ListWords<'_>,
@@ -95,8 +95,8 @@ fn list_files<H: FileStore>(
     Ok(listed)
 }
 
-/// Stores the grouping of the number, and then the table of all groupings. Each is stored if there is one and its file
-/// is named.
+/// Stores the grouping of the number that `words` give, and then the table of all groupings. Each is stored if `listed`
+/// has it and `words` name its file.
 fn store_listed<H: FileStore>(
     alloc: Global,
     words: ListWords<'_>,
@@ -129,7 +129,7 @@ fn store_listed<H: FileStore>(
 
 /// Returns all best groupings, as a certificate shows them. The problem is built first. Then the grouping whose number
 /// is asked for is loaded, and then the certificate. The grouping of a number and the table of all groupings are stored
-/// if the words name their files. The first fault met is the answer.
+/// if `words` name their files. The first fault met is the answer.
 pub(crate) fn list<H: FileStore>(
     alloc: Global,
     words: ListWords<'_>,

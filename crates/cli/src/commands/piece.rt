@@ -36,8 +36,8 @@ fn proved(
     }
 }
 
-/// Returns what the solver answers for one piece of a board. All files are read before the board is opened. The first
-/// fault met is the answer.
+/// Returns what the solver answers for the piece of a board that `words` name. All files are read before the board is
+/// opened. The first fault met is the answer.
 pub(crate) fn piece<H: FileStore>(
     alloc: Global,
     words: PieceWords<'_>,

@@ -46,7 +46,7 @@ fn taken(
     }
 }
 
-/// Returns the outcome of `share` over the files, before anything is stored.
+/// Returns the outcome of `share` over the files that `words` name, before anything is stored.
 fn share_files<H: FileStore>(
     alloc: Global,
     words: ShareWords<'_>,
@@ -78,7 +78,7 @@ fn board_outcome(left: usize) -> RunOutcome {
     }
 }
 
-/// Returns the answer of a board: its text, with status 0 if no piece is waiting, and 3 otherwise.
+/// Returns the answer of the board `shared`: its text, with status 0 if no piece is waiting, and 3 otherwise.
 pub(crate) fn answer_to(shared: Shared) -> RunAnswer
     ensures { answer_of result ≡ share_answer shared }
 {
@@ -90,8 +90,8 @@ pub(crate) fn answer_to(shared: Shared) -> RunAnswer
     }
 }
 
-/// Opens a board that takes the events that solvers have sent, and stores the certificate that it joins. All files are
-/// read before the board is opened. The first fault met is the answer.
+/// Opens the board of `words`, which takes the events that solvers have sent, and stores the certificate that it joins.
+/// All files are read before the board is opened. The first fault met is the answer.
 pub(crate) fn share<H: FileStore>(
     alloc: Global,
     words: ShareWords<'_>,

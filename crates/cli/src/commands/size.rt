@@ -13,7 +13,7 @@ use cli_words::CommonWords;
 use grouping_report::size_table;
 use std::alloc::Global;
 
-/// Returns the size table of the counties. The first fault met is the answer.
+/// Returns the size table of the counties in the files that `words` name. The first fault met is the answer.
 pub(crate) fn size<H: FileStore>(
     alloc: Global,
     words: CommonWords<'_>,

@@ -18,7 +18,7 @@ use cli_reports::{Solved, solve_and_report};
 use cli_words::{CommandWords, SolveWords};
 use std::alloc::Global;
 
-/// Returns what `solve` says of the problem of the files, before anything is stored.
+/// Returns what `solve` says of the problem of the files that `words` name, before anything is stored.
 fn solve_files<H: FileStore, V: Watcher>(
     alloc: Global,
     words: SolveWords<'_>,
@@ -36,7 +36,7 @@ fn solve_files<H: FileStore, V: Watcher>(
     Ok(solved)
 }
 
-/// Stores the table and then the events. Each is stored if there is one and its file is named.
+/// Stores the table and then the events. Each is stored if `solved` has it and `words` name its file.
 fn store_table_and_events<H: FileStore>(
     alloc: Global,
     words: SolveWords<'_>,
@@ -67,8 +67,8 @@ fn store_table_and_events<H: FileStore>(
     )
 }
 
-/// Stores the certificate, the grouping, the table and the events, in this order. Each is stored if there is one and
-/// its file is named.
+/// Stores the certificate, the grouping, the table and the events, in this order. Each is stored if `solved` has it and
+/// `words` name its file.
 fn store_solved<H: FileStore>(
     alloc: Global,
     words: SolveWords<'_>,
@@ -99,9 +99,9 @@ fn store_solved<H: FileStore>(
     store_table_and_events(alloc, words, solved, file_store, notes)
 }
 
-/// Returns the best grouping of the problem with its certificate. The problem is built first, and then the solver
-/// answers. Then the files are stored: the certificate first, then the grouping, the table and the events. The first
-/// fault met is the answer.
+/// Returns the best grouping of the problem of `words` with its certificate. The problem is built first, and then the
+/// solver answers. Then the files are stored: the certificate first, then the grouping, the table and the events. The
+/// first fault met is the answer.
 pub(crate) fn solve<H: FileStore, V: Watcher>(
     alloc: Global,
     words: SolveWords<'_>,

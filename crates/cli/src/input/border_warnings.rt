@@ -21,7 +21,8 @@ fn code_set(alloc: Global, codes: &[CountyCode]) -> Result<BTreeSet<CountyCode>,
     Ok(set)
 }
 
-/// Returns the county and the neighbour on a line of an adjacency file, if the line has them.
+/// Returns the county and the neighbour on `line`, which is one of an adjacency file, or `None` if it lacks one of
+/// them.
 fn row_on(line: &[u8]) -> Option<(CountyCode, CountyCode)> {
     let line = line.strip_suffix(b"\r").unwrap_or(line);
     let county = code_in(field_at(line, DELIMITER, 1)?)?;
@@ -73,7 +74,7 @@ pub(crate) fn note_adjacency(
     }
 }
 
-/// Returns the two codes, the lesser first.
+/// Returns the codes `a` and `b`, the lesser first.
 fn in_order(a: CountyCode, b: CountyCode) -> (CountyCode, CountyCode) {
     if a < b { (a, b) } else { (b, a) }
 }

@@ -89,8 +89,8 @@ fn counties_read(
     }
 }
 
-/// Reads the counties of the state. The geographic header is opened first, but segment 1 is read before it. The first
-/// fault of the two files is refused.
+/// Reads the counties of the state from the census files that `words` name. The geographic header is opened first, but
+/// segment 1 is read before it. The first fault of the two files is refused.
 pub(crate) fn load_counties<H: FileStore>(
     alloc: Global,
     words: CommonWords<'_>,
@@ -154,7 +154,7 @@ fn named_read(
     }
 }
 
-/// Reads the counties of the state with their names, as `load_counties` reads them without.
+/// Reads the counties of the state that `words` name, with their names, as `load_counties` reads them without.
 pub(crate) fn load_named_counties<H: FileStore>(
     alloc: Global,
     words: CommonWords<'_>,
@@ -209,7 +209,8 @@ fn blocks_read(
     }
 }
 
-/// Reads the census blocks of the state, as `load_counties` reads the counties. The census files are opened anew.
+/// Reads the census blocks of the state that `words` name, as `load_counties` reads the counties. The census files are
+/// opened anew.
 pub(crate) fn load_blocks<H: FileStore>(
     alloc: Global,
     words: CommonWords<'_>,

@@ -162,7 +162,8 @@ pub(crate) fn load_withdrawn<H: FileStore>(
     }
 }
 
-/// Returns the adjacent pairs: those of the adjacency file, with the links applied to them.
+/// Returns the adjacent pairs of `counties`: those of the adjacency file that `words` name, with the links applied to
+/// them.
 pub(crate) fn load_adjacency<H: FileStore>(
     alloc: Global,
     counties: &[County],

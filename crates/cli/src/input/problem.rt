@@ -19,7 +19,8 @@ use county_codes::{County, CountyCode, Tolerance, Withdrawn};
 use county_problem::Problem;
 use std::alloc::Global;
 
-/// Builds the problem, or returns the refusal of its first fault.
+/// Builds the problem of `counties`, their adjacent `pairs` and the `withdrawn` sets, with `chamber` seats and this
+/// `tolerance`. Returns the refusal of its first fault.
 pub(crate) fn build(
     alloc: Global,
     counties: &[County],
@@ -62,7 +63,7 @@ fn load_problem_over<H: FileStore>(
     )
 }
 
-/// Builds the problem of the files. They are loaded and read in turn before it is built.
+/// Builds the problem of the files that `words` name. They are loaded and read in turn before it is built.
 pub(crate) fn load_problem<H: FileStore>(
     alloc: Global,
     words: ProblemWords<'_>,
@@ -78,8 +79,8 @@ pub(crate) fn load_problem<H: FileStore>(
     load_problem_over(alloc, words, &counties, file_store, notes)
 }
 
-/// Builds the problem of the files, and keeps the names of its counties. The census files are loaded and read first,
-/// and then the other files.
+/// Builds the problem of the files that `words` name, and keeps the names of its counties. The census files are loaded
+/// and read first, and then the other files.
 fn load_named_problem<H: FileStore>(
     alloc: Global,
     words: ProblemWords<'_>,

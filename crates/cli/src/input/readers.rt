@@ -49,7 +49,8 @@ pub(crate) fn give_one_back<H: FileStore>(
     }
 }
 
-/// Opens both census files, the geographic header first. Returns the reader of the header and then that of segment 1.
+/// Opens both census files that `words` name, the geographic header first. Returns the reader of the header and then
+/// that of segment 1.
 pub(crate) fn open_both<H: FileStore>(
     alloc: Global,
     words: CommonWords<'_>,
@@ -69,8 +70,8 @@ pub(crate) fn open_both<H: FileStore>(
     Ok((geo, segment))
 }
 
-/// Returns the refusal of a reader that failed, from what the file store says of both. If both failed, the refusal is
-/// that of segment 1.
+/// Checks from `geo` and `segment`, what the file store says of each reader, that neither failed. Returns the refusal
+/// of the one that failed. If both failed, the refusal is that of segment 1.
 fn if_sound(
     alloc: Global,
     words: CommonWords<'_>,
@@ -86,8 +87,8 @@ fn if_sound(
     }
 }
 
-/// Gives back both readers of the census files, that of segment 1 first. Returns a refusal if the last pull of one of
-/// them failed.
+/// Gives back both `readers` of the census files that `words` name, that of segment 1 first. Returns a refusal if the
+/// last pull of one of them failed.
 pub(crate) fn give_both_back<H: FileStore>(
     alloc: Global,
     words: CommonWords<'_>,

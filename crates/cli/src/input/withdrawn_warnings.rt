@@ -102,7 +102,8 @@ struct Found {
     apart: Option<Warning>,
 }
 
-/// Returns the first warning of each kind. Only those sets are looked at whose counties are all listed.
+/// Returns the first warning of each kind that `sets` give. Only those sets are looked at whose counties are all in
+/// `counties`.
 fn first_of(
     alloc: Global,
     counties: &[County],
