@@ -158,7 +158,8 @@ module _ (listed : List ℕ) (rows : List (ℕ × ℕ)) (links : List Link) (a b
   added_where (inl e) = inl (and_from (contains listed a) (contains listed b) e.first_listed e.second_listed, e.joined)
   added_where (inr e) = inr e
 
--- the pairs of a file's rows after links are exactly those that are adjacent, and beside them those of links to a county outside the list
+-- the pairs of a file's rows after links are exactly those that are adjacent, and beside them those of links to a
+-- county outside the list
 pub adjacent_from : (listed : List ℕ) (rows pairs : List (ℕ × ℕ)) (links : List Link) (linked : List (ℕ × ℕ)) → ArePairs listed rows pairs → AreLinked pairs links linked → AreAdjacent listed rows links linked
 adjacent_from listed rows pairs links linked are after a b less =
     let sign = last_sign links a b in

@@ -1,5 +1,6 @@
 -- What a set of pairs, listed in its order, has.
-use Rattle.std.proofs.Common.{◌≡◌, ℕ, ◌<◌, ◌↔◌, ◌==◌, ◌&&◌, ◌⊎◌, inl, inr, ⊎_elim, nat_lt, Bool, true, false, List, Contains, filter, refl, sym, ap, ◌∙◌, subst}
+use Rattle.std.proofs.Common.{◌≡◌, ℕ, ◌<◌, ◌↔◌, ◌==◌, ◌&&◌, ◌⊎◌, inl, inr, ⊎_elim, nat_lt, Bool, true, List, Contains, filter, refl, sym, ap, ◌∙◌, subst}
+use Rattle.std.proofs.Math.Bool.{and_comm}
 use Rattle.std.specs.List.{list_any}
 use Rattle.std.specs.Ordering.{is_eq}
 use Rattle.std.proofs.lemmas.Bool.{and_parts, and_from, or_cases}
@@ -61,14 +62,8 @@ pair_from_named rows a b named =
 pub named_among : (test : ℕ → Bool) (rows : List (ℕ × ℕ)) (a b : ℕ) → names_both (filter (λ q. test q.0 && test q.1) rows) a b ≡ ((test a && test b) && names_both rows a b)
 named_among test rows a b = any-filter_same (names a b) (λ (q : ℕ × ℕ). test q.0 && test q.1) (test a && test b) same rows
   where
-    turned : (s t : Bool) → (s && t) ≡ (t && s)
-    turned true true = refl
-    turned true false = refl
-    turned false true = refl
-    turned false false = refl
-
     same : (q : ℕ × ℕ) → names a b q ≡ true → (test q.0 && test q.1) ≡ (test a && test b)
     same q named = ⊎_elim
         (λ (s : q ≡ (a, b)). ap (λ (p : ℕ × ℕ). test p.0 && test p.1) s)
-        (λ (t : q ≡ (b, a)). ap (λ (p : ℕ × ℕ). test p.0 && test p.1) t ∙ turned (test b) (test a))
+        (λ (t : q ≡ (b, a)). ap (λ (p : ℕ × ℕ). test p.0 && test p.1) t ∙ and_comm (test b) (test a))
         (named_rows a b q named)

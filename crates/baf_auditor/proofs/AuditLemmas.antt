@@ -1,7 +1,7 @@
 -- The findings of a plan are all that are so.
-use Rattle.std.proofs.Common.{◌≡◌, ◌↔◌, ℕ, zero, suc, ◌+◌, ◌-◌, ◌<◌, ◌≤◌, nat_lt, ◌⊎◌, inl, inr, Bool, true, false, List, [], ◌∷◌, ◌++◌, length, map, Contains, Option, Some, refl, sym, ap, ◌∙◌, subst, arith, append_assoc, length-append, if◌then◌else◌}
+use Rattle.std.proofs.Common.{◌≡◌, ◌↔◌, ℕ, zero, suc, ◌+◌, ◌-◌, ◌<◌, ◌≤◌, nat_lt, ◌⊎◌, inl, inr, Bool, true, false, List, [], ◌∷◌, ◌++◌, length, map, Contains, Option, Some, refl, sym, ap, ◌∙◌, subst, arith, append_assoc, if◌then◌else◌}
 use Rattle.std.specs.List.{All, filter_map}
-use Rattle.std.specs.List.Sorted.{IsStrictlySortedBy}
+use Rattle.std.specs.List.Sorted.{IsStrictlyIncreasing, IsStrictlySortedBy}
 use Rattle.std.specs.Map.{lookup}
 use Rattle.std.specs.Ordering.{nat_cmp, eq_by_cmp, ordering_then}
 use Rattle.std.specs.declared.cmp.Ordering.TheVariants.{Less, Equal}
@@ -11,7 +11,7 @@ use Rattle.std.specs.BTreeMap.{is_at}
 use Rattle.std.proofs.lemmas.Bool.Decides.{nat_tests}
 use Rattle.std.proofs.lemmas.List.Elements.{All-weaker, All-contains, All-contains_itself, Contains-append_left, Contains-append_right}
 use Rattle.std.proofs.lemmas.Map.Views.{Contains-from_lookup, lookup-from_Contains}
-use Rattle.std.proofs.lemmas.Map.Keys.{IsDistinct-from_sorted}
+use Rattle.std.proofs.lemmas.Map.Keys.{IsDistinct-from_sorted, sorted_from_strictly_increasing}
 use Rattle.county_codes.specs.declared.withdrawn.Withdrawn as county
 use Rattle.grouping_laws.specs.Problem.{Suits}
 use Rattle.grouping_laws.specs.Grouping.{Grouping}
@@ -38,6 +38,12 @@ use Rattle.baf_auditor.proofs.NumberLemmas.{item_contains, contains_item, number
 -- what holds of each item
 pub all_of : {X : Type 0} (P : X → Type 0) (xs : List X) → ((x : X) → Contains xs x → P x) → All P xs
 all_of P xs h = All-weaker (Contains xs) P h xs (All-contains_itself xs)
+
+-- places below one bound are below a greater one
+pub places_below : (groups most : ℕ) (keys places : List (List ℕ × ℕ)) → places ≡ keys → groups + 1000 ≤ most → All (λ k. k.1 < groups + 1000) keys → All (λ k. k.1 < most) places
+places_below groups most keys places same bound below =
+    subst (λ (l : List (List ℕ × ℕ)). All (λ k. k.1 < most) l) (sym same)
+    (All-weaker (λ (k : List ℕ × ℕ). k.1 < groups + 1000) (λ k. k.1 < most) (λ k lt. omega (arith, lt, bound)) keys below)
 
 -- ---- the sets of a plan and their names
 groups_long : (gs : Grouping) (n : ℕ) → length (groups_from n gs) ≡ length gs
@@ -107,12 +113,26 @@ kinds_added a b c d e u t n f g h i =
 pub label_tied : (x y : List ℕ) → eq_by_cmp (slice_cmp nat_cmp) x y ≡ true → x ≡ y
 label_tied x y tied = label_same x y (texts_ties x y ∙ tied)
 
+-- the listed blocks are those of the problem, and what lines give to labels is given
+pub record GivenBy (problem : ProblemValue) (gs : Grouping) (blocks : List Block) (lines : List Assignment) (listed : ℕ → Option ℕ) (given : List GivenBlock) : Type 0 where
+  pub blocks_sorted : IsStrictlySortedBy nat_cmp (map (λ b. b.code) blocks)
+  pub listing_is : (code : ℕ) → listed code ≡ listing (drawn_sets problem gs) blocks code
+  pub given_sorted : IsStrictlySortedBy by_label (map (λ e. e.0) given)
+  pub giving_is : (key : List ℕ × ℕ) → lookup (is_at (by_label key)) given ≡ giving listed lines key
+
+pub given_by : (problem : ProblemValue) (gs : Grouping) (blocks : List Block) (lines : List Assignment) (listed : ℕ → Option ℕ) (given : List GivenBlock) → IsStrictlyIncreasing (map (λ b. b.code) blocks)
+    → ((code : ℕ) → listed code ≡ listing (drawn_sets problem gs) blocks code) → IsStrictlySortedBy by_label (map (λ e. e.0) given)
+    → ((key : List ℕ × ℕ) → lookup (is_at (by_label key)) given ≡ giving listed lines key) → GivenBy problem gs blocks lines listed given
+given_by problem gs blocks lines listed given ascending listing_is given_sorted giving_is = record {
+  blocks_sorted = sorted_from_strictly_increasing (map (λ b. b.code) blocks) ascending;
+  listing_is = listing_is;
+  given_sorted = given_sorted;
+  giving_is = giving_is;
+}
+
 -- ---- all findings of a plan
 module _ (problem : ProblemValue) (gs : Grouping) (blocks : List Block) (lines : List Assignment)
-    (blocks_sorted : IsStrictlySortedBy nat_cmp (map (λ b. b.code) blocks)) (listed : ℕ → Option ℕ)
-    (listing_is : (code : ℕ) → listed code ≡ listing (drawn_sets problem gs) blocks code)
-    (given : List GivenBlock) (given_sorted : IsStrictlySortedBy by_label (map (λ e. e.0) given))
-    (giving_is : (key : List ℕ × ℕ) → lookup (is_at (by_label key)) given ≡ giving listed lines key) where
+    (listed : ℕ → Option ℕ) (given : List GivenBlock) (by : GivenBy problem gs blocks lines listed given) where
   abbrev plan : Plan
   plan = record { drawn = drawn_sets problem gs; blocks = blocks; lines = lines }
 
@@ -120,7 +140,7 @@ module _ (problem : ProblemValue) (gs : Grouping) (blocks : List Block) (lines :
   pub given_fit : All (λ b. b.code < 1000000000000000) blocks → All (λ k. k.1 < 1000000000000000) (map (λ e. e.0) given)
   given_fit fits = all_of (λ (k : List ℕ × ℕ). k.1 < 1000000000000000) (map (λ (e : GivenBlock). e.0) given) (λ k h.
       let e = mapped_from (λ (x : GivenBlock). x.0) given k h in
-      let b = is_listed plan blocks_sorted listed listing_is given given_sorted giving_is e.0 e.1 in
+      let b = is_listed plan by.blocks_sorted listed by.listing_is given by.given_sorted by.giving_is e.0 e.1 in
       let small : b.0.code < 1000000000000000 = All-contains (λ (x : Block). x.code < 1000000000000000) blocks b.0 fits b.1.1.0 in
       let code : b.0.code ≡ k.1 = b.2 ∙ ap (λ (q : List ℕ × ℕ). q.1) e.2 in
       subst (λ (c : ℕ). c < 1000000000000000) code small)
@@ -143,8 +163,8 @@ module _ (problem : ProblemValue) (gs : Grouping) (blocks : List Block) (lines :
     crossing_so f p =
         let k = p.0 in
         let l = p.1 in
-        let one = stands_from plan blocks_sorted listed listing_is given given_sorted giving_is ds.found ds.found_sorted ds.standing_is k.0 k.1 p.2 in
-        let other = stands_from plan blocks_sorted listed listing_is given given_sorted giving_is ds.found ds.found_sorted ds.standing_is l.0 l.1 p.3 in
+        let one = stands_from plan by.blocks_sorted listed by.listing_is given by.given_sorted by.giving_is ds.found ds.found_sorted ds.standing_is k.0 k.1 p.2 in
+        let other = stands_from plan by.blocks_sorted listed by.listing_is given by.given_sorted by.giving_is ds.found ds.found_sorted ds.standing_is l.0 l.1 p.3 in
         let is : IsCrossing plan k.0 (name_at (length gs) k.1) (name_at (length gs) l.1) = record {
           one = one.0;
           other = other.0;
@@ -158,8 +178,8 @@ module _ (problem : ProblemValue) (gs : Grouping) (blocks : List Block) (lines :
 
     crossing_there : (label : List ℕ) (s t : Set) → IsCrossing plan label s t → Contains (crossings (length gs) keys) (findings.Crosses label s t)
     crossing_there label s t is =
-        let a = stands_to plan blocks_sorted listed listing_is given given_sorted giving_is ds.found ds.found_sorted ds.standing_is label is.one is.in_one in
-        let b = stands_to plan blocks_sorted listed listing_is given given_sorted giving_is ds.found ds.found_sorted ds.standing_is label is.other is.in_other in
+        let a = stands_to plan by.blocks_sorted listed by.listing_is given by.given_sorted by.giving_is ds.found ds.found_sorted ds.standing_is label is.one is.in_one in
+        let b = stands_to plan by.blocks_sorted listed by.listing_is given by.given_sorted by.giving_is ds.found ds.found_sorted ds.standing_is label is.other is.in_other in
         let first : name_at (length gs) a.0 ≡ s = sym (names a.0 is.one a.1) ∙ is.one_is in
         let second : name_at (length gs) b.0 ≡ t = sym (names b.0 is.other b.1) ∙ is.other_is in
         let lesser : IsLesserKey (set_key (name_at (length gs) a.0)) (set_key (name_at (length gs) b.0)) =
@@ -181,7 +201,7 @@ module _ (problem : ProblemValue) (gs : Grouping) (blocks : List Block) (lines :
           name_is = refl;
           seats_are = refl;
           counted = subst (λ (i : ℕ). (labels : List (List ℕ)) × EachOnce (λ (label : List ℕ). HasBlockIn plan label w.1) labels × (length labels ≡ districts_at i keys)) (sym at)
-              (has_districts plan blocks_sorted listed listing_is given given_sorted giving_is ds.found ds.found_sorted ds.standing_is alone w.1 w.0 w.2);
+              (has_districts plan by.blocks_sorted listed by.listing_is given by.given_sorted by.giving_is ds.found ds.found_sorted ds.standing_is alone w.1 w.0 w.2);
           wrong = w.3;
         } in
         subst (λ (g : Finding). IsFinding problem plan g) w.4 is
@@ -191,7 +211,7 @@ module _ (problem : ProblemValue) (gs : Grouping) (blocks : List Block) (lines :
         let p = contains_item (drawn_sets problem gs) is.set is.stands in
         let at : p.0 ≡ 0 + p.0 = omega arith in
         let count : districts ≡ districts_at (0 + p.0) keys =
-        districts_are plan blocks_sorted listed listing_is given given_sorted giving_is ds.found ds.found_sorted ds.standing_is alone is.set p.0 districts p.1 is.counted ∙ ap (λ (i : ℕ). districts_at i keys) at in
+        districts_are plan by.blocks_sorted listed by.listing_is given by.given_sorted by.giving_is ds.found ds.found_sorted ds.standing_is alone is.set p.0 districts p.1 is.counted ∙ ap (λ (i : ℕ). districts_at i keys) at in
         let there = of_numbers keys 0 (drawn_sets problem gs) p.0 is.set p.1 (λ (e : districts_at (0 + p.0) keys ≡ is.set.seats). is.wrong (count ∙ e ∙ is.seats_are)) in
         subst (λ (n : ℕ). Contains (numbers_from keys 0 (drawn_sets problem gs)) (findings.WrongNumber name seats n)) (sym count)
         (subst (λ (n : ℕ). Contains (numbers_from keys 0 (drawn_sets problem gs)) (findings.WrongNumber name n (districts_at (0 + p.0) keys))) is.seats_are
@@ -207,18 +227,18 @@ module _ (problem : ProblemValue) (gs : Grouping) (blocks : List Block) (lines :
         let s = size_from ds.bounds.0 ds.bounds.1 e.0 f e.2 in
         let entry : lookup (is_at (slice_cmp nat_cmp e.0.0)) ds.sums ≡ Some e.0.1 =
         lookup-from_Contains (eq_by_cmp_equiv nat_list_cmp_total) e.0.0 e.0.1 ds.sums (IsDistinct-from_sorted (slice_cmp nat_cmp) (map (λ (x : List ℕ × ℕ). x.0) ds.sums) ds.sums_sorted) e.1 in
-        let d = district_of_sum plan blocks_sorted listed listing_is given given_sorted giving_is e.0.0 e.0.1 (sym (ds.sums_are e.0.0) ∙ entry) in
+        let d = district_of_sum plan by.blocks_sorted listed by.listing_is given by.given_sorted by.giving_is e.0.0 e.0.1 (sym (ds.sums_are e.0.0) ∙ entry) in
         let is : IsWrongSize problem plan e.0.0 e.0.1 = record {
           district = d.0;
-          counted = subst (λ (n : ℕ). HasPeople plan e.0.0 n) (sym d.1) (has_people plan blocks_sorted listed listing_is given given_sorted giving_is e.0.0);
+          counted = subst (λ (n : ℕ). HasPeople plan e.0.0 n) (sym d.1) (has_people plan by.blocks_sorted listed by.listing_is given by.given_sorted by.giving_is e.0.0);
           wrong = λ (suits : Suits (problem_of problem) e.0.1 1). s.0 ((ds.law e.0.1).0 suits);
         } in
         subst (λ (g : Finding). IsFinding problem plan g) s.1 is
 
     size_there : (label : List ℕ) (people : ℕ) → IsWrongSize problem plan label people → Contains sizes (findings.DistrictSize label people)
     size_there label people is =
-        let sum : people ≡ people_sum plan blocks_sorted listed listing_is given given_sorted giving_is label = people_are plan blocks_sorted listed listing_is given given_sorted giving_is label people is.counted in
-        let known : district_people given label ≡ Some people = sum_of_district plan blocks_sorted listed listing_is given given_sorted giving_is label is.district ∙ ap (λ (n : ℕ). Some n) (sym sum) in
+        let sum : people ≡ people_sum plan by.blocks_sorted listed by.listing_is given by.given_sorted by.giving_is label = people_are plan by.blocks_sorted listed by.listing_is given by.given_sorted by.giving_is label people is.counted in
+        let known : district_people given label ≡ Some people = sum_of_district plan by.blocks_sorted listed by.listing_is given by.given_sorted by.giving_is label is.district ∙ ap (λ (n : ℕ). Some n) (sym sum) in
         let entry : Contains ds.sums (label, people) = Contains-from_lookup {eq = eq_by_cmp (slice_cmp nat_cmp)} label_tied label people ds.sums (ds.sums_are label ∙ known) in
         chosen_to (size_finding ds.bounds.0 ds.bounds.1) ds.sums (label, people) (findings.DistrictSize label people) entry
         (size_to ds.bounds.0 ds.bounds.1 label people (λ within. is.wrong ((ds.law people).1 within)))

@@ -1,5 +1,6 @@
 -- The listed blocks that lines give to districts, line by line.
 use Rattle.std.proofs.Common.{◌≡◌, ℕ, ◌+◌, ◌==◌, ◌&&◌, ◌||◌, cond, Bool, true, false, List, [], ◌∷◌, Option, Some, None, refl, sym, ap, ◌∙◌, arith, if◌then◌else◌}
+use Rattle.std.proofs.Math.Bool.{and_comm}
 use Rattle.std.specs.List.{list_any}
 use Rattle.std.specs.Str.{bytes_eq}
 use Rattle.std.specs.Option.{option_or, unwrap_or}
@@ -110,14 +111,8 @@ put_people own people before old other new sum put =
 pub put_place : (label : List ℕ) (code place : ℕ) (drawn : List DrawnSet) (key : List ℕ × ℕ) (before new : Option (Unit {0})) → place_of drawn (county_of_block code) ≡ Some place
     → new ≡ cond (is_at (by_label (label, place)) key) (Some tt) before → new ≡ after_shown drawn key before (label, code)
 put_place label code place drawn key before new is put =
-    put ∙ ap (λ (b : Bool). cond b (Some tt) before) (tied_key (label, place) key ∙ turned (bytes_eq label key.0) (place == key.1))
+    put ∙ ap (λ (b : Bool). cond b (Some tt) before) (tied_key (label, place) key ∙ and_comm (bytes_eq label key.0) (place == key.1))
     ∙ ap (λ (o : Option ℕ). cond (is_place o key.1 && bytes_eq label key.0) (Some tt) before) (sym is)
-  where
-    turned : (s t : Bool) → (s && t) ≡ (t && s)
-    turned true true = refl
-    turned true false = refl
-    turned false true = refl
-    turned false false = refl
 
 pub no_place : (label : List ℕ) (code : ℕ) (drawn : List DrawnSet) (key : List ℕ × ℕ) (before : Option (Unit {0})) → place_of drawn (county_of_block code) ≡ None
     → before ≡ after_shown drawn key before (label, code)

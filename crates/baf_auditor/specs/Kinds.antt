@@ -10,7 +10,7 @@ use Rattle.grouping_laws.specs.Problem.{Problem}
 use Rattle.grouping_laws.specs.SeatWindow.{AreBounds}
 use Rattle.grouping_laws.specs.Grouping.{Grouping, Lawful}
 use Rattle.county_problem.specs.ProblemValue.{ProblemValue, problem_of}
-use Rattle.baf_auditor.specs.Findings.{DrawnSet, Plan, IsFinding}
+use Rattle.baf_auditor.specs.Findings.{DrawnSet, Plan, IsFinding, AreCodesWith, IsUnknown, IsTwice, IsUnassigned}
 use Rattle.baf_auditor.specs.Giving.{by_label}
 use Rattle.baf_auditor.specs.Districts.{GivenBlock, district_people, size_finding, standing, crossings, numbers_from}
 use Rattle.baf_auditor.specs.declared.block_findings.CodeKind.{CodeKind}
@@ -23,6 +23,12 @@ abbrev pub code_finding : CodeKind → ℕ → Finding
 code_finding Unknown code = findings.UnknownBlock code
 code_finding Twice code = findings.BlockTwice code
 code_finding Unassigned code = findings.Unassigned code
+
+-- the codes of the blocks that are found alone
+pub record AreBlockKinds (plan : Plan) (unknown twice unassigned : List ℕ) : Type 0 where
+  pub unknown_are : AreCodesWith (IsUnknown plan) unknown
+  pub twice_are : AreCodesWith (IsTwice plan) twice
+  pub unassigned_are : AreCodesWith (IsUnassigned plan) unassigned
 
 -- the findings of districts, by the listed blocks that lines give to them: those that cross, wrong numbers, wrong sizes
 pub record AreOfDistricts (p : Problem) (drawn : List DrawnSet) (groups : ℕ) (given : List GivenBlock)

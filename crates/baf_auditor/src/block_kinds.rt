@@ -2,7 +2,7 @@
 
 ghost use Rattle.std.specs.{Prelude.{◌≡◌, ◌<◌, ℕ, IfOk, All, is_none, nat_lt, ◌&&◌, not, map}, List.filter_map};
 ghost use Rattle.std.specs.{List.Sorted.{IsStrictlyIncreasing, IsStrictlySortedBy}, Ordering.nat_cmp, BTreeMap.get};
-ghost use Rattle.baf_auditor.specs.Findings.{plan_of, drawn_sets, AreCodesWith, IsUnknown, IsTwice, IsUnassigned};
+ghost use Rattle.baf_auditor.specs.{Findings.{plan_of, drawn_sets}, Kinds.AreBlockKinds};
 ghost use Rattle.baf_auditor.specs.{Naming.has_district, Listing.{kept, listing}};
 
 use crate::assignments::Assignment;
@@ -104,9 +104,7 @@ pub(crate) fn block_kinds(
 ) -> Result<BlockKinds, AllocError>
     requires fits { All (λ block. block.code < 1000000000000000) blocks.now }
     requires ascending { IsStrictlyIncreasing (map (λ block. block.code) blocks.now) }
-    ensures unknown { IfOk result (λ k. AreCodesWith (IsUnknown (plan_of problem.now grouping.now.groups.items blocks.now lines.now)) k.unknown.items) }
-    ensures twice { IfOk result (λ k. AreCodesWith (IsTwice (plan_of problem.now grouping.now.groups.items blocks.now lines.now)) k.twice.items) }
-    ensures unassigned { IfOk result (λ k. AreCodesWith (IsUnassigned (plan_of problem.now grouping.now.groups.items blocks.now lines.now)) k.unassigned.items) }
+    ensures kinds { IfOk result (λ k. AreBlockKinds (plan_of problem.now grouping.now.groups.items blocks.now lines.now) k.unknown.items k.twice.items k.unassigned.items) }
     ensures listed { IfOk result (λ k. (code : ℕ)
         → get nat_cmp k.listed code ≡ listing (drawn_sets problem.now grouping.now.groups.items) blocks.now code) }
 {

@@ -318,7 +318,8 @@ changed_number p depth b c (parted n tree first many f) = inl (ap (λ (z : Conte
 changed_number p depth b c (improved g next gain r) = inr (r.counted ∙ r.number_is)
 changed_number p depth b c (widened next r) = inr (r.counted ∙ r.number_is)
 
--- a result that isn't one of a piece that waits in this round with a tree that proves it, and a split that isn't of such a piece, change nothing
+-- a result that isn't one of a piece that waits in this round with a tree that proves it, and a split that isn't of
+-- such a piece, change nothing
 same_result : (p : Problem) (depth : ℕ) (b c : Content) (number n : ℕ) (tree : Tree) (reply : Reply) → (number ≡ b.number → Fills p b n tree c → ⊥) → Leads p depth b (result number n tree) reply c → c ≡ b
 same_result p depth b c number n tree Accepted f l = absurd (f l.0 l.1)
 same_result p depth b c number n tree (Split first many) f l = absurd l

@@ -37,8 +37,8 @@ module _ (p : Problem) (round : Round) (s : State) (wanted : ℕ → ℕ) where
     pub number : length lines ≡ k + length later
     pub counted : Counted (k + 1) later
 
-  -- Through size `k` a count line for each size gives as many groups as wanted, and uses `used` counties: count lines are a bound
-  -- exactly where those above k are.
+  -- Through size `k` a count line for each size gives as many groups as wanted, and uses `used` counties: count lines
+  -- are a bound exactly where those above k are.
   pub record ReachedBy (k used : ℕ) : Type 0 where
     pub only_if : (lines : List Allowance) → Counted 1 lines → Bounded 1 0 lines → (rest : Later k lines) × Bounded (k + 1) used rest.later
     pub enough : (lines : List Allowance) → Counted 1 lines → k ≤ length lines → (rest : Later k lines) × (Bounded (k + 1) used rest.later → Bounded 1 0 lines)

@@ -1,4 +1,5 @@
--- What the weights of a count line give: 1 to each county of a group that fits and has the line's size, and 0 to each other one.
+-- What the weights of a count line give: 1 to each county of a group that fits and has the line's size, and 0 to each
+-- other one.
 use Rattle.std.proofs.Common.{◌≡◌, ℕ, ◌+◌, ◌/◌, ◌≤◌, ◌<◌, Bool, true, false, cond, min, ◌==◌, List, [], ◌∷◌, map, filter, length, refl, sym, ap, ◌∙◌, subst, arith, inl, inr, ◌↔◌, AllPairs, Contains}
 use Rattle.std.proofs.lemmas.Bool.{false≢true, eqb-true, eq-eqb, ne_eqb}
 use Rattle.grouping_laws.specs.Sets.{indicator, sum_by, contains}

@@ -38,7 +38,8 @@ pub record IsPlacedIn {C : Type 0} (places : ℕ) (test : C → ℕ → Bool) (g
   pub order : g.graph.now.ordered.now.order ≡ g.round.now.order
   pub placed : IsPlaced (length g.graph.now.ordered.now.order) test s
 
--- for the sizes from 1 on, at most the limit, the lists that `f` gives are of the groups of each size that fit the state
+-- for the sizes from 1 on, at most the limit, the lists that `f` gives are of the groups of each size that fit the
+-- state
 pub record AreListsIn {C V : Type 0} (places : ℕ) (test : C → ℕ → Bool) (g : SearchInput C) (s : StateHeld C)
     (f : V → List C) (lists : List V) : Type 0 where
   pub at : IsPlacedIn places test g s

@@ -3,7 +3,7 @@
 ghost use Rattle.std.specs.Prelude.{◌≡◌, ◌≤◌, ◌<◌, ◌+◌, ◌∷◌, [], ◌++◌, List, length, nat_lt, IfOk, MatchResult};
 ghost use Rattle.std.specs.List.{list_any};
 ghost use Rattle.county_codes.specs.Limits.{most_counties};
-ghost use Rattle.grouping_laws.specs.{Allowance.HasTolerance, GroupsFrom.IsOrder};
+ghost use Rattle.grouping_laws.specs.{Tolerance.HasTolerance, GroupsFrom.IsOrder};
 ghost use Rattle.county_problem.specs.ProblemValue.{problem_of};
 ghost use Rattle.certificate_data.specs.{RoundValue.{round_of, target_of}, Tree.Tree, TreeValue.Certificate};
 ghost use Rattle.certificate_laws.specs.State.{empty_state};

@@ -1,5 +1,5 @@
-//! What a checker knows of the groups at a state of a wide round, so that it need not grow them anew for each line. It is
-//! what a search knows there: a position.
+//! What a checker knows of the groups at a state of a wide round, so that it need not grow them anew for each line. It
+//! is what a search knows there: a position.
 
 ghost use Rattle.std.specs.Prelude.{◌≡◌, ℕ, ◌+◌, ◌*◌, ◌≤◌, ◌<◌, ◌∷◌, List, length, All, Some, IfOk, IfSome, IsErrOf, IsTrue, MatchOption, MatchResult, ⊤};
 ghost use Rattle.county_codes.specs.Limits.{most_counties};
@@ -108,8 +108,8 @@ pub fn closed_known<C: CountySet>(
     Ok(Some(closed))
 }
 
-/// Returns what is known where the county at `place` is raised past the `limit`. Returns `None` if the groups of `limit`
-/// counties aren't known at the `state`.
+/// Returns what is known where the county at `place` is raised past the `limit`. Returns `None` if the groups of
+/// `limit` counties aren't known at the `state`.
 ///
 /// # Errors
 ///
@@ -179,8 +179,8 @@ fn larger_position<C: CountySet>(
     }))
 }
 
-/// Returns the position that knows the groups of at least `size` counties, at the same state. Returns `None` if a smaller
-/// group fits, if a part of the rest is stuck, or if the spare steps ran out.
+/// Returns the position that knows the groups of at least `size` counties, at the same state. Returns `None` if a
+/// smaller group fits, if a part of the rest is stuck, or if the spare steps ran out.
 fn position_of_size<C: CountySet>(
     search: &SearchInput<C>,
     position: Position<C>,

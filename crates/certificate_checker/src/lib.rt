@@ -15,7 +15,8 @@
 //! lines of one form, and `input` is what they are judged by.
 //!
 //! In a wide round the checker keeps what it knows of the groups at a state from line to line (`known`). `known_at`,
-//! `closed_known`, `raised_known` and `knowing_branch` let another crate keep it, and `check_tree_knowing` goes on from it.
+//! `closed_known`, `raised_known` and `knowing_branch` let another crate keep it, and `check_tree_knowing` goes on from
+//! it.
 //!
 //! The checker makes no value of a tree. Any form of sets of places serves, and any source of items: `check_from` pulls
 //! the text line by line.

@@ -99,8 +99,8 @@ fn check_lines<C: CountySet>(
 
 /// Returns the verdict on a tree that should prove a round from a state on, as `check_tree` does.
 ///
-/// What is `known` at the state is kept from line to line, and is extended with the help of `lists`. A caller that judges
-/// several trees keeps the lists from one to the next.
+/// What is `known` at the state is kept from line to line, and is extended with the help of `lists`. A caller that
+/// judges several trees keeps the lists from one to the next.
 ///
 /// # Errors
 ///
@@ -175,9 +175,9 @@ fn check_tree_at<C: CountySet>(
 /// ask to look through. A proof tree with more lines than `budget` is never answered with `Proof`.
 ///
 /// The order has each county of the problem once. The target, if there is one, is lawful, and the limit is at most 256
-/// counties. The state is by places of the order. If `is_of_round`, it is a state of the round, and what is known of its
-/// groups is kept from line to line, as `check` keeps it, with the help of `lists`. These are lists of the problem by the
-/// round's order, and a caller that judges several trees keeps them. The verdict is right either way.
+/// counties. The state is by places of the order. If `is_of_round`, it is a state of the round, and what is known of
+/// its groups is kept from line to line, as `check` keeps it, with the help of `lists`. These are lists of the problem
+/// by the round's order, and a caller that judges several trees keeps them. The verdict is right either way.
 ///
 /// # Errors
 ///

@@ -23,7 +23,8 @@ use Rattle.certificate_laws.proofs.WithoutGroup.{without_in}
 use Rattle.certificate_laws.proofs.Counting.{fewer_kept, no_more_kept, sum_by-filter, total_less}
 use Rattle.certificate_laws.proofs.Branches.{branch_keeps_state, open_above, closed_open, raised_open, settled_shut, raised_shut, settled_out}
 
--- how many counties a path can still use up, in order: of the rest, in a plain round of those open to groups of at most the limit
+-- how many counties a path can still use up, in order: of the rest, in a plain round of those open to groups of at most
+-- the limit
 abbrev depth_left : Format → Round → State → ℕ
 depth_left Plain round s = length (filter (open_to s round.limit) round.order)
 depth_left Wide round s = length (filter s.rest round.order)

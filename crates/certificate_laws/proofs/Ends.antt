@@ -1,4 +1,5 @@
--- Where no group fits and no leaf is valid, the closed groups and the connected parts of the rest are a greater grouping.
+-- Where no group fits and no leaf is valid, the closed groups and the connected parts of the rest are a greater
+-- grouping.
 use Rattle.std.proofs.Common.{◌≡◌, ℕ, zero, suc, ◌+◌, ◌*◌, ◌≤◌, ◌<◌, Bool, true, false, not, List, [], ◌∷◌, ◌++◌, length, ◌==◌, refl, sym, ap, ◌∙◌, subst, arith, inl, inr, ⊎_elim, Contains, Option, Some, None, div-le_self}
 use Rattle.std.specs.List.{AllZip}
 use Rattle.std.proofs.lemmas.Bool.{cases_order, cases_lt, eqb-true, and_from, false≢true}

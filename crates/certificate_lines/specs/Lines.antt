@@ -79,9 +79,9 @@ unfoldable pub tolerance_on : List (List ℕ) → Result Tolerance TextKind
 tolerance_on line = do
   words ← named (codes "window") line
   words ← counted 2 2 words
-  part ← number_at 0 500 words
-  whole ← number_at 1 1000 part.1
-  if nat_le (2 * part.0) whole.0 then Ok (record { part = part.0; whole = whole.0 }) else Err BadNumber
+  numerator ← number_at 0 500 words
+  denominator ← number_at 1 1000 numerator.1
+  if nat_le (2 * numerator.0) denominator.0 then Ok (record { numerator = numerator.0; denominator = denominator.0 }) else Err BadNumber
 
 unfoldable pub order_on : List (List ℕ) → Result (List ℕ) TextKind
 order_on line = do

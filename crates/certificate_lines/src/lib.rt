@@ -34,7 +34,8 @@ pub use items_from::ItemsFrom;
 pub use lines::{MOST, ascend, levels_after};
 pub use words::Words;
 pub use writing_lines::{
-    push_group, push_group_line, push_head, push_limit, push_order, push_target_line, push_tolerance,
+    push_group, push_group_line, push_head, push_limit, push_order, push_target_line,
+    push_tolerance,
 };
 pub use writing_words::{
     push_code_and_number_line, push_code_line, push_codes_line, push_count_line,

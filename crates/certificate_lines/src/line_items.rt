@@ -196,8 +196,8 @@ fn take_item(
     }
 }
 
-/// Pushes what is wanted after the first line of a partial tree onto the `stack`. The line is an `opening`, or `None` at
-/// an open leaf.
+/// Pushes what is wanted after the first line of a partial tree onto the `stack`. The line is an `opening`, or `None`
+/// at an open leaf.
 fn want_after_part(stack: &mut Stack, format: Format, levels: u16, opening: &Option<Opening>)
     requires { HasRoom (array_vec_len stack.old) (want.Part format levels) }
     ensures { reverse stack.new.items

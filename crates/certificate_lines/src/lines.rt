@@ -203,7 +203,8 @@ pub(crate) fn opening_on(
     }
 }
 
-/// Reads a branch or a leaf of a partial tree, where branches may still open `levels` levels, or `None` at an open leaf.
+/// Reads a branch or a leaf of a partial tree, where branches may still open `levels` levels, or `None` at an open
+/// leaf.
 #[tactic(auto, unfolding(crate::specs::Lines::part_on))]
 pub(crate) fn part_on(
     format: Format,

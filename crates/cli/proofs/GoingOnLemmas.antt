@@ -278,7 +278,8 @@ proves_handed refusal (Ok s) first next before after i h = absurd i
 proves_handed refusal (Err e) first next before after i h =
     subst (λ (r : Refusal). ProvesBy (first >>= next) before after [] (Err r)) (sym i) (inl (silent_stop first next before after refusal h))
 
--- calls that load files, over the states of a file store: one was refused, or it gave a value and left the files as they were
+-- calls that load files, over the states of a file store: one was refused, or it gave a value and left the files as
+-- they were
 module _ {H X : Type 0} (contents : H → Option Files) (history : H → History) (first : Option Files → Steps X) where
   pub serves_stopped : (next : Option Files → X → Steps ServedRun) (end : Result Shared Refusal) (refusal : Refusal) (s t : H) → IsErrAnd end (λ e. e ≡ refusal)
       → AnswerMeets refusal (λ a. first (contents s) (history s) (history t) (Err a)) → ServesBy (first (contents s) >>= next (contents s)) (history s) (history t) [] end

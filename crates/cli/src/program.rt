@@ -14,8 +14,8 @@ use cli_file_stores::{FileStore, Sink};
 use field_lines::Source;
 use std::alloc::Global;
 
-/// Runs the program, and returns its exit status and the run that has ended. With `words`, it runs their command over the
-/// file store's files, as `run` does. Without any, it runs the case that `input` holds, as `run_case` does, and the
+/// Runs the program, and returns its exit status and the run that has ended. With `words`, it runs their command over
+/// the file store's files, as `run` does. Without any, it runs the case that `input` holds, as `run_case` does, and the
 /// file store stays as it was. `watcher` is told how far the search of a command is. What is promised holds for each
 /// watcher.
 pub fn run_program<H: FileStore, R: Source, W: Sink, V: Watcher>(

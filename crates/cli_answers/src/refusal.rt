@@ -283,8 +283,8 @@ fn fault_text(alloc: Global, fault: GroupingFault) -> Result<Vec<u8>, AllocError
 }
 
 /// Returns the answer to a grouping that isn't lawful: `fault KIND` with exit status 1. The group, the county or the
-/// seats of the fault follow the kind. Returns `Memory` if that is the fault, or if memory for the line was refused. The
-/// outcome tells the `fault`, with the `subject` that was judged.
+/// seats of the fault follow the kind. Returns `Memory` if that is the fault, or if memory for the line was refused.
+/// The outcome tells the `fault`, with the `subject` that was judged.
 pub fn refuse_verdict(alloc: Global, fault: GroupingFault, subject: Subject) -> Refusal
     ensures { RefusalShows (verdict_answer fault) result }
 {

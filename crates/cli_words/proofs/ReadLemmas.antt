@@ -41,7 +41,8 @@ module _ (f : Found) (a : Rule) (bare : slice_get a.defaults 0 ≡ None) where
   text_given (inr h) None is = h.absent
   text_given (inr h) (Some s) is = let bad : Some s.now ≡ None = is ∙ (first_value-rows f a.id ∙ h.none) in cc
 
--- what the words say by a number that was read: it is the option's, in its range, and the default's where they give none
+-- what the words say by a number that was read: it is the option's, in its range, and the default's where they give
+-- none
 pub record SaysNumber (f : Found) (a : Rule) (low high n : ℕ) : Type 0 where
   pub given : GivesNumber a.id (rows_of f) n
   pub range : (low ≤ n) × (n ≤ high)

@@ -1,4 +1,5 @@
--- The people of a set that grows, and sets that are passed over, since they stay below the fewest people that suit a seat.
+-- The people of a set that grows, and sets that are passed over, since they stay below the fewest people that suit a
+-- seat.
 use Rattle.std.proofs.Common.{◌≡◌, ℕ, ◌+◌, ◌-◌, ◌*◌, ◌≤◌, ◌<◌, Bool, true, false, nat_lt, ◌||◌, List, [], ◌∷◌, length, refl, sym, ap, ◌∙◌, arith}
 use Rattle.std.proofs.lemmas.Bool.{false≢true, ltb-true}
 use Rattle.grouping_laws.specs.Sets.{contains}

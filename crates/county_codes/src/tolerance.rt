@@ -26,14 +26,19 @@ impl Tolerance {
     pub fn twentieth() -> Tolerance
         ensures { result ≡ Rattle.county_codes.specs.Tolerances.twentieth }
     {
-        Tolerance { numerator: 1, denominator: 20 }
+        Tolerance {
+            numerator: 1,
+            denominator: 20,
+        }
     }
 
     /// Returns whether the denominator is from 1 to 1,000 and the fraction is at most a half.
     pub fn is_in_range(self) -> bool
         ensures { result ≡ is_tolerance self }
     {
-        1 <= self.denominator && self.denominator <= 1000 && 2 * u32::from(self.numerator) <= u32::from(self.denominator)
+        1 <= self.denominator
+            && self.denominator <= 1000
+            && 2 * u32::from(self.numerator) <= u32::from(self.denominator)
     }
 
     /// Returns whether this fraction and `other` are equal, such as 1/20 and 5/100.

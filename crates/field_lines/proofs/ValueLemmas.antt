@@ -1,5 +1,5 @@
--- Values collected line by line: what a reading loop over `Lines::next_line` has found and what is left make the values of
--- the text.
+-- Values collected line by line: what a reading loop over `Lines::next_line` has found and what is left make the values
+-- of the text.
 use Rattle.std.proofs.Common.{◌≡◌, ℕ, ◌++◌, List, [], ◌∷◌, Option, Some, None, Result, Ok, Err, refl, sym, ap, ◌∙◌, append_assoc}
 use Rattle.std.proofs.lemmas.List.{append-nil}
 use Rattle.std.specs.List.{slice_get, filter_map, cons_option}

@@ -1,4 +1,5 @@
--- When a set can grow into no lawful group: with the people of as many more places as may join it stays too small for one seat.
+-- When a set can grow into no lawful group: with the people of as many more places as may join it stays too small for
+-- one seat.
 use Rattle.std.proofs.Common.{◌≡◌, ℕ, ◌+◌, ◌-◌, ◌*◌, ◌≤◌, ◌<◌, Bool, true, false, cond, nat_lt, ◌&&◌, not, List, [], ◌∷◌, filter, length, refl, sym, ap, ◌∙◌, arith, inl, inr, mul-le-mul_right, mul-le-mul_left}
 use Rattle.grouping_laws.specs.Sets.{indicator, sum_by, count, contains}
 use Rattle.grouping_laws.specs.Problem.{Problem, Suits, people_of}

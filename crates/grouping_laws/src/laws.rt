@@ -1,6 +1,6 @@
 //! Laws of groupings and of their counts: the functions do nothing, and their contracts are the laws.
 
-ghost use Rattle.grouping_laws.specs.{Problem.Problem, Allowance.{HasTolerance, named_tolerance}};
+ghost use Rattle.grouping_laws.specs.{Problem.Problem, Tolerance.{HasTolerance, named_tolerance}};
 ghost use Rattle.grouping_laws.specs.Totals.{SizesAddUp, WindowsAddUp, GroupsFit};
 ghost use Rattle.grouping_laws.specs.Order.{GreaterIsIrreflexive, GreaterIsTransitive, GreaterIsTotal};
 

@@ -42,7 +42,8 @@ pub extended : {X E : Type 0} (r : Result X E) (new whole old : List ℕ) → ne
 extended (Ok x) new whole old e = e
 extended (Err fault) new whole old e = tt
 
--- A loop that appends the text of one element after the other, where the text of what is left gives the whole: one element more
+-- A loop that appends the text of one element after the other, where the text of what is left gives the whole: one
+-- element more
 pub step_more : (now text rest : List ℕ) {left whole new : List ℕ} → new ≡ now ++ text → left ≡ text ++ rest → now ++ left ≡ whole → new ++ rest ≡ whole
 step_more now text rest e w inv = ap (λ (l : List ℕ). l ++ rest) e ∙ append_assoc now text rest ∙ ap (λ (l : List ℕ). now ++ l) (sym w) ∙ inv
 

@@ -1,4 +1,5 @@
--- Lists of all best groupings: complete certificates show them, and the groups that all groupings of a list have are shared.
+-- Lists of all best groupings: complete certificates show them, and the groups that all groupings of a list have are
+-- shared.
 use Rattle.std.proofs.Common.{◌≡◌, ℕ, ◌≤◌, List, [], ◌∷◌, refl, ◌∙◌, subst, arith, inl, inr, Some, AllPairs}
 use Rattle.grouping_laws.specs.Problem.{Problem}
 use Rattle.grouping_laws.specs.Grouping.{Grouping, Lawful, counts, sets_of, IsBest}

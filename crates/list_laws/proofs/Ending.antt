@@ -1,5 +1,5 @@
--- The ends of a complete proof tree, by induction over the tree: they are sets of groupings, and each grouping with the target's counts is
--- among them.
+-- The ends of a complete proof tree, by induction over the tree: they are sets of groupings, and each grouping with the
+-- target's counts is among them.
 use Rattle.std.proofs.Common.{◌≡◌, ℕ, ◌≤◌, ◌<◌, Bool, true, false, cond, List, [], ◌∷◌, length, refl, sym, ap, ◌∙◌, subst, arith, ◌⊎◌, inl, inr, ⊎_elim, Some, All}
 use Rattle.grouping_laws.specs.Problem.{Problem}
 use Rattle.grouping_laws.specs.Grouping.{Grouping, Lawful, counts, sets_of}
@@ -26,7 +26,8 @@ use Rattle.list_laws.proofs.Filled.{agrees_from_same, same_from_agrees, counts_s
 use Rattle.list_laws.proofs.Short.{none_short}
 use Rattle.list_laws.proofs.Exact.{exact, none_above}
 
--- some lawful grouping has the sets, and each lawful grouping with the sets agrees with the state and has the target's counts
+-- some lawful grouping has the sets, and each lawful grouping with the sets agrees with the state and has the target's
+-- counts
 pub record IsEndAt (p : Problem) (s : State) (t : Grouping) (k : List (List ℕ)) : Type 0 where
   pub some : (g : Grouping) × Lawful p g × SameSets (sets_of g) k
   pub each : (g : Grouping) → Lawful p g → SameSets (sets_of g) k → Agrees s g × ((i : ℕ) → 1 ≤ i → counts (sets_of g) i ≡ counts (sets_of t) i)

@@ -1,4 +1,5 @@
--- If no county is left in a state, a lawful grouping agrees with the state exactly if it has the sets of the closed groups.
+-- If no county is left in a state, a lawful grouping agrees with the state exactly if it has the sets of the closed
+-- groups.
 use Rattle.std.proofs.Common.{◌≡◌, ℕ, ◌≤◌, false, List, [], ◌∷◌, length, refl, sym, ap, ◌∙◌, subst, arith, inl, Contains}
 use Rattle.std.proofs.lemmas.Bool.{false≢true}
 use Rattle.county_codes.specs.declared.group.Group.{Group}

@@ -1,4 +1,5 @@
--- Items that come one after the other where a partial tree is wanted begin with the items of one whose branches are open.
+-- Items that come one after the other where a partial tree is wanted begin with the items of one whose branches are
+-- open.
 use Rattle.std.proofs.Common.{◌≡◌, ℕ, zero, suc, ◌+◌, ◌-◌, ◌<◌, ◌≤◌, ◌⊎◌, inl, inr, List, [], ◌∷◌, ◌++◌, length, map, Option, Some, None, refl, ap, sym, subst, ◌∙◌, arith, append_assoc}
 use Rattle.certificate_data.specs.declared.format.Format.{Format}
 use Rattle.certificate_laws.specs.Depth.{after_raise}

@@ -218,7 +218,8 @@ fn judge_part<C: CountySet>(
     }
 }
 
-/// Judges `part` at `state`, given the `wanted` counts of the round's target, and returns the states at its open leaves.
+/// Judges `part` at `state`, given the `wanted` counts of the round's target, and returns the states at its open
+/// leaves.
 fn judge_wanted<C: CountySet>(
     graph: &CountyGraph<C>,
     round: &Round,
@@ -269,15 +270,15 @@ fn judge_wanted<C: CountySet>(
 /// Judges `part` at `state`, and returns the states at its open leaves, in the order of its lines.
 ///
 /// A whole tree in it is judged as by `check_tree`. The order has each county of the problem once. The target, if there
-/// is one, is lawful, and the limit is at most 256 counties. The state is by places of the order. If `is_of_round`, it is
-/// a state of the round, and what is known of its groups is kept through the whole part, as `check` keeps it, with the
-/// help of `lists`. A caller that judges several parts keeps these lists.
+/// is one, is lawful, and the limit is at most 256 counties. The state is by places of the order. If `is_of_round`, it
+/// is a state of the round, and what is known of its groups is kept through the whole part, as `check` keeps it, with
+/// the help of `lists`. A caller that judges several parts keeps these lists.
 ///
 /// # Errors
 ///
 /// Returns `NotAProof` if the part isn't valid at the state or no text spells it. Returns `Budget` only if `budget` is
-/// below the part's cost: three for each of its lines, and three for each set of counties that they ask to look through.
-/// Returns `Memory` if memory was refused.
+/// below the part's cost: three for each of its lines, and three for each set of counties that they ask to look
+/// through. Returns `Memory` if memory was refused.
 pub fn check_part<C: CountySet>(
     graph: &CountyGraph<C>,
     round: &Round,

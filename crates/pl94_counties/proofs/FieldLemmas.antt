@@ -2,6 +2,8 @@
 use Rattle.std.proofs.Common.{◌≡◌, ℕ, ◌+◌, List, [], ◌∷◌, length, drop, suc, zero, Option, Some, None, OnSome, refl, sym, ap, ◌∙◌, zero-add, arith}
 use Rattle.std.proofs.Math.Seq.{drop-nil}
 use Rattle.std.specs.List.{slice_get}
+use Rattle.std.specs.Option.{option_map}
+use Rattle.field_lines.specs.Fields.{fields_of}
 use Rattle.pl94_counties.specs.Fields.{field, geo_fields}
 use Rattle.std.specs.Iterator.{YieldsFirstBy, Yields, SkipsThenYields}
 
@@ -53,15 +55,34 @@ pub taken_from : (n i : ℕ) (fields left : List (List ℕ)) (o : Option (List �
 taken_from n i fields left o taken is = sym (taken ∙ ap (λ l. slice_get l i) is ∙ slice_get-drop n i fields)
 
 -- ---- the fields of a line of geo
-pub geo_fields_from : (line a b n g s k : _) → field 3 line ≡ Some a → field 5 line ≡ Some b → field 8 line ≡ Some n → field 10 line ≡ Some g → field 13 line ≡ Some s → field 15 line ≡ Some k
+geo_fields_from : (line a b n g s k : _) → field 3 line ≡ Some a → field 5 line ≡ Some b → field 8 line ≡ Some n → field 10 line ≡ Some g → field 13 line ≡ Some s → field 15 line ≡ Some k
     → geo_fields line ≡ Some (record { level = a; component = b; record_number = n; geocode = g; of_state = s; county = k })
 unfolding geo_fields
 geo_fields_from line a b n g s k e1 e2 e3 e4 e5 e6 = rw (e1, e2, e3, e4, e5, e6) refl
 
-pub geo_fields_few : (line a b n g s : _) → field 3 line ≡ Some a → field 5 line ≡ Some b → field 8 line ≡ Some n → field 10 line ≡ Some g → field 13 line ≡ Some s → field 15 line ≡ None → geo_fields line ≡ None
+geo_fields_few : (line a b n g s : _) → field 3 line ≡ Some a → field 5 line ≡ Some b → field 8 line ≡ Some n → field 10 line ≡ Some g → field 13 line ≡ Some s → field 15 line ≡ None → geo_fields line ≡ None
 unfolding geo_fields
 geo_fields_few line a b n g s e1 e2 e3 e4 e5 e6 = rw (e1, e2, e3, e4, e5, e6) refl
 
 pub geo_fields_fewer : (line a b n g : _) → field 3 line ≡ Some a → field 5 line ≡ Some b → field 8 line ≡ Some n → field 10 line ≡ Some g → field 13 line ≡ None → geo_fields line ≡ None
 unfolding geo_fields
 geo_fields_fewer line a b n g e1 e2 e3 e4 e5 = rw (e1, e2, e3, e4, e5) refl
+
+-- the same of six fields that were taken one after the other; the last may be missing
+pub geo_fields_taken : (line a b n g s : List ℕ) (k : Option (List ℕ)) (start after3 after5 after8 after10 after13 : List (List ℕ)) → start ≡ fields_of 124 line
+    → Some a ≡ slice_get start 2 → after3 ≡ drop 3 start → Some b ≡ slice_get after3 1 → after5 ≡ drop 2 after3 → Some n ≡ slice_get after5 2 → after8 ≡ drop 3 after5
+    → Some g ≡ slice_get after8 1 → after10 ≡ drop 2 after8 → Some s ≡ slice_get after10 2 → after13 ≡ drop 3 after10 → k ≡ slice_get after13 1
+    → geo_fields line ≡ option_map (λ c. record { level = a; component = b; record_number = n; geocode = g; of_state = s; county = c }) k
+geo_fields_taken line a b n g s k start after3 after5 after8 after10 after13 begun is3 rest3 is5 rest5 is8 rest8 is10 rest10 is13 rest13 is15 = by k is15
+  where
+    fields : List (List ℕ)
+    fields = fields_of 124 line
+
+    left : LeftOf fields after3 after5 after8 after10 after13
+    left = left_of fields after3 after5 after8 after10 after13 (rest3 ∙ ap (λ l. drop 3 l) begun) rest5 rest8 rest10 rest13
+
+    by : (o : Option (List ℕ)) → o ≡ slice_get after13 1 → geo_fields line ≡ option_map (λ c. record { level = a; component = b; record_number = n; geocode = g; of_state = s; county = c }) o
+    by None none = geo_fields_few line a b n g s (taken_from 0 2 fields start _ is3 begun) (taken_from 3 1 fields after3 _ is5 left.third) (taken_from 5 2 fields after5 _ is8 left.fifth)
+        (taken_from 8 1 fields after8 _ is10 left.eighth) (taken_from 10 2 fields after10 _ is13 left.tenth) (taken_from 13 1 fields after13 _ none left.thirteenth)
+    by (Some c) some = geo_fields_from line a b n g s c (taken_from 0 2 fields start _ is3 begun) (taken_from 3 1 fields after3 _ is5 left.third) (taken_from 5 2 fields after5 _ is8 left.fifth)
+        (taken_from 8 1 fields after8 _ is10 left.eighth) (taken_from 10 2 fields after10 _ is13 left.tenth) (taken_from 13 1 fields after13 _ some left.thirteenth)

@@ -26,7 +26,7 @@ use Rattle.pl94_counties.specs.Geo.{area_on}
 use Rattle.pl94_counties.specs.PeopleByCode.{entries_on}
 use Rattle.pl94_counties.specs.Areas.{area_list, found_list}
 use Rattle.pl94_counties.specs.Counties.{county_of, county_in, block_of, county_list, block_list}
-use Rattle.pl94_counties.specs.JoinedLines.{IsJoined}
+use Rattle.pl94_counties.specs.JoinedLines.{IsJoined, IsListedArea}
 use Rattle.pl94_counties.specs.ListedAreas.{AreCounties, AreBlocks}
 use Rattle.pl94_counties.proofs.ListLemmas.{codes_made, listed_made, counties_kept, codes_small}
 use Rattle.pl94_counties.proofs.LawLemmas.{from_lines, each_line}
@@ -93,34 +93,43 @@ made_of : {X : Type 0} (made : ℕ → ℕ → X) (listed : Result (List (ℕ ×
 made_of made (Ok entries) xs is = (entries, refl, cc)
 made_of made (Err fault) xs is = cc
 
+-- what is said of counties and of blocks
+record AreMade {X : Type 0} (made : ℕ → ℕ → X) (code people : X → ℕ) (area : Area) (geo segment1 : List ℕ) (state : ℕ) (xs : List X) : Type 0 where
+  by_code : IsStrictlyIncreasing (map code xs)
+  from_lines : All (λ x. IsJoined area (cut geo).lines (cut segment1).lines state (code x) (people x)) xs
+  each_line : All (IsListedArea made area (cut segment1).lines state xs) (cut geo).lines
+
 module _ (geo segment1 : List ℕ) (state : ℕ) where
+  module _ {X : Type 0} (made : ℕ → ℕ → X) (code people : X → ℕ) (area : Area) (code_is : (n p : ℕ) → code (made n p) ≡ n) (people_are : (n p : ℕ) → people (made n p) ≡ p) where
+    joined_made : (entries : List (ℕ × ℕ)) → All (λ e. IsJoined area (cut geo).lines (cut segment1).lines state e.0 e.1) entries
+        → All (λ e. IsJoined area (cut geo).lines (cut segment1).lines state (code (made e.0 e.1)) (people (made e.0 e.1))) entries
+    joined_made entries all = λ k d lt.
+        let e : ℕ × ℕ = get_or entries k d in
+        subst (λ (n : ℕ). IsJoined area (cut geo).lines (cut segment1).lines state n (people (made e.0 e.1))) (sym (code_is e.0 e.1))
+        (subst (λ (p : ℕ). IsJoined area (cut geo).lines (cut segment1).lines state e.0 p) (sym (people_are e.0 e.1)) (all k d lt))
+
+    are_made : (xs : List X) → result_map_both (λ entries. map (λ e. made e.0 e.1) entries) (λ fault. fault) (area_list area geo segment1 state) ≡ Ok xs → AreMade made code people area geo segment1 state xs
+    are_made xs is =
+        let of = made_of made (area_list area geo segment1 state) xs is in
+        let entries = of.0 in
+        let f = areas_found area geo segment1 state entries of.1 in
+        let rises = found_rises area state f.records geo entries f.found_are in
+        subst (AreMade made code people area geo segment1 state) (sym of.2) (record {
+          by_code = subst (λ (ns : List ℕ). IsStrictlyIncreasing ns) (sym (codes_made made code code_is entries)) rises;
+          from_lines = All-map (λ (x : X). IsJoined area (cut geo).lines (cut segment1).lines state (code x) (people x)) (λ (e : ℕ × ℕ). made e.0 e.1) entries
+              (joined_made entries (from_lines area geo segment1 state f.records entries f.records_are f.found_are rises));
+          each_line = listed_made made area (cut segment1).lines state entries (cut geo).lines (each_line area geo segment1 state f.records entries f.records_are f.found_are);
+        })
+
   pub are_counties : (counties : List County) → county_list geo segment1 state ≡ Ok counties → AreCounties geo segment1 state counties
   are_counties counties is =
-      let of = made_of county_of (area_list areas.County geo segment1 state) counties is in
-      let entries = of.0 in
-      let f = areas_found areas.County geo segment1 state entries of.1 in
-      let rises = found_rises areas.County state f.records geo entries f.found_are in
-      subst (AreCounties geo segment1 state) (sym of.2) (record {
-        by_code = subst (λ (ns : List ℕ). IsStrictlyIncreasing ns) (sym (codes_made county_of (λ (c : County). c.code) (λ n p. refl) entries)) rises;
-        from_lines = All-map (λ (c : County). IsJoined areas.County (cut geo).lines (cut segment1).lines state c.code c.people) (λ (e : ℕ × ℕ). county_of e.0 e.1) entries
-            (from_lines areas.County geo segment1 state f.records entries f.records_are f.found_are rises);
-        each_line = listed_made county_of areas.County (cut segment1).lines state entries (cut geo).lines
-            (each_line areas.County geo segment1 state f.records entries f.records_are f.found_are);
-      })
+      let are = are_made county_of (λ (c : County). c.code) (λ (c : County). c.people) areas.County (λ n p. refl) (λ n p. refl) counties is in
+      record { by_code = are.by_code; from_lines = are.from_lines; each_line = are.each_line }
 
   pub are_blocks : (blocks : List Block) → block_list geo segment1 state ≡ Ok blocks → AreBlocks geo segment1 state blocks
   are_blocks blocks is =
-      let of = made_of block_of (area_list areas.Block geo segment1 state) blocks is in
-      let entries = of.0 in
-      let f = areas_found areas.Block geo segment1 state entries of.1 in
-      let rises = found_rises areas.Block state f.records geo entries f.found_are in
-      subst (AreBlocks geo segment1 state) (sym of.2) (record {
-        by_code = subst (λ (ns : List ℕ). IsStrictlyIncreasing ns) (sym (codes_made block_of (λ (b : Block). b.code) (λ n p. refl) entries)) rises;
-        from_lines = All-map (λ (b : Block). IsJoined areas.Block (cut geo).lines (cut segment1).lines state b.code b.people) (λ (e : ℕ × ℕ). block_of e.0 e.1) entries
-            (from_lines areas.Block geo segment1 state f.records entries f.records_are f.found_are rises);
-        each_line = listed_made block_of areas.Block (cut segment1).lines state entries (cut geo).lines
-            (each_line areas.Block geo segment1 state f.records entries f.records_are f.found_are);
-      })
+      let are = are_made block_of (λ (b : Block). b.code) (λ (b : Block). b.people) areas.Block (λ n p. refl) (λ n p. refl) blocks is in
+      record { by_code = are.by_code; from_lines = are.from_lines; each_line = are.each_line }
 
 -- entries that are listed by ascending codes, as counties
 pub counties_listed : (geo segment1 : List ℕ) (state : ℕ) (entries : List (ℕ × ℕ)) (items : List County) → state ≤ 99 → IsStrictlyIncreasing (map (λ e. e.0) entries)

@@ -1,5 +1,5 @@
 -- Reading the lines of a file from any source.
-use Rattle.std.proofs.Common.{◌≡◌, ◌≢◌, ◌&&◌, inl, inr, ℕ, Bool, true, false, List, [], ◌++◌, Some, Result, Ok, Err, refl, sym, ap, ◌∙◌, subst}
+use Rattle.std.proofs.Common.{◌≡◌, ◌≢◌, ◌&&◌, inl, inr, ℕ, Bool, true, false, List, [], ◌++◌, Option, Some, Result, Ok, Err, refl, sym, ap, ◌∙◌, subst}
 use Rattle.std.specs.Borrow.{Bor}
 use Rattle.field_lines.specs.Source.{Given}
 use Rattle.field_lines.specs.LinesFrom.{LinesHeld, nothing_read, lines_held, LinesLeft, IsNextAnswer, ReadsText}
@@ -38,6 +38,14 @@ own_fault NoCounties of = refl
 own_fault NoBlocks of = refl
 own_fault TooMany of = refl
 own_fault Memory of = refl
+
+-- the answer that was matched is the one that a reader gave
+pub answer_is : {now new : LinesLeft} {h i : Given} {d e : Bool} {a b : Result (Option (ℕ × Bor (List ℕ))) LineFault} → a ≡ b → IsNextAnswer now h d a new i e → IsNextAnswer now h d b new i e
+answer_is {now} {new} {h} {i} {d} {e} is next = subst (λ (a : Result (Option (ℕ × Bor (List ℕ))) LineFault). IsNextAnswer now h d a new i e) is next
+
+-- and so is the line in it
+pub line_is : {a : Result (Option (ℕ × Bor (List ℕ))) LineFault} {o : Option (ℕ × Bor (List ℕ))} {r : ℕ × Bor (List ℕ)} → a ≡ Ok o → o ≡ Some r → a ≡ Ok (Some r)
+line_is is some = is ∙ ap (λ (o : Option (ℕ × Bor (List ℕ))). Ok o) some
 
 module _ (read : List ℕ → LineEntry) (rule : Rule) (file : File) where
   -- what a loop answers that has found these entries, on the cut that is left
@@ -110,18 +118,24 @@ only_memory view (Err fault) given geo segment1 is = λ kept. is (λ refused. el
   | inr failed ↦ no_failure fault.kind fault.file geo segment1 failed
 ])
 
--- a reading of two sources, said in other words
-pub reads_as : {X Y : Type 0} (view : X → Y) (geo_before geo_after segment1_before segment1_after : Given) (answer : Result X Pl94Fault) (given other : List ℕ → List ℕ → Result Y Pl94Fault)
-    → ((geo segment1 : List ℕ) → given geo segment1 ≡ other geo segment1) → ReadsBoth view geo_before geo_after segment1_before segment1_after answer given
-    → ReadsBoth view geo_before geo_after segment1_before segment1_after answer other
-reads_as view geo_before geo_after segment1_before segment1_after answer given other same reads = record {
+-- what is answered for two sources, where it gives another answer
+pub reads_give : {X Y V W : Type 0} (view : X → Y) (shown : V → W) (geo_before geo_after segment1_before segment1_after : Given) (answer : Result X Pl94Fault) (made : Result V Pl94Fault) (given : List ℕ → List ℕ → Result Y Pl94Fault) (other : List ℕ → List ℕ → Result W Pl94Fault)
+    → ((geo segment1 : List ℕ) → GivesUnless IsPl94Refused view answer (given geo segment1) → GivesUnless IsPl94Refused shown made (other geo segment1))
+    → ReadsBoth view geo_before geo_after segment1_before segment1_after answer given → ReadsBoth shown geo_before geo_after segment1_before segment1_after made other
+reads_give view shown geo_before geo_after segment1_before segment1_after answer made given other gives reads = record {
   geo = reads.geo;
   segment1 = reads.segment1;
   geo_given = reads.geo_given;
   segment1_given = reads.segment1_given;
-  value = λ geo_later segment1_later geo_may segment1_may.
-      subst (GivesUnless IsPl94Refused view answer) (same (reads.geo ++ geo_later) (reads.segment1 ++ segment1_later)) (reads.value geo_later segment1_later geo_may segment1_may);
+  value = λ geo_later segment1_later geo_may segment1_may. gives (reads.geo ++ geo_later) (reads.segment1 ++ segment1_later) (reads.value geo_later segment1_later geo_may segment1_may);
 }
+
+-- a reading of two sources, said in other words
+pub reads_as : {X Y : Type 0} (view : X → Y) (geo_before geo_after segment1_before segment1_after : Given) (answer : Result X Pl94Fault) (given other : List ℕ → List ℕ → Result Y Pl94Fault)
+    → ((geo segment1 : List ℕ) → given geo segment1 ≡ other geo segment1) → ReadsBoth view geo_before geo_after segment1_before segment1_after answer given
+    → ReadsBoth view geo_before geo_after segment1_before segment1_after answer other
+reads_as view geo_before geo_after segment1_before segment1_after answer given other same reads =
+    reads_give view view geo_before geo_after segment1_before segment1_after answer answer given other (λ geo segment1 is. subst (GivesUnless IsPl94Refused view answer) (same geo segment1) is) reads
 
 -- readers that have read nothing have the lines of whole texts
 pub fresh_lines : (area : Area) (state : ℕ) (geo segment1 : LinesHeld) → geo ≡ nothing_read → segment1 ≡ nothing_read → (g s : List ℕ)

@@ -147,33 +147,6 @@ fn read_lines<F, L: LinesFrom<F>, G, M: LinesFrom<G>>(
     some_areas(found, area)
 }
 
-/// Returns the people of each `area` of `state` by its code, or the first fault of the texts `geo` and `segment1`.
-fn read_texts(
-    alloc: Global,
-    area: Area,
-    geo: &[u8],
-    segment1: &[u8],
-    state: u8,
-) -> Result<BTreeMap<u64, u32>, Pl94Fault>
-    requires { state ≤ 99 }
-    ensures value { GivesUnless IsPl94Memory (λ m. m.entries) result (area_list area geo.now segment1.now state) }
-    ensures ascending { IfOk result (λ m. IsStrictlyIncreasing (map (λ e. e.0) m.entries)) }
-{
-    let mut geo_lines = Lines::new(geo);
-    let mut segment1_lines = Lines::new(segment1);
-    let mut notes = CensusNotes::new(alloc);
-    read_lines(
-        alloc,
-        area,
-        &mut geo_lines,
-        &mut (),
-        &mut segment1_lines,
-        &mut (),
-        state,
-        &mut notes,
-    )
-}
-
 /// Reads the people of each `area` of `state` by its code, in ascending order, from the texts `geo` and `segment1`.
 pub(crate) fn read_areas(
     alloc: Global,
@@ -189,7 +162,19 @@ pub(crate) fn read_areas(
     ensures from_lines { IfOk result (λ m. All (λ e. IsJoined area (cut geo.now).lines (cut segment1.now).lines state e.0 e.1) m.entries) }
     ensures each_line { IfOk result (λ m. All (IsListedArea (λ code people. (code, people)) area (cut segment1.now).lines state m.entries) (cut geo.now).lines) }
 {
-    match read_texts(alloc, area, geo, segment1, state) {
+    let mut geo_lines = Lines::new(geo);
+    let mut segment1_lines = Lines::new(segment1);
+    let mut notes = CensusNotes::new(alloc);
+    match read_lines(
+        alloc,
+        area,
+        &mut geo_lines,
+        &mut (),
+        &mut segment1_lines,
+        &mut (),
+        state,
+        &mut notes,
+    ) {
         Ok(found) => Ok(found),
         Err(fault) => Err(fault),
     }

@@ -113,7 +113,7 @@ unfolding IsStrictlySortedBy
 no_links = record { ascending = tt; each = λ a b. (λ c. absurd (contains_nil (a, b) c), λ h. absurd (cc h.1)) }
 
 abbrev twentieth : Tolerance
-twentieth = record { part = 1; whole = 20 }
+twentieth = record { numerator = 1; denominator = 20 }
 
 -- the one county with the two seats of a chamber
 abbrev one_problem : ProblemValue

@@ -1,4 +1,5 @@
--- Runs over files, whether a file store tells them or not, are runs over any files by which their loads and readers answered.
+-- Runs over files, whether a file store tells them or not, are runs over any files by which their loads and readers
+-- answered.
 use Rattle.std.proofs.Common.{◌≡◌, ◌⊎◌, ℕ, length, List, [], ◌∷◌, ◌++◌, Contains, Option, Some, None, inl, inr, sym, ap, subst, ◌∙◌, append_assoc}
 use Rattle.std.specs.Borrow.{Bor}
 use Rattle.std.specs.Prelude.{Ok, Err, true, is_some}

@@ -9,8 +9,8 @@ use Rattle.run_laws.specs.Steps.{Steps}
 use Rattle.run_laws.specs.Storing.{HasStored, IsAnsweredBy, store_steps}
 use Rattle.run_laws.proofs.Texts.{file_store_status}
 
--- Steps come to what is to be stored, and its files are then stored. What is said is said by the answer to the file that
--- was refused, if one was.
+-- Steps come to what is to be stored, and its files are then stored. What is said is said by the answer to the file
+-- that was refused, if one was.
 abbrev pub StoresAndSays : {S : Type 0} → Steps S → (S → List NamedFile) → (S → Option Answered → Answered) → History → History → List NamedFile → Answered → Type 0
 StoresAndSays {S} steps files_of say before after stored a =
     (steps before after (Err a) × (stored ≡ []))

@@ -104,8 +104,8 @@ pub record TellsNone (files : Files) (words : ProblemWords) (a : Answered) : Typ
   pub none : IsImpossible (problem_of v)
   pub answer : a ≡ record { text = outcome_text v outcome.Impossible; status = 1 }
 
--- What is known of a grouping that `solve` found before its steps ran out: it is lawful, and a part that is given is one
--- of the proof that it is best. None was found only if no step was allowed.
+-- What is known of a grouping that `solve` found before its steps ran out: it is lawful, and a part that is given is
+-- one of the proof that it is best. None was found only if no step was allowed.
 abbrev pub IsFound : ProblemValue → ℕ → Option held.Grouping → Option PartialTree → Type 0
 IsFound v steps None part = steps ≡ 0
 IsFound v steps (Some g) part =

@@ -1,4 +1,5 @@
--- Bound leaves of empty lines, and such that end with one more line: they fall short of the target, or its counts are closed.
+-- Bound leaves of empty lines, and such that end with one more line: they fall short of the target, or its counts are
+-- closed.
 use Rattle.std.proofs.Common.{◌≡◌, ℕ, ◌+◌, ◌≤◌, ◌<◌, true, List, [], ◌∷◌, ◌++◌, length, sym, ◌∙◌, subst, arith, Some, ◌⊎◌, inl, inr}
 use Rattle.std.proofs.lemmas.Bool.{false≢true}
 use Rattle.grouping_laws.specs.Problem.{Problem}

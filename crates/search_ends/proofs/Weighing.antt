@@ -67,7 +67,8 @@ less_shared a b c n k e l = least (ap (λ z. z / n) e)
     least f = omega (arith, f, l)
 
 module _ (C : Type 0) (test : C → ℕ → Bool) (p : Problem) (law : IsProblem p) (order : List ℕ) (whole : IsOrder p order) where
-  -- a line of the table's weights, with a quota that no group weighs less than, where the open places share them between fewer than `k` groups
+  -- a line of the table's weights, with a quota that no group weighs less than, where the open places share them
+  -- between fewer than `k` groups
   pub weighed_fewer : (round : Round) (held : StateHeld C) → IsPlaced (length order) test held → (i k quota : ℕ) (table : List ℕ) (ws : List WeightHeld) (sets : List C) (region : ℕ → Bool) → order ≡ round.order → length table ≡ length order → AreTableWeights order p.counties table ws
       → IsKnown p round (state_at order test held) i (codes_of_sets order test sets) → All (λ g. quota ≤ sum_by (λ x. get_or table x 0) (places_of (length table) (test g))) sets → 1 ≤ quota → quota ≤ 256000000
       → ((x : ℕ) → region x ≡ open_to (state_of test held) i x) → sum_by (λ x. get_or table x 0) (places_of (length table) region) / quota < k → AllowsFewer round.format p (state_at order test held) i k (Weigh quota ws)

@@ -6,12 +6,12 @@
 //! when the list is tested. `specs/KnownGroups` has the definitions.
 //!
 //! If no group is left, it lists the groups of the next size. They are those that fit the connected parts of the rest,
-//! each part by itself. That is why lists of parts are kept for all states. `specs/PartGroups` and `specs/PartLists` have
-//! the definitions.
+//! each part by itself. That is why lists of parts are kept for all states. `specs/PartGroups` and `specs/PartLists`
+//! have the definitions.
 //!
-//! A `Position` is a state with what is known there (`specs/Positions`). `moves` gives the position at a state, and those
-//! where a group is closed or a county is raised, and `groups_ahead` the groups of one county more. The solver goes from position to
-//! position, and so does the checker of certificates.
+//! A `Position` is a state with what is known there (`specs/Positions`). `moves` gives the position at a state, and
+//! those where a group is closed or a county is raised, and `groups_ahead` the groups of one county more. The solver
+//! goes from position to position, and so does the checker of certificates.
 //!
 //! `weights` and `choice` are heuristics. The one gives weights of the counties of some groups, which show that few of
 //! the groups are disjoint. The other gives the county to branch at. If each group weighs a quota or more, no more

@@ -50,8 +50,8 @@ fn part_refusal<C>(stop: PartStop) -> Reply<C>
 }
 
 impl<C: CountySet> Board<C> {
-    /// Gives the part `tree` to the piece at the place `at`, which waits. The pieces of its open leaves stand behind all
-    /// others, at these `states`.
+    /// Gives the part `tree` to the piece at the place `at`, which waits. The pieces of its open leaves stand behind
+    /// all others, at these `states`.
     fn put_part(
         &mut self,
         alloc: Global,
@@ -204,8 +204,8 @@ impl<C: CountySet> Board<C> {
         }
     }
 
-    /// Returns the states at the open leaves of the part `tree` of the piece at the place `at`, or the reply that says why
-    /// the part isn't taken.
+    /// Returns the states at the open leaves of the part `tree` of the piece at the place `at`, or the reply that says
+    /// why the part isn't taken.
     fn states_of(
         &self,
         alloc: Global,

@@ -1,5 +1,6 @@
--- Which places a connected set reaches by a number of moves through free places. A connected set that has all of it, and at most as many free places
--- more, has no other free place: while it has a place farther off, each move meets one of its places more.
+-- Which places a connected set reaches by a number of moves through free places. A connected set that has all of it,
+-- and at most as many free places more, has no other free place: while it has a place farther off, each move meets one
+-- of its places more.
 use Rattle.std.proofs.Common.{◌≡◌, ℕ, ◌+◌, ◌≤◌, ◌==◌, ◌<◌, Bool, true, false, ◌||◌, List, [], ◌∷◌, length, refl, sym, ap, ◌∙◌, subst, arith, inl, inr}
 use Rattle.std.specs.Prelude.{◌⊎◌, Option, Some, None, not}
 use Rattle.std.specs.Option.{is_some}
@@ -81,7 +82,8 @@ passing_more t more g h c m off on =
     let rest = total_le (λ x. indicator (t x)) (λ x. indicator (more x)) (take_out c g) (λ x. digit_le (t x) (more x) (h x)) in
     omega (arith, sum_by-take_out (λ x. indicator (t x)) c g m, sum_by-take_out (λ x. indicator (more x)) c g m, ap indicator off, ap indicator on, rest)
 
--- where a place that passes is adjacent to one that does not, the further test passes it: then all pass, or one more passes the further test
+-- where a place that passes is adjacent to one that does not, the further test passes it: then all pass, or one more
+-- passes the further test
 further : (p : Problem) (g : List ℕ) → Connected p g → (t more : ℕ → Bool) → ((c : ℕ) → t c ≡ true → more c ≡ true) → (a : ℕ) → contains g a ≡ true → t a ≡ true
     → ((x y : ℕ) → t x ≡ true → contains g y ≡ true → t y ≡ false → p.adjacent x y ≡ true → more y ≡ true) → AllPass t g ⊎ (passing t g + 1 ≤ passing more g)
 further p g connected t more wider a there in_t move = go (all_or_one t g)
@@ -92,8 +94,9 @@ further p g connected t more wider a there in_t move = go (all_or_one t g)
         let b = connected.joined t (a, r.0, there, r.1, in_t, r.2) in
         inr (passing_more t more g wider b.1 b.3 b.5 (move b.0 b.1 b.4 b.3 b.5 b.6))
 
--- so far it has come: the places that are reached are free, and each free place is reached that is adjacent to the set or to a place that is
--- reached and off the edge; a set that grows has no other place, or `moves` places more than the set among those that are reached
+-- so far it has come: the places that are reached are free, and each free place is reached that is adjacent to the set
+-- or to a place that is reached and off the edge; a set that grows has no other place, or `moves` places more than the
+-- set among those that are reached
 pub record IsReached (p : Problem) (n limit : ℕ) (set free reach edge : ℕ → Bool) (moves : ℕ) : Type 0 where
   pub reach_free : (x : ℕ) → reach x ≡ true → free x ≡ true
   pub edge_free : (x : ℕ) → edge x ≡ true → free x ≡ true

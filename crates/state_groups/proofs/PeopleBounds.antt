@@ -1,5 +1,6 @@
--- A group that grows from a set has further places, all in reach. Their people are at least those of as many places in reach with the fewest
--- people. They are at most the people in reach but those of the other places, which are as many with the fewest people.
+-- A group that grows from a set has further places, all in reach. Their people are at least those of as many places in
+-- reach with the fewest people. They are at most the people in reach but those of the other places, which are as many
+-- with the fewest people.
 use Rattle.std.proofs.Common.{◌≡◌, ℕ, zero, suc, ◌+◌, ◌-◌, ◌≤◌, ◌<◌, ◌==◌, Bool, true, false, cond, ◌&&◌, ◌||◌, not, List, [], ◌∷◌, filter, take, drop, map, length, get_or, zero-add, add-one, refl, sym, ap, ◌∙◌, subst, arith, inl, inr}
 use Rattle.std.specs.Bool.{⊤}
 use Rattle.std.specs.List.Sorted.{IsNonDecreasingBy}

@@ -1,5 +1,5 @@
--- A live group leaves connected parts of the rest, and the people of each suit some number of seats. The windows of sets apart add up. So all
--- people that the group leaves suit some number of seats, if any place is left.
+-- A live group leaves connected parts of the rest, and the people of each suit some number of seats. The windows of
+-- sets apart add up. So all people that the group leaves suit some number of seats, if any place is left.
 use Rattle.std.proofs.Common.{◌≡◌, ℕ, ◌+◌, ◌-◌, ◌≤◌, ◌<◌, ◌==◌, Bool, true, false, ◌||◌, ◌&&◌, not, nat_le, List, [], ◌∷◌, filter, length, refl, sym, ap, ◌∙◌, subst, arith, inl, ⊎_elim, Some}
 use Rattle.std.proofs.lemmas.Bool.{and_parts}
 use Rattle.place_sets.specs.PlaceSets.{places_of}

@@ -1,4 +1,5 @@
--- The sets of one size, found from one place of a region after another. Behind each place, the sets that have a place off the rest of the region were found.
+-- The sets of one size, found from one place of a region after another. Behind each place, the sets that have a place
+-- off the rest of the region were found.
 use Rattle.std.proofs.Common.{◌≡◌, ℕ, ◌<◌, Bool, true, false, ◌||◌, ◌&&◌, not, ◌==◌, List, [], ◌∷◌, ◌++◌, refl, sym, ap, ◌∙◌, subst, arith, inl, inr, ⊎_elim, AllPairs, Contains}
 use Rattle.std.specs.Prelude.{◌⊎◌}
 use Rattle.std.specs.Cmp.Lexicographic.{slice_cmp}
@@ -59,7 +60,8 @@ module _ (region : ℕ → Bool) (at : ℕ) (less : ℕ → Bool) (w : (x : ℕ)
       go true q = eqb-true x at q
       go false q = absurd (false≢true (sym k ∙ (w x ∙ and_from (region x) (not (x == at)) e (ap not q))))
 
--- the sets that grow from the place inside the region are those that are looked through, have the place and lie in the region
+-- the sets that grow from the place inside the region are those that are looked through, have the place and lie in the
+-- region
 module _ (p : Problem) (n : ℕ) (s : State) (i at : ℕ) (region free : ℕ → Bool) (opened : IsOpen s i region) (there : region at ≡ true) (f : (x : ℕ) → free x ≡ (region x && not (x == at))) where
   looked : (g : List ℕ) → IsExtension p n i (only at) free g → IsSetWithin p (places_below n) s i g × (contains g at ≡ true) × ((c : ℕ) → contains g c ≡ true → region c ≡ true)
   looked g x = (record { connected = x.connected; in_order = x.in_order; small = x.small; inside = λ c m. opened c (inside c m) }, x.has at (eq-eqb at at refl), inside)

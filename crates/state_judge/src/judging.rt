@@ -69,9 +69,9 @@ fn is_kept<C: CountySet>(
     }
 }
 
-/// Returns whether one of the `groups` weighs less than the `quota` and is kept at the `state` in this `format`. A group
-/// weighs the sum of its counties' weights in the `table`. Only groups that weigh less are tested for being kept. Returns
-/// an error if memory was refused.
+/// Returns whether one of the `groups` weighs less than the `quota` and is kept at the `state` in this `format`. A
+/// group weighs the sum of its counties' weights in the `table`. Only groups that weigh less are tested for being kept.
+/// Returns an error if memory was refused.
 fn has_light_group<C: CountySet>(
     graph: &CountyGraph<C>,
     format: Format,

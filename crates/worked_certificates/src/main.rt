@@ -1,14 +1,14 @@
 //! Worked trees and leaves, which no file of the command reaches. From a file of cases come trees, alone and in front
 //! of other text, and lines of words. Then come values without a spelling, and ten thousand trees that are made,
 //! written and read. The next lines tell which leaf is found at the state where nothing is closed, and the checker's
-//! verdict on it, and the verdict on parts at that state. The last lines are verdicts on texts that are pulled from a source a few bytes at a time, or whose
-//! source fails at one pull.
+//! verdict on it, and the verdict on parts at that state. The last lines are verdicts on texts that are pulled from a
+//! source a few bytes at a time, or whose source fails at one pull.
 //!
 //! A case begins with a line `== KIND: NAME`, and its bytes are the lines up to the next such line. In the files
 //! `problems` and `checks` a case of the kind `problem` tells the problem of the cases behind it. `leaf LIMIT` asks for
 //! the leaf that is found, with the grouping of the case as the target. `part BUDGET COUNTY LIMIT` asks for the verdict
-//! on a part of one branch, whose leaves are all open, with a take for each line of the case. `check` asks for the verdicts on the bytes of
-//! the case, and `cut` for those on the bytes without the last LF.
+//! on a part of one branch, whose leaves are all open, with a take for each line of the case. `check` asks for the
+//! verdicts on the bytes of the case, and `cut` for those on the bytes without the last LF.
 #![tactic(auto)]
 
 mod cases;

@@ -115,7 +115,10 @@ fn limited(alloc: Global, limit: u16) -> Result<String> {
 fn allowing(alloc: Global, tolerance: Tolerance) -> Result<String> {
     let mut certificate = read(alloc, TEXT)?;
     certificate.round.tolerance = Some(tolerance);
-    let name = format!(in alloc; "tolerance {}/{}", tolerance.numerator, tolerance.denominator)?;
+    let name = format!(in alloc;
+        "tolerance {}/{}",
+        tolerance.numerator, tolerance.denominator
+    )?;
     said(alloc, &name, write(alloc, &certificate))
 }
 
@@ -151,7 +154,13 @@ fn allowances(alloc: Global, lines: &mut Vec<String>) -> Result<()> {
         (1, 1_001),
         (501, 1_000),
     ] {
-        lines.push(allowing(alloc, Tolerance { numerator, denominator })?)?;
+        lines.push(allowing(
+            alloc,
+            Tolerance {
+                numerator,
+                denominator,
+            },
+        )?)?;
     }
     Ok(())
 }

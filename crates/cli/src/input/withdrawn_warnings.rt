@@ -20,7 +20,10 @@ fn people_among(counties: &[County], codes: &[CountyCode]) -> u64 {
 /// Returns the least and the greatest number of people that suit `seats`, where all counties have `total` people.
 /// Returns `None` if a number is out of range.
 fn suiting(seats: u16, total: u64, words: CommonWords<'_>) -> Option<(u64, u64)> {
-    let (numerator, denominator) = (u64::from(words.tolerance.numerator), u64::from(words.tolerance.denominator));
+    let (numerator, denominator) = (
+        u64::from(words.tolerance.numerator),
+        u64::from(words.tolerance.denominator),
+    );
     let ideal = u64::from(seats).checked_mul(total)?;
     let below = denominator.checked_sub(numerator)?.checked_mul(ideal)?;
     let above = denominator.checked_add(numerator)?.checked_mul(ideal)?;

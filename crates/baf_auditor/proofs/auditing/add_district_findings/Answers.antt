@@ -1,18 +1,15 @@
-use Rattle.std.proofs.Common.{◌≡◌, ◌++◌, ◌+◌, ◌<◌, ℕ, List, length, rules, sym, subst, refl, arith}
-use Rattle.std.specs.List.{All, filter_map}
+use Rattle.std.proofs.Common.{◌≡◌, ◌++◌, ◌+◌, ◌≤◌, length, rules, refl, arith}
+use Rattle.std.specs.List.{filter_map}
 use Rattle.std.specs.BTreeMap.{keys}
-use Rattle.std.proofs.lemmas.List.Elements.{All-weaker}
 use Rattle.baf_auditor.specs.Findings.{drawn_sets, groups_from, withdrawn_from}
 use Rattle.baf_auditor.specs.Districts.{size_finding, crossings, numbers_from}
-use Rattle.baf_auditor.proofs.AuditLemmas.{districts_added}
+use Rattle.baf_auditor.proofs.AuditLemmas.{places_below, districts_added}
 use Rattle.baf_auditor.proofs.auditing.add_district_findings.Goals as goal
 
 pub add_crossings-requires : goal.add_crossings-requires
 add_crossings-requires c =
-    let found = c.in_ok-found.found in
-    let same : c.deref.result.now ≡ keys found = search rules in
-    subst (λ (l : List (List ℕ × ℕ)). All (λ k. k.1 < 1000000) l) (sym same)
-    (All-weaker (λ (k : List ℕ × ℕ). k.1 < length c.args.grouping.now.groups.items + 1000) (λ k. k.1 < 1000000) (λ k below. omega (arith, below, c.requires.few_groups)) (keys found) c.in_ok-found.ensures.within)
+    let bound : length c.args.grouping.now.groups.items + 1000 ≤ 1000000 = omega (arith, c.requires.few_groups) in
+    places_below (length c.args.grouping.now.groups.items) 1000000 (keys c.in_ok-found.found) c.deref.result.now (search rules) bound c.in_ok-found.ensures.within
 
 pub returns : goal.returns
 returns c =

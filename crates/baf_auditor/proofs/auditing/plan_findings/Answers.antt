@@ -1,26 +1,20 @@
 use Rattle.std.proofs.Common.{◌≡◌, ◌++◌, ℕ, List, [], map, rules, sym, subst}
 use Rattle.std.specs.Ordering.{nat_cmp}
 use Rattle.std.specs.BTreeMap.{get}
-use Rattle.std.proofs.lemmas.Map.Keys.{sorted_from_strictly_increasing}
 use Rattle.baf_auditor.specs.Findings.{plan_of, IsFinding, AreAll}
 use Rattle.baf_auditor.specs.Kinds.{code_finding}
 use Rattle.baf_auditor.specs.declared.block_findings.CodeKind.TheVariants as kinds
 use Rattle.baf_auditor.specs.declared.finding.Finding.{Finding}
-use Rattle.baf_auditor.proofs.AuditLemmas.{kinds_added, given_fit, are_all}
+use Rattle.baf_auditor.proofs.AuditLemmas.{kinds_added, given_by, given_fit, are_all}
 use Rattle.baf_auditor.proofs.auditing.plan_findings.Goals as goal
 
 pub add_district_findings-requires-clause-fits : goal.add_district_findings-requires-clause-fits
 add_district_findings-requires-clause-fits c =
-    let given = c.in_ok-given.given in
-    let sorted = sorted_from_strictly_increasing (map (λ b. b.code) c.args.blocks.now) c.requires.ascending in
-    given_fit c.args.problem.now c.args.grouping.now.groups.items c.args.blocks.now c.args.lines.now sorted (λ (code : ℕ). get nat_cmp c.in_ok-kinds.kinds.listed code) c.in_ok-kinds.ensures.listed
-    given.entries c.in_ok-given.ensures.ordered c.in_ok-given.ensures.entries c.requires.fits
+    given_fit _ _ _ _ _ _ (given_by c.args.problem.now c.args.grouping.now.groups.items c.args.blocks.now c.args.lines.now (λ (code : ℕ). get nat_cmp c.in_ok-kinds.kinds.listed code) c.in_ok-given.given.entries c.requires.ascending c.in_ok-kinds.ensures.listed c.in_ok-given.ensures.ordered c.in_ok-given.ensures.entries) c.requires.fits
 
 pub returns : goal.returns
 returns c =
-    let given = c.in_ok-given.given in
     let found = c.in_ok-kinds.kinds in
-    let sorted = sorted_from_strictly_increasing (map (λ b. b.code) c.args.blocks.now) c.requires.ascending in
     let us = map (code_finding kinds.Unknown) found.unknown.items in
     let ts = map (code_finding kinds.Twice) found.twice.items in
     let ns = map (code_finding kinds.Unassigned) found.unassigned.items in
@@ -30,6 +24,5 @@ returns c =
     let three : c.add_codes-3.new.findings.items ≡ c.add_codes-2.new.findings.items ++ ns = search rules in
     let list : c.add_district_findings.new.findings.items ≡ us ++ (ts ++ (ns ++ adds.0)) = kinds_added _ _ _ adds.0 _ us ts ns one two three adds.2 in
     subst (λ (l : List Finding). AreAll (IsFinding c.args.problem.now (plan_of c.args.problem.now c.args.grouping.now.groups.items c.args.blocks.now c.args.lines.now)) l) (sym list)
-    (are_all c.args.problem.now c.args.grouping.now.groups.items c.args.blocks.now c.args.lines.now sorted (λ (code : ℕ). get nat_cmp found.listed code) c.in_ok-kinds.ensures.listed
-    given.entries c.in_ok-given.ensures.ordered c.in_ok-given.ensures.entries adds.0 adds.1
-    found.unknown.items found.twice.items found.unassigned.items c.in_ok-kinds.ensures.unknown c.in_ok-kinds.ensures.twice c.in_ok-kinds.ensures.unassigned)
+    (are_all _ _ _ _ _ _ (given_by c.args.problem.now c.args.grouping.now.groups.items c.args.blocks.now c.args.lines.now (λ (code : ℕ). get nat_cmp c.in_ok-kinds.kinds.listed code) c.in_ok-given.given.entries c.requires.ascending c.in_ok-kinds.ensures.listed c.in_ok-given.ensures.ordered c.in_ok-given.ensures.entries) adds.0 adds.1
+    found.unknown.items found.twice.items found.unassigned.items c.in_ok-kinds.ensures.kinds.unknown_are c.in_ok-kinds.ensures.kinds.twice_are c.in_ok-kinds.ensures.kinds.unassigned_are)

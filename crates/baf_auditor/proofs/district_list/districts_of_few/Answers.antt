@@ -1,48 +1,35 @@
-use Rattle.std.proofs.Common.{◌≡◌, ◌+◌, ◌<◌, ℕ, List, length, map, rules, sym, subst, arith}
-use Rattle.std.specs.List.{All}
+use Rattle.std.proofs.Common.{◌≡◌, ℕ, List, length, rules, subst, arith}
 use Rattle.std.specs.Ordering.{nat_cmp}
 use Rattle.std.specs.BTreeMap.{get, keys}
-use Rattle.std.proofs.lemmas.List.Elements.{All-weaker}
 use Rattle.std.proofs.lemmas.Result.{IfOk-weaker}
-use Rattle.std.proofs.lemmas.Map.Keys.{sorted_from_strictly_increasing}
 use Rattle.baf_auditor.specs.Districts.{AreListedBy}
-use Rattle.baf_auditor.proofs.AuditLemmas.{given_fit}
+use Rattle.baf_auditor.proofs.AuditLemmas.{places_below, given_by, given_fit}
 use Rattle.baf_auditor.proofs.DistrictListLemmas.{are_districts}
 use Rattle.baf_auditor.proofs.district_list.districts_of_few.Goals as goal
 
 pub standing_places-requires : goal.standing_places-requires
 standing_places-requires c =
-    let sorted = sorted_from_strictly_increasing (map (λ b. b.code) c.args.blocks.now) c.requires.ascending in
-    given_fit c.args.problem.now c.args.grouping.now.groups.items c.args.blocks.now c.args.lines.now sorted (λ (code : ℕ). get nat_cmp c.in_ok-listed.listed code) c.in_ok-listed.ensures
-    c.in_ok-given.given.entries c.in_ok-given.ensures.ordered c.in_ok-given.ensures.entries c.requires.fits
+    given_fit _ _ _ _ _ _ (given_by c.args.problem.now c.args.grouping.now.groups.items c.args.blocks.now c.args.lines.now (λ (code : ℕ). get nat_cmp c.in_ok-listed.listed code) c.in_ok-given.given.entries c.requires.ascending c.in_ok-listed.ensures c.in_ok-given.ensures.ordered c.in_ok-given.ensures.entries) c.requires.fits
 
 pub given_counties-requires : goal.given_counties-requires
 given_counties-requires c =
-    let sorted = sorted_from_strictly_increasing (map (λ b. b.code) c.args.blocks.now) c.requires.ascending in
-    given_fit c.args.problem.now c.args.grouping.now.groups.items c.args.blocks.now c.args.lines.now sorted (λ (code : ℕ). get nat_cmp c.in_ok-listed.listed code) c.in_ok-listed.ensures
-    c.in_ok-given.given.entries c.in_ok-given.ensures.ordered c.in_ok-given.ensures.entries c.requires.fits
+    given_fit _ _ _ _ _ _ (given_by c.args.problem.now c.args.grouping.now.groups.items c.args.blocks.now c.args.lines.now (λ (code : ℕ). get nat_cmp c.in_ok-listed.listed code) c.in_ok-given.given.entries c.requires.ascending c.in_ok-listed.ensures c.in_ok-given.ensures.ordered c.in_ok-given.ensures.entries) c.requires.fits
 
 pub list_districts-requires : goal.list_districts-requires
 list_districts-requires c =
-    let found = c.in_ok-found.found in
-    let same : c.deref.result.now ≡ keys found = search rules in
-    subst (λ (l : List (List ℕ × ℕ)). All (λ k. k.1 < 4294967295) l) (sym same)
-    (All-weaker (λ (k : List ℕ × ℕ). k.1 < length c.args.grouping.now.groups.items + 1000) (λ k. k.1 < 4294967295) (λ k below. omega (arith, below, c.requires.few_groups)) (keys found) c.in_ok-found.ensures.within)
+    places_below (length c.args.grouping.now.groups.items) 4294967295 (keys c.in_ok-found.found) c.deref.result.now (search rules) (omega (arith, c.requires.few_groups)) c.in_ok-found.ensures.within
 
 pub returns : goal.returns
 returns c =
-    let gs = c.args.grouping.now.groups.items in
     let found = c.in_ok-found.found in
+    let gs = c.args.grouping.now.groups.items in
     let pairs = c.in_ok-pairs.pairs in
-    let given = c.in_ok-given.given in
     let sums = c.in_ok-sums.sums in
-    let sorted = sorted_from_strictly_increasing (map (λ b. b.code) c.args.blocks.now) c.requires.ascending in
     let places : c.deref.result.now ≡ keys found = search rules in
     let counties : c.deref-2.result.now ≡ pairs.keys = search rules in
     let groups : c.len.result ≡ length gs = search rules in
     IfOk-weaker c.list_districts.result _ _
-    (λ v is. are_districts c.args.problem.now gs c.args.blocks.now c.args.lines.now sorted (λ (code : ℕ). get nat_cmp c.in_ok-listed.listed code) c.in_ok-listed.ensures
-    given.entries c.in_ok-given.ensures.ordered c.in_ok-given.ensures.entries
+    (λ v is. are_districts _ _ _ _ _ _ (given_by c.args.problem.now c.args.grouping.now.groups.items c.args.blocks.now c.args.lines.now (λ (code : ℕ). get nat_cmp c.in_ok-listed.listed code) c.in_ok-given.given.entries c.requires.ascending c.in_ok-listed.ensures c.in_ok-given.ensures.ordered c.in_ok-given.ensures.entries)
     found.entries c.listed_places.ensures.ordered c.in_ok-found.ensures.entries
     pairs c.listed_counties.ensures.ordered c.in_ok-pairs.ensures
     sums.entries c.list_districts.ensures.ordered c.in_ok-sums.ensures

@@ -11,11 +11,10 @@ pub loop-i-preserved : goal.loop-i-preserved
 loop-i-preserved c =
     let now = c.loop-i.findings.items in
     let i = c.loop-i.i in
-    let gs = c.args.groups.now in
     let group = c.index-groups-i.result in
     step_more now _ _
     (c.in_ok-add_number.ensures ∙ ap (λ (n : ℕ). now ++ number_finding (sets.Group (i + 1)) group.seats n) c.districts_at-districts.ensures)
-    (from_read (λ (l : List Group). numbers_from c.args.standing.now i (groups_from (i + 1) l)) gs i group c.loop-i-test.true c.index-groups-i.is)
+    (from_read (λ (l : List Group). numbers_from c.args.standing.now i (groups_from (i + 1) l)) c.args.groups.now i group c.loop-i-test.true c.index-groups-i.is)
     c.loop-i.invariant
 
 pub returns : goal.returns

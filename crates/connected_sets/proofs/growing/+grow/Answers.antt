@@ -1,6 +1,5 @@
-use Rattle.std.proofs.Common.{◌≡◌, ℕ, true, not, ◌==◌, refl, sym, ap, ◌∙◌, subst, length, Bool, Err, arith, rules}
+use Rattle.std.proofs.Common.{◌≡◌, ℕ, true, not, ◌==◌, refl, sym, ap, ◌∙◌, subst, length, Bool, arith, rules}
 use Rattle.std.proofs.lemmas.Bool.{and_parts}
-use Rattle.std.proofs.lemmas.Result.{IfOk-from_err}
 use mathlib.Core.Path.{fun_ext}
 use Rattle.connected_laws.specs.Growing.{IsGrowth, IsMove, IsFront}
 use Rattle.connected_laws.specs.Listing.{IsListed, HasStepped}
@@ -11,8 +10,6 @@ use Rattle.grouping_laws.specs.Problem.{people_of}
 use Rattle.place_sets.specs.PlaceSets.{places_of}
 use Rattle.county_problem.specs.OrderedValue.{problem_at}
 use Rattle.connected_sets.specs.Growths.{IsSoundGrowth}
-use Rattle.connected_sets.specs.declared.stop.Stop.TheVariants.{StepLimit}
-use Rattle.connected_sets.proofs.Failing.{refused_not_stopped, handed_on}
 use Rattle.connected_sets.proofs.growing.+grow.Goals as goal
 
 pub returns-in_err-is_passed_over-clause-steps : goal.returns-in_err-is_passed_over-clause-steps
@@ -135,42 +132,6 @@ returns-in_ok-grow-in-Some-clause-listed g t c =
     listed_fork g.row.C.Denot test p n limit keep (test growth.set) (test growth.free) more rest place old mid new c.requires.growth.growth free n2
     (subst (λ (z : ℕ → Bool). IsListed g.row.C.Denot test p n limit keep more z old mid) same (c.in_ok-grow-in-Some.ensures.listed keep d))
     (subst (λ (z : g.row.C.Denot). IsListed g.row.C.Denot test p n limit keep (test z) rest mid new) c.without_place-others.ensures.set (second keep d)))
-
-pub returns-in_err-is_passed_over-clause-listed : goal.returns-in_err-is_passed_over-clause-listed
-returns-in_err-is_passed_over-clause-listed g t c = IfOk-from_err c.from_residual.result _ c.from_residual.ensures.0
-
-pub returns-in_err-is_passed_over-clause-counted : goal.returns-in_err-is_passed_over-clause-counted
-returns-in_err-is_passed_over-clause-counted g t c = IfOk-from_err c.from_residual.result _ c.from_residual.ensures.0
-
-pub returns-in_err-is_passed_over-clause-limit : goal.returns-in_err-is_passed_over-clause-limit
-returns-in_err-is_passed_over-clause-limit g t c = refl
-
-pub returns-in_err-is_passed_over-clause-stopped : goal.returns-in_err-is_passed_over-clause-stopped
-returns-in_err-is_passed_over-clause-stopped g t c = refused_not_stopped c.from_residual.result c.from_residual.ensures.1
-
-pub returns-in_err-joined-in-Some-clause-listed : goal.returns-in_err-joined-in-Some-clause-listed
-returns-in_err-joined-in-Some-clause-listed g t c = IfOk-from_err c.from_residual-in_err-joined-in-Some.result _ c.from_residual-in_err-joined-in-Some.ensures.0
-
-pub returns-in_err-joined-in-Some-clause-counted : goal.returns-in_err-joined-in-Some-clause-counted
-returns-in_err-joined-in-Some-clause-counted g t c = IfOk-from_err c.from_residual-in_err-joined-in-Some.result _ c.from_residual-in_err-joined-in-Some.ensures.0
-
-pub returns-in_err-joined-in-Some-clause-limit : goal.returns-in_err-joined-in-Some-clause-limit
-returns-in_err-joined-in-Some-clause-limit g t c = refl
-
-pub returns-in_err-joined-in-Some-clause-stopped : goal.returns-in_err-joined-in-Some-clause-stopped
-returns-in_err-joined-in-Some-clause-stopped g t c = refused_not_stopped c.from_residual-in_err-joined-in-Some.result c.from_residual-in_err-joined-in-Some.ensures.1
-
-pub returns-in_err-grow-in-Some-clause-listed : goal.returns-in_err-grow-in-Some-clause-listed
-returns-in_err-grow-in-Some-clause-listed g t c = IfOk-from_err c.from_residual-in_err-grow-in-Some.result _ c.from_residual-in_err-grow-in-Some.ensures.0
-
-pub returns-in_err-grow-in-Some-clause-counted : goal.returns-in_err-grow-in-Some-clause-counted
-returns-in_err-grow-in-Some-clause-counted g t c = IfOk-from_err c.from_residual-in_err-grow-in-Some.result _ c.from_residual-in_err-grow-in-Some.ensures.0
-
-pub returns-in_err-grow-in-Some-clause-limit : goal.returns-in_err-grow-in-Some-clause-limit
-returns-in_err-grow-in-Some-clause-limit g t c = c.grow.ensures.limit
-
-pub returns-in_err-grow-in-Some-clause-stopped : goal.returns-in_err-grow-in-Some-clause-stopped
-returns-in_err-grow-in-Some-clause-stopped g t c = λ h. c.grow.ensures.stopped (c.in_err-grow-in-Some.was ∙ ap Err (handed_on c.from_residual-in_err-grow-in-Some.result c.in_err-grow-in-Some.field-0.0 StepLimit c.from_residual-in_err-grow-in-Some.ensures.1 h))
 
 pub returns-then-branch-clause-counted : goal.returns-then-branch-clause-counted
 returns-then-branch-clause-counted g t c = on_ok c.pass_over.result c.pass_over.ensures.counted (λ one. omega (arith, one))

@@ -11,13 +11,6 @@ returns-in_ok-take_step-clause-steps g c =
     let n = length c.args.input.now.graph.now.ordered.now.order in
     stepped_passed p n c.args.input.now.limit (test c.args.growth.now.set) (test c.args.growth.now.free) c.args.steps.now.used c.take_step.new.steps.used c.requires.growth c.in_ok-take_step.ensures.used
 
-pub returns-in_err-take_step-clause-steps : goal.returns-in_err-take_step-clause-steps
-returns-in_err-take_step-clause-steps g c =
-    let test = g.C.CountySet.test in
-    let p = problem_at c.args.input.now.graph.now.ordered.now in
-    let n = length c.args.input.now.graph.now.ordered.now.order in
-    stepped_none p n c.args.input.now.limit (test c.args.growth.now.set) (test c.args.growth.now.free) c.args.steps.now.used c.take_step.new.steps.used c.in_err-take_step.ensures.used.1
-
 pub returns-else-COUNTS_PASSED-clause-steps : goal.returns-else-COUNTS_PASSED-clause-steps
 returns-else-COUNTS_PASSED-clause-steps g c =
     let test = g.C.CountySet.test in

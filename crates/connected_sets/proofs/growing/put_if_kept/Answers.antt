@@ -1,5 +1,4 @@
 use Rattle.std.proofs.Common.{length, refl, ◌∙◌}
-use Rattle.std.proofs.lemmas.Result.{IfOk-from_err}
 use Rattle.county_problem.specs.OrderedValue.{problem_at}
 use Rattle.connected_laws.proofs.Growing.{leaf_left}
 use Rattle.connected_laws.proofs.Listing.{listed_kept, listed_none}
@@ -23,6 +22,3 @@ returns-else-branch-clause-listed g c =
     λ keep d.
     listed_none g.row.C.Denot test p n c.args.input.now.limit keep (test growth.set) (test growth.free) c.args.groups.now.items c.args.groups.now.items
     (leaf_left p n c.args.input.now.limit keep (test growth.set) (test growth.free) c.requires.growth.growth c.requires.whole (c.in_ok-is_kept.ensures.kept keep d ∙ c.if-branch.false)) refl
-
-pub returns-in_err-is_kept-clause-listed : goal.returns-in_err-is_kept-clause-listed
-returns-in_err-is_kept-clause-listed g c = IfOk-from_err c.from_residual.result _ c.from_residual.ensures.0

@@ -1,5 +1,4 @@
 use Rattle.std.proofs.Common.{◌≡◌, ℕ, ◌<◌, ◌&&◌, not, ◌==◌, length, arith, ap, ◌∙◌}
-use Rattle.std.proofs.lemmas.Result.{IfOk-from_err}
 use Rattle.place_sets.proofs.PlaceSums.{total_all}
 use Rattle.county_problem.specs.OrderedValue.{problem_at}
 use Rattle.connected_laws.specs.Growing.{IsMove}
@@ -41,21 +40,3 @@ returns-clause-growth g c =
           near (λ x. c.intersection-front.ensures.places x ∙ ap (λ z. z && free x) (c.in_ok-both.ensures.places x));
       people = omega (arith, sum, c.requires.growth.people, c.people.ensures, c.from.ensures);
     }
-
-pub returns-in_err-set-clause-moved : goal.returns-in_err-set-clause-moved
-returns-in_err-set-clause-moved g c = IfOk-from_err c.from_residual.result _ c.from_residual.ensures.0
-
-pub returns-in_err-set-clause-growth : goal.returns-in_err-set-clause-growth
-returns-in_err-set-clause-growth g c = IfOk-from_err c.from_residual.result _ c.from_residual.ensures.0
-
-pub returns-in_err-copy-clause-moved : goal.returns-in_err-copy-clause-moved
-returns-in_err-copy-clause-moved g c = IfOk-from_err c.from_residual-in_err-copy.result _ c.from_residual-in_err-copy.ensures.0
-
-pub returns-in_err-copy-clause-growth : goal.returns-in_err-copy-clause-growth
-returns-in_err-copy-clause-growth g c = IfOk-from_err c.from_residual-in_err-copy.result _ c.from_residual-in_err-copy.ensures.0
-
-pub returns-in_err-both-clause-moved : goal.returns-in_err-both-clause-moved
-returns-in_err-both-clause-moved g c = IfOk-from_err c.from_residual-in_err-both.result _ c.from_residual-in_err-both.ensures.0
-
-pub returns-in_err-both-clause-growth : goal.returns-in_err-both-clause-growth
-returns-in_err-both-clause-growth g c = IfOk-from_err c.from_residual-in_err-both.result _ c.from_residual-in_err-both.ensures.0

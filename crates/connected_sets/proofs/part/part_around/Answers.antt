@@ -1,6 +1,5 @@
 use Rattle.std.proofs.Common.{Bool, true, false, refl, ◌≡◌, ◌∙◌, ◌<◌, ◌+◌, ◌||◌, ◌&&◌, not, ◌==◌, ℕ, ap, length, arith}
 use Rattle.std.proofs.lemmas.Bool.{false≢true, eq-eqb}
-use Rattle.std.proofs.lemmas.Result.{IfOk-from_err}
 use Rattle.connected_laws.specs.Growing.{IsMove}
 use Rattle.connected_laws.proofs.Growing.{fewer_free}
 use Rattle.connected_sets.specs.Graphs.{problem_at}
@@ -62,78 +61,6 @@ returns-clause-part g c =
 
 pub returns-clause-inside : goal.returns-clause-inside
 returns-clause-inside g c = c.loop-next.invariant.filled.inside
-
-pub returns-in_err-empty-clause-part : goal.returns-in_err-empty-clause-part
-returns-in_err-empty-clause-part g c = IfOk-from_err c.from_residual.result _ c.from_residual.ensures.0
-
-pub returns-in_err-empty-clause-inside : goal.returns-in_err-empty-clause-inside
-returns-in_err-empty-clause-inside g c = IfOk-from_err c.from_residual.result _ c.from_residual.ensures.0
-
-pub returns-in_err-empty-clause-around : goal.returns-in_err-empty-clause-around
-returns-in_err-empty-clause-around g c = IfOk-from_err c.from_residual.result _ c.from_residual.ensures.0
-
-pub returns-in_err-empty-clause-rest : goal.returns-in_err-empty-clause-rest
-returns-in_err-empty-clause-rest g c = IfOk-from_err c.from_residual.result _ c.from_residual.ensures.0
-
-pub returns-in_err-part-clause-part : goal.returns-in_err-part-clause-part
-returns-in_err-part-clause-part g c = IfOk-from_err c.from_residual-in_err-part.result _ c.from_residual-in_err-part.ensures.0
-
-pub returns-in_err-part-clause-inside : goal.returns-in_err-part-clause-inside
-returns-in_err-part-clause-inside g c = IfOk-from_err c.from_residual-in_err-part.result _ c.from_residual-in_err-part.ensures.0
-
-pub returns-in_err-part-clause-around : goal.returns-in_err-part-clause-around
-returns-in_err-part-clause-around g c = IfOk-from_err c.from_residual-in_err-part.result _ c.from_residual-in_err-part.ensures.0
-
-pub returns-in_err-part-clause-rest : goal.returns-in_err-part-clause-rest
-returns-in_err-part-clause-rest g c = IfOk-from_err c.from_residual-in_err-part.result _ c.from_residual-in_err-part.ensures.0
-
-pub returns-in_err-copy-clause-part : goal.returns-in_err-copy-clause-part
-returns-in_err-copy-clause-part g c = IfOk-from_err c.from_residual-in_err-copy.result _ c.from_residual-in_err-copy.ensures.0
-
-pub returns-in_err-copy-clause-inside : goal.returns-in_err-copy-clause-inside
-returns-in_err-copy-clause-inside g c = IfOk-from_err c.from_residual-in_err-copy.result _ c.from_residual-in_err-copy.ensures.0
-
-pub returns-in_err-copy-clause-around : goal.returns-in_err-copy-clause-around
-returns-in_err-copy-clause-around g c = IfOk-from_err c.from_residual-in_err-copy.result _ c.from_residual-in_err-copy.ensures.0
-
-pub returns-in_err-copy-clause-rest : goal.returns-in_err-copy-clause-rest
-returns-in_err-copy-clause-rest g c = IfOk-from_err c.from_residual-in_err-copy.result _ c.from_residual-in_err-copy.ensures.0
-
-pub returns-in_err-copy-2-clause-part : goal.returns-in_err-copy-2-clause-part
-returns-in_err-copy-2-clause-part g c = IfOk-from_err c.from_residual-in_err-copy-2.result _ c.from_residual-in_err-copy-2.ensures.0
-
-pub returns-in_err-copy-2-clause-inside : goal.returns-in_err-copy-2-clause-inside
-returns-in_err-copy-2-clause-inside g c = IfOk-from_err c.from_residual-in_err-copy-2.result _ c.from_residual-in_err-copy-2.ensures.0
-
-pub returns-in_err-copy-2-clause-around : goal.returns-in_err-copy-2-clause-around
-returns-in_err-copy-2-clause-around g c = IfOk-from_err c.from_residual-in_err-copy-2.result _ c.from_residual-in_err-copy-2.ensures.0
-
-pub returns-in_err-copy-2-clause-rest : goal.returns-in_err-copy-2-clause-rest
-returns-in_err-copy-2-clause-rest g c = IfOk-from_err c.from_residual-in_err-copy-2.result _ c.from_residual-in_err-copy-2.ensures.0
-
-pub returns-in_err-part-2-clause-part : goal.returns-in_err-part-2-clause-part
-returns-in_err-part-2-clause-part g c = IfOk-from_err c.from_residual-in_err-part-2.result _ c.from_residual-in_err-part-2.ensures.0
-
-pub returns-in_err-part-2-clause-inside : goal.returns-in_err-part-2-clause-inside
-returns-in_err-part-2-clause-inside g c = IfOk-from_err c.from_residual-in_err-part-2.result _ c.from_residual-in_err-part-2.ensures.0
-
-pub returns-in_err-part-2-clause-around : goal.returns-in_err-part-2-clause-around
-returns-in_err-part-2-clause-around g c = IfOk-from_err c.from_residual-in_err-part-2.result _ c.from_residual-in_err-part-2.ensures.0
-
-pub returns-in_err-part-2-clause-rest : goal.returns-in_err-part-2-clause-rest
-returns-in_err-part-2-clause-rest g c = IfOk-from_err c.from_residual-in_err-part-2.result _ c.from_residual-in_err-part-2.ensures.0
-
-pub returns-in_err-union-clause-part : goal.returns-in_err-union-clause-part
-returns-in_err-union-clause-part g c = IfOk-from_err c.from_residual-in_err-union.result _ c.from_residual-in_err-union.ensures.0
-
-pub returns-in_err-union-clause-inside : goal.returns-in_err-union-clause-inside
-returns-in_err-union-clause-inside g c = IfOk-from_err c.from_residual-in_err-union.result _ c.from_residual-in_err-union.ensures.0
-
-pub returns-in_err-union-clause-around : goal.returns-in_err-union-clause-around
-returns-in_err-union-clause-around g c = IfOk-from_err c.from_residual-in_err-union.result _ c.from_residual-in_err-union.ensures.0
-
-pub returns-in_err-union-clause-rest : goal.returns-in_err-union-clause-rest
-returns-in_err-union-clause-rest g c = IfOk-from_err c.from_residual-in_err-union.result _ c.from_residual-in_err-union.ensures.0
 
 pub returns-clause-around : goal.returns-clause-around
 returns-clause-around g c = c.loop-next.invariant.around

@@ -2,7 +2,6 @@ use Rattle.std.proofs.Common.{◌≡◌, ℕ, true, [], ◌∷◌, map, length, 
 use Rattle.std.proofs.lemmas.List.Elements.{All-append}
 use Rattle.grouping_laws.proofs.Elements.{all_from_has}
 use Rattle.std.proofs.lemmas.List.{map-append, length-append}
-use Rattle.std.proofs.lemmas.Result.{IfOk-from_err}
 use Rattle.place_sets.specs.PlaceSets.{places_of}
 use Rattle.connected_sets.specs.Graphs.{problem_at}
 use Rattle.connected_sets.proofs.Filling.{few}
@@ -51,33 +50,6 @@ returns-clause-parts g c = parted_all (problem_at c.args.graph.now.ordered.now) 
 
 pub returns-clause-few : goal.returns-clause-few
 returns-clause-few g c = omega (arith, c.loop-place.invariant.few)
-
-pub returns-in_err-rest-clause-parts : goal.returns-in_err-rest-clause-parts
-returns-in_err-rest-clause-parts g c = IfOk-from_err c.from_residual.result _ c.from_residual.ensures.0
-
-pub returns-in_err-rest-clause-few : goal.returns-in_err-rest-clause-few
-returns-in_err-rest-clause-few g c = IfOk-from_err c.from_residual.result _ c.from_residual.ensures.0
-
-pub returns-in_err-rest-clause-inside : goal.returns-in_err-rest-clause-inside
-returns-in_err-rest-clause-inside g c = IfOk-from_err c.from_residual.result _ c.from_residual.ensures.0
-
-pub returns-in_err-part-clause-parts : goal.returns-in_err-part-clause-parts
-returns-in_err-part-clause-parts g c = IfOk-from_err c.from_residual-in_err-part.result _ c.from_residual-in_err-part.ensures.0
-
-pub returns-in_err-part-clause-few : goal.returns-in_err-part-clause-few
-returns-in_err-part-clause-few g c = IfOk-from_err c.from_residual-in_err-part.result _ c.from_residual-in_err-part.ensures.0
-
-pub returns-in_err-part-clause-inside : goal.returns-in_err-part-clause-inside
-returns-in_err-part-clause-inside g c = IfOk-from_err c.from_residual-in_err-part.result _ c.from_residual-in_err-part.ensures.0
-
-pub returns-in_err-push-clause-parts : goal.returns-in_err-push-clause-parts
-returns-in_err-push-clause-parts g c = IfOk-from_err c.from_residual-in_err-push.result _ c.from_residual-in_err-push.ensures.0
-
-pub returns-in_err-push-clause-few : goal.returns-in_err-push-clause-few
-returns-in_err-push-clause-few g c = IfOk-from_err c.from_residual-in_err-push.result _ c.from_residual-in_err-push.ensures.0
-
-pub returns-in_err-push-clause-inside : goal.returns-in_err-push-clause-inside
-returns-in_err-push-clause-inside g c = IfOk-from_err c.from_residual-in_err-push.result _ c.from_residual-in_err-push.ensures.0
 
 pub returns-clause-inside : goal.returns-clause-inside
 returns-clause-inside g c = c.loop-place.invariant.inside

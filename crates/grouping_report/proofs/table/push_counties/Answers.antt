@@ -9,10 +9,10 @@ use Rattle.grouping_report.proofs.table.push_counties.Goals as goal
 
 pub loop-county-preserved : goal.loop-county-preserved
 loop-county-preserved c =
+    let county = c.county-item.result in
     let v = c.args.problem.now in
     let ks = c.args.counties.now in
     let i = c.loop-county.county-index in
-    let county = c.county-item.result in
     let now = c.loop-county.out.items in
     let run = c.seats_range-run.ensures.value ∙ ap (seat_run (problem_of v)) c.from.ensures in
     let people = from_read people_in ks i county c.loop-county-test.true c.county-item.is in

@@ -22,31 +22,13 @@ given_people area state records line g code number has of code_is number_is =
 
 pub returns-in_err-people : goal.returns-in_err-people
 returns-in_err-people c =
-    let line = c.args.line.now in
-    let records = c.args.records.now.entries in
-    let g = fields_shown c.in_ok-line.line in
-    let code = c.in_ok-code.code in
-    let number = c.in_ok-number.number in
-    let has : geo_fields line ≡ Some g = search rules in
-    let of : is_line_of c.args.area c.args.state g ≡ true = search rules in
-    let code_is : area_code c.args.area c.args.state g ≡ Some code = search rules in
-    let number_is : small_number g.record_number ≡ Some number = search rules in
-    let read : people_at_number number records ≡ c.copied.result = cc in
+    let read : people_at_number c.in_ok-number.number c.args.records.now.entries ≡ c.copied.result = cc in
     let none : c.copied.result ≡ None = search rules in
     let is : c.from_residual-in_err-people.result ≡ Err NoRecord = search rules in
-    is ∙ sym (given_people c.args.area c.args.state records line g code number has of code_is number_is ∙ ap (λ (q : Option ℕ). with_people code q) (read ∙ none))
+    is ∙ sym (given_people c.args.area c.args.state c.args.records.now.entries c.args.line.now (fields_shown c.in_ok-line.line) c.in_ok-code.code c.in_ok-number.number (search rules) (search rules) (search rules) (search rules) ∙ ap (λ (q : Option ℕ). with_people c.in_ok-code.code q) (read ∙ none))
 
 pub returns : goal.returns
 returns c =
-    let line = c.args.line.now in
-    let records = c.args.records.now.entries in
-    let g = fields_shown c.in_ok-line.line in
-    let code = c.in_ok-code.code in
-    let number = c.in_ok-number.number in
-    let has : geo_fields line ≡ Some g = search rules in
-    let of : is_line_of c.args.area c.args.state g ≡ true = search rules in
-    let code_is : area_code c.args.area c.args.state g ≡ Some code = search rules in
-    let number_is : small_number g.record_number ≡ Some number = search rules in
-    let read : people_at_number number records ≡ c.copied.result = cc in
+    let read : people_at_number c.in_ok-number.number c.args.records.now.entries ≡ c.copied.result = cc in
     let some : c.copied.result ≡ Some c.in_ok-people.people = search rules in
-    sym (given_people c.args.area c.args.state records line g code number has of code_is number_is ∙ ap (λ (q : Option ℕ). with_people code q) (read ∙ some))
+    sym (given_people c.args.area c.args.state c.args.records.now.entries c.args.line.now (fields_shown c.in_ok-line.line) c.in_ok-code.code c.in_ok-number.number (search rules) (search rules) (search rules) (search rules) ∙ ap (λ (q : Option ℕ). with_people c.in_ok-code.code q) (read ∙ some))

@@ -1,7 +1,4 @@
-use Rattle.std.proofs.Common.{ℕ, List, Option, Result, Ok, ap, ◌∙◌, subst}
-use Rattle.std.specs.Borrow.{Bor}
-use Rattle.field_lines.specs.LinesFrom.{IsNextAnswer}
-use Rattle.field_lines.specs.declared.fault.LineFault.{LineFault}
+use Rattle.pl94_counties.proofs.ReadersLemmas.{answer_is, line_is}
 use Rattle.pl94_counties.proofs.NamedReadersLemmas.{no_entries, named_start, named_more, named_stops, named_cut_stops}
 use Rattle.pl94_counties.proofs.named_counties.join_named.Goals as goal
 
@@ -12,38 +9,15 @@ loop-number-init g c =
 
 pub returns-in-Err-add_named_line-clause-reads : goal.returns-in-Err-add_named_line-clause-reads
 returns-in-Err-add_named_line-clause-reads g c =
-    let left = g.L.LinesFrom.left in
-    let given = g.L.LinesFrom.given in
-    let failed = g.L.LinesFrom.is_failed in
-    let now = c.loop-number in
-    let after = c.next_from.new.from in
-    let new = c.next_from.follows.lender-at-none in
-    let r : ℕ × Bor (List ℕ) = (c.in-Ok-Some.number, c.in-Ok-Some.line) in
-    let next = subst (λ (a : Result (Option (ℕ × Bor (List ℕ))) LineFault). IsNextAnswer (left now.lines) (given now.from) (failed now.from) a (left new) (given after) (failed after))
-    (c.in-Ok-Some.is ∙ ap (λ (o : Option (ℕ × Bor (List ℕ))). Ok o) c.in-Ok-Some.field-0-is) c.next_from.follows.holds-at-none in
-    named_stops c.args.state c.args.records.now.entries (left c.args.lines.now) (left now.lines) (left new) (given c.args.from.now) (given now.from) (given after) (failed now.from) (failed after) (record { entries = now.people.entries; names = now.names.items }) now.invariant r next c.in-Err-add_named_line.fault c.in-Err-add_named_line.ensures.adds
+    let came = answer_is (line_is c.in-Ok-Some.is c.in-Ok-Some.field-0-is) c.next_from.follows.holds-at-none in
+    named_stops c.args.state c.args.records.now.entries _ _ _ _ _ _ _ _ (record { entries = c.loop-number.people.entries; names = c.loop-number.names.items }) c.loop-number.invariant (c.in-Ok-Some.number, c.in-Ok-Some.line) came c.in-Err-add_named_line.fault c.in-Err-add_named_line.ensures.adds
 
 pub loop-number-preserved : goal.loop-number-preserved
 loop-number-preserved g c =
-    let left = g.L.LinesFrom.left in
-    let given = g.L.LinesFrom.given in
-    let failed = g.L.LinesFrom.is_failed in
-    let now = c.loop-number in
-    let after = c.next_from.new.from in
-    let new = c.next_from.follows.lender-at-none in
-    let r : ℕ × Bor (List ℕ) = (c.in-Ok-Some.number, c.in-Ok-Some.line) in
-    let next = subst (λ (a : Result (Option (ℕ × Bor (List ℕ))) LineFault). IsNextAnswer (left now.lines) (given now.from) (failed now.from) a (left new) (given after) (failed after))
-    (c.in-Ok-Some.is ∙ ap (λ (o : Option (ℕ × Bor (List ℕ))). Ok o) c.in-Ok-Some.field-0-is) c.next_from.follows.holds-at-none in
-    named_more c.args.state c.args.records.now.entries (left c.args.lines.now) (left now.lines) (left new) (given c.args.from.now) (given now.from) (given after) (failed now.from) (failed after) (record { entries = now.people.entries; names = now.names.items }) now.invariant r next (record { entries = c.add_named_line.new.people.entries; names = c.add_named_line.new.names.items }) c.in_default.ensures.adds
+    let came = answer_is (line_is c.in-Ok-Some.is c.in-Ok-Some.field-0-is) c.next_from.follows.holds-at-none in
+    named_more c.args.state c.args.records.now.entries _ _ _ _ _ _ _ _ (record { entries = c.loop-number.people.entries; names = c.loop-number.names.items }) c.loop-number.invariant (c.in-Ok-Some.number, c.in-Ok-Some.line) came (record { entries = c.add_named_line.new.people.entries; names = c.add_named_line.new.names.items }) c.in_default.ensures.adds
 
 pub returns-in-Err-clause-reads : goal.returns-in-Err-clause-reads
 returns-in-Err-clause-reads g c =
-    let left = g.L.LinesFrom.left in
-    let given = g.L.LinesFrom.given in
-    let failed = g.L.LinesFrom.is_failed in
-    let now = c.loop-number in
-    let after = c.next_from.new.from in
-    let new = c.next_from.follows.lender-at-none in
-    let next = subst (λ (a : Result (Option (ℕ × Bor (List ℕ))) LineFault). IsNextAnswer (left now.lines) (given now.from) (failed now.from) a (left new) (given after) (failed after))
-    c.in-Err.is c.next_from.follows.holds-at-none in
-    named_cut_stops c.args.state c.args.records.now.entries (left c.args.lines.now) (left now.lines) (left new) (given c.args.from.now) (given now.from) (given after) (failed now.from) (failed after) (record { entries = now.people.entries; names = now.names.items }) now.invariant c.in-Err.fault c.of_cut.result c.of_cut.ensures next
+    let came = answer_is c.in-Err.is c.next_from.follows.holds-at-none in
+    named_cut_stops c.args.state c.args.records.now.entries _ _ _ _ _ _ _ _ (record { entries = c.loop-number.people.entries; names = c.loop-number.names.items }) c.loop-number.invariant c.in-Err.fault c.of_cut.result c.of_cut.ensures came

@@ -1,13 +1,9 @@
-use Rattle.std.proofs.Common.{ℕ, List, Option, Result, Ok, ap, ◌∙◌, subst}
-use Rattle.std.specs.Borrow.{Bor}
 use Rattle.field_lines.specs.Cut.{Cut}
-use Rattle.field_lines.specs.LinesFrom.{IsNextAnswer}
-use Rattle.field_lines.specs.declared.fault.LineFault.{LineFault}
 use Rattle.field_lines.proofs.ReadingLemmas.{reads_start}
 use Rattle.pl94_counties.specs.declared.fault.File.TheVariants.{Segment1}
 use Rattle.pl94_counties.specs.Segment.{record_on, record_rule, record_list_in}
 use Rattle.pl94_counties.proofs.CollectLemmas.{collected_in}
-use Rattle.pl94_counties.proofs.ReadersLemmas.{collect_cut, line_more, line_stops, cut_stops}
+use Rattle.pl94_counties.proofs.ReadersLemmas.{answer_is, line_is, collect_cut, line_more, line_stops, cut_stops}
 use Rattle.pl94_counties.proofs.segment.read_records.Goals as goal
 
 pub loop-line_number-init : goal.loop-line_number-init
@@ -18,39 +14,15 @@ loop-line_number-init g c =
 
 pub returns-in-Err-add_record-clause-reads : goal.returns-in-Err-add_record-clause-reads
 returns-in-Err-add_record-clause-reads g c =
-    let left = g.L.LinesFrom.left in
-    let given = g.L.LinesFrom.given in
-    let failed = g.L.LinesFrom.is_failed in
-    let now = c.loop-line_number in
-    let after = c.next_from.new.from in
-    let new = c.next_from.follows.lender-at-none in
-    let r : ℕ × Bor (List ℕ) = (c.in-Ok-Some.line_number, c.in-Ok-Some.line) in
-    let next = subst (λ (a : Result (Option (ℕ × Bor (List ℕ))) LineFault). IsNextAnswer (left now.lines) (given now.from) (failed now.from) a (left new) (given after) (failed after))
-    (c.in-Ok-Some.is ∙ ap (λ (o : Option (ℕ × Bor (List ℕ))). Ok o) c.in-Ok-Some.field-0-is) c.next_from.follows.holds-at-none in
-    line_stops record_on record_rule Segment1 (left c.args.lines.now) (left now.lines) (left new) (given c.args.from.now) (given now.from) (given after) (failed now.from) (failed after) record_list_in now.records.entries now.invariant r next c.in-Err-add_record.kind c.in-Err-add_record.ensures.adds
+    let came = answer_is (line_is c.in-Ok-Some.is c.in-Ok-Some.field-0-is) c.next_from.follows.holds-at-none in
+    line_stops record_on record_rule Segment1 _ _ _ _ _ _ _ _ record_list_in _ c.loop-line_number.invariant (c.in-Ok-Some.line_number, c.in-Ok-Some.line) came c.in-Err-add_record.kind c.in-Err-add_record.ensures.adds
 
 pub loop-line_number-preserved : goal.loop-line_number-preserved
 loop-line_number-preserved g c =
-    let left = g.L.LinesFrom.left in
-    let given = g.L.LinesFrom.given in
-    let failed = g.L.LinesFrom.is_failed in
-    let now = c.loop-line_number in
-    let after = c.next_from.new.from in
-    let new = c.next_from.follows.lender-at-none in
-    let r : ℕ × Bor (List ℕ) = (c.in-Ok-Some.line_number, c.in-Ok-Some.line) in
-    let next = subst (λ (a : Result (Option (ℕ × Bor (List ℕ))) LineFault). IsNextAnswer (left now.lines) (given now.from) (failed now.from) a (left new) (given after) (failed after))
-    (c.in-Ok-Some.is ∙ ap (λ (o : Option (ℕ × Bor (List ℕ))). Ok o) c.in-Ok-Some.field-0-is) c.next_from.follows.holds-at-none in
-    line_more record_on record_rule Segment1 (left c.args.lines.now) (left now.lines) (left new) (given c.args.from.now) (given now.from) (given after) (failed now.from) (failed after) record_list_in now.records.entries now.invariant r next c.add_record.new.records.entries c.in_default.ensures.adds
+    let came = answer_is (line_is c.in-Ok-Some.is c.in-Ok-Some.field-0-is) c.next_from.follows.holds-at-none in
+    line_more record_on record_rule Segment1 _ _ _ _ _ _ _ _ record_list_in _ c.loop-line_number.invariant (c.in-Ok-Some.line_number, c.in-Ok-Some.line) came c.add_record.new.records.entries c.in_default.ensures.adds
 
 pub returns-in-Err-clause-reads : goal.returns-in-Err-clause-reads
 returns-in-Err-clause-reads g c =
-    let left = g.L.LinesFrom.left in
-    let given = g.L.LinesFrom.given in
-    let failed = g.L.LinesFrom.is_failed in
-    let now = c.loop-line_number in
-    let after = c.next_from.new.from in
-    let new = c.next_from.follows.lender-at-none in
-    let fault = c.in-Err.fault in
-    let next = subst (λ (a : Result (Option (ℕ × Bor (List ℕ))) LineFault). IsNextAnswer (left now.lines) (given now.from) (failed now.from) a (left new) (given after) (failed after))
-    c.in-Err.is c.next_from.follows.holds-at-none in
-    cut_stops record_on record_rule Segment1 (left c.args.lines.now) (left now.lines) (left new) (given c.args.from.now) (given now.from) (given after) (failed now.from) (failed after) record_list_in now.records.entries now.invariant fault c.of_cut.result c.of_cut.ensures next
+    let came = answer_is c.in-Err.is c.next_from.follows.holds-at-none in
+    cut_stops record_on record_rule Segment1 _ _ _ _ _ _ _ _ record_list_in _ c.loop-line_number.invariant c.in-Err.fault c.of_cut.result c.of_cut.ensures came

@@ -1,8 +1,7 @@
-use Rattle.std.proofs.Common.{◌≡◌, ℕ, ◌++◌, ◌<◌, true, false, List, refl, sym, ap, ◌∙◌, subst, length, Err, arith}
+use Rattle.std.proofs.Common.{◌≡◌, ℕ, ◌++◌, ◌<◌, true, false, List, refl, sym, ap, ◌∙◌, subst, length, arith}
 use Rattle.std.specs.Cmp.Lexicographic.{slice_cmp}
 use Rattle.std.specs.Ordering.{nat_cmp, is_lt}
 use Rattle.std.specs.List.Sorted.{IsSortedBy}
-use Rattle.std.proofs.lemmas.Result.{IfOk-from_err}
 use Rattle.std.proofs.lemmas.List.Sorted.{length_permutation}
 use Rattle.county_problem.specs.OrderedValue.{problem_at}
 use Rattle.connected_laws.specs.Growing.{only, AreKept, sort_key}
@@ -13,8 +12,6 @@ use Rattle.certificate_laws.specs.Groups.{IsSetAt}
 use Rattle.grouping_laws.specs.Places.{places_below}
 use Rattle.state_groups.specs.Keeping.{others}
 use Rattle.state_groups.proofs.Deciding.{decided}
-use Rattle.connected_sets.specs.declared.stop.Stop.TheVariants.{StepLimit}
-use Rattle.connected_sets.proofs.Failing.{refused_not_stopped, handed_on}
 use Rattle.state_groups.proofs.Starting.{starts_open, no_steps, steps_at, kept_groups}
 use Rattle.state_groups.proofs.lists.groups_at.Goals as goal
 
@@ -80,51 +77,6 @@ returns-clause-steps g c =
     let s = state_of test c.args.state.now in
     let region = test c.in_ok-region.region in
     steps_at (problem_at c.args.graph.now.ordered.now) n c.args.limit c.args.place s (only c.args.place) (others region c.args.place) c.args.steps.now.used c.search.new.steps.used (starts_open n c.args.place c.args.limit s region c.requires.rest c.in_ok-region.ensures c.requires.there) c.search.ensures.steps
-
-pub returns-in_err-region-clause-groups : goal.returns-in_err-region-clause-groups
-returns-in_err-region-clause-groups g c = IfOk-from_err c.from_residual.result _ c.from_residual.ensures.0
-
-pub returns-in_err-region-clause-below : goal.returns-in_err-region-clause-below
-returns-in_err-region-clause-below g c = IfOk-from_err c.from_residual.result _ c.from_residual.ensures.0
-
-pub returns-in_err-region-clause-counted : goal.returns-in_err-region-clause-counted
-returns-in_err-region-clause-counted g c = IfOk-from_err c.from_residual.result _ c.from_residual.ensures.0
-
-pub returns-in_err-region-clause-limit : goal.returns-in_err-region-clause-limit
-returns-in_err-region-clause-limit g c = refl
-
-pub returns-in_err-region-clause-stopped : goal.returns-in_err-region-clause-stopped
-returns-in_err-region-clause-stopped g c = refused_not_stopped c.from_residual.result c.from_residual.ensures.1
-
-pub returns-in_err-search-clause-groups : goal.returns-in_err-search-clause-groups
-returns-in_err-search-clause-groups g c = IfOk-from_err c.from_residual-in_err-search.result _ c.from_residual-in_err-search.ensures.0
-
-pub returns-in_err-search-clause-below : goal.returns-in_err-search-clause-below
-returns-in_err-search-clause-below g c = IfOk-from_err c.from_residual-in_err-search.result _ c.from_residual-in_err-search.ensures.0
-
-pub returns-in_err-search-clause-counted : goal.returns-in_err-search-clause-counted
-returns-in_err-search-clause-counted g c = IfOk-from_err c.from_residual-in_err-search.result _ c.from_residual-in_err-search.ensures.0
-
-pub returns-in_err-search-clause-limit : goal.returns-in_err-search-clause-limit
-returns-in_err-search-clause-limit g c = c.search.ensures.limit
-
-pub returns-in_err-search-clause-stopped : goal.returns-in_err-search-clause-stopped
-returns-in_err-search-clause-stopped g c = λ h. c.search.ensures.stopped (c.in_err-search.was ∙ ap Err (handed_on c.from_residual-in_err-search.result c.in_err-search.field-0.0 StepLimit c.from_residual-in_err-search.ensures.1 h))
-
-pub returns-in_err-sorted-clause-groups : goal.returns-in_err-sorted-clause-groups
-returns-in_err-sorted-clause-groups g c = IfOk-from_err c.from_residual-in_err-sorted.result _ c.from_residual-in_err-sorted.ensures.0
-
-pub returns-in_err-sorted-clause-below : goal.returns-in_err-sorted-clause-below
-returns-in_err-sorted-clause-below g c = IfOk-from_err c.from_residual-in_err-sorted.result _ c.from_residual-in_err-sorted.ensures.0
-
-pub returns-in_err-sorted-clause-counted : goal.returns-in_err-sorted-clause-counted
-returns-in_err-sorted-clause-counted g c = IfOk-from_err c.from_residual-in_err-sorted.result _ c.from_residual-in_err-sorted.ensures.0
-
-pub returns-in_err-sorted-clause-limit : goal.returns-in_err-sorted-clause-limit
-returns-in_err-sorted-clause-limit g c = c.search.ensures.limit
-
-pub returns-in_err-sorted-clause-stopped : goal.returns-in_err-sorted-clause-stopped
-returns-in_err-sorted-clause-stopped g c = refused_not_stopped c.from_residual-in_err-sorted.result c.from_residual-in_err-sorted.ensures.1
 
 pub returns-clause-limit : goal.returns-clause-limit
 returns-clause-limit g c = c.search.ensures.limit

@@ -1,8 +1,7 @@
-use Rattle.std.proofs.Common.{◌≡◌, ℕ, ◌<◌, true, nat_le, ◌&&◌, not, ◌==◌, refl, sym, ap, ◌∙◌, subst, length, Err, arith}
+use Rattle.std.proofs.Common.{◌≡◌, ℕ, ◌<◌, true, nat_le, ◌&&◌, not, ◌==◌, refl, sym, ap, ◌∙◌, subst, length, arith}
 use Rattle.std.specs.Cmp.Lexicographic.{slice_cmp}
 use Rattle.std.specs.Ordering.{nat_cmp, is_lt}
 use Rattle.std.specs.List.Sorted.{IsSortedBy}
-use Rattle.std.proofs.lemmas.Result.{IfOk-from_err}
 use Rattle.std.proofs.lemmas.Bool.{and_parts, eq-eqb}
 use Rattle.std.proofs.lemmas.List.Sorted.{length_permutation}
 use Rattle.county_problem.specs.OrderedValue.{problem_at}
@@ -16,8 +15,6 @@ use Rattle.grouping_laws.specs.Places.{places_below}
 use Rattle.state_groups.specs.Keeping.{others}
 use Rattle.state_groups.specs.People.{fewer_tables}
 use Rattle.state_groups.proofs.Deciding.{decided}
-use Rattle.connected_sets.specs.declared.stop.Stop.TheVariants.{StepLimit}
-use Rattle.connected_sets.proofs.Failing.{refused_not_stopped, handed_on}
 use Rattle.state_groups.proofs.Starting.{no_steps}
 use Rattle.state_groups.proofs.Sizes.{Begun, IsFound, less_open, found_none, found_more, found_groups, steps_more, steps_within}
 use Rattle.state_groups.proofs.lists.groups_of.Goals as goal
@@ -159,65 +156,8 @@ returns-clause-counted g c =
     let same = length_permutation c.loop-place.sets.items c.in_ok-sorted.field-0.items c.in_ok-sorted.ensures.same in
     omega (arith, c.loop-place.invariant.counted, same)
 
-pub returns-in_err-region-clause-groups : goal.returns-in_err-region-clause-groups
-returns-in_err-region-clause-groups g c = IfOk-from_err c.from_residual.result _ c.from_residual.ensures.0
-
-pub returns-in_err-region-clause-below : goal.returns-in_err-region-clause-below
-returns-in_err-region-clause-below g c = IfOk-from_err c.from_residual.result _ c.from_residual.ensures.0
-
-pub returns-in_err-region-clause-counted : goal.returns-in_err-region-clause-counted
-returns-in_err-region-clause-counted g c = IfOk-from_err c.from_residual.result _ c.from_residual.ensures.0
-
-pub returns-in_err-region-clause-limit : goal.returns-in_err-region-clause-limit
-returns-in_err-region-clause-limit g c = refl
-
-pub returns-in_err-region-clause-stopped : goal.returns-in_err-region-clause-stopped
-returns-in_err-region-clause-stopped g c = refused_not_stopped c.from_residual.result c.from_residual.ensures.1
-
-pub returns-in_err-left-clause-groups : goal.returns-in_err-left-clause-groups
-returns-in_err-left-clause-groups g c = IfOk-from_err c.from_residual-in_err-left.result _ c.from_residual-in_err-left.ensures.0
-
-pub returns-in_err-left-clause-below : goal.returns-in_err-left-clause-below
-returns-in_err-left-clause-below g c = IfOk-from_err c.from_residual-in_err-left.result _ c.from_residual-in_err-left.ensures.0
-
-pub returns-in_err-left-clause-counted : goal.returns-in_err-left-clause-counted
-returns-in_err-left-clause-counted g c = IfOk-from_err c.from_residual-in_err-left.result _ c.from_residual-in_err-left.ensures.0
-
-pub returns-in_err-left-clause-limit : goal.returns-in_err-left-clause-limit
-returns-in_err-left-clause-limit g c = c.loop-place.invariant.limit
-
-pub returns-in_err-left-clause-stopped : goal.returns-in_err-left-clause-stopped
-returns-in_err-left-clause-stopped g c = refused_not_stopped c.from_residual-in_err-left.result c.from_residual-in_err-left.ensures.1
-
-pub returns-in_err-search-clause-groups : goal.returns-in_err-search-clause-groups
-returns-in_err-search-clause-groups g c = IfOk-from_err c.from_residual-in_err-search.result _ c.from_residual-in_err-search.ensures.0
-
-pub returns-in_err-search-clause-below : goal.returns-in_err-search-clause-below
-returns-in_err-search-clause-below g c = IfOk-from_err c.from_residual-in_err-search.result _ c.from_residual-in_err-search.ensures.0
-
-pub returns-in_err-search-clause-counted : goal.returns-in_err-search-clause-counted
-returns-in_err-search-clause-counted g c = IfOk-from_err c.from_residual-in_err-search.result _ c.from_residual-in_err-search.ensures.0
-
 pub returns-in_err-search-clause-limit : goal.returns-in_err-search-clause-limit
 returns-in_err-search-clause-limit g c = c.search.ensures.limit ∙ c.loop-place.invariant.limit
-
-pub returns-in_err-search-clause-stopped : goal.returns-in_err-search-clause-stopped
-returns-in_err-search-clause-stopped g c = λ h. c.search.ensures.stopped (c.in_err-search.was ∙ ap Err (handed_on c.from_residual-in_err-search.result c.in_err-search.field-0.0 StepLimit c.from_residual-in_err-search.ensures.1 h))
-
-pub returns-in_err-sorted-clause-groups : goal.returns-in_err-sorted-clause-groups
-returns-in_err-sorted-clause-groups g c = IfOk-from_err c.from_residual-in_err-sorted.result _ c.from_residual-in_err-sorted.ensures.0
-
-pub returns-in_err-sorted-clause-below : goal.returns-in_err-sorted-clause-below
-returns-in_err-sorted-clause-below g c = IfOk-from_err c.from_residual-in_err-sorted.result _ c.from_residual-in_err-sorted.ensures.0
-
-pub returns-in_err-sorted-clause-counted : goal.returns-in_err-sorted-clause-counted
-returns-in_err-sorted-clause-counted g c = IfOk-from_err c.from_residual-in_err-sorted.result _ c.from_residual-in_err-sorted.ensures.0
-
-pub returns-in_err-sorted-clause-limit : goal.returns-in_err-sorted-clause-limit
-returns-in_err-sorted-clause-limit g c = c.loop-place.invariant.limit
-
-pub returns-in_err-sorted-clause-stopped : goal.returns-in_err-sorted-clause-stopped
-returns-in_err-sorted-clause-stopped g c = refused_not_stopped c.from_residual-in_err-sorted.result c.from_residual-in_err-sorted.ensures.1
 
 pub returns-clause-limit : goal.returns-clause-limit
 returns-clause-limit g c = c.loop-place.invariant.limit

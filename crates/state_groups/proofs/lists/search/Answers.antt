@@ -1,7 +1,6 @@
 use Rattle.std.proofs.Common.{◌≡◌, ℕ, ◌==◌, Bool, not, refl, ap, ◌∙◌, sym, subst, length}
 use mathlib.Core.Path.{fun_ext}
 use Rattle.std.proofs.lemmas.Bool.{and_parts}
-use Rattle.std.proofs.lemmas.Result.{IfOk-from_err}
 use Rattle.grouping_laws.specs.Problem.{people_of}
 use Rattle.place_sets.specs.PlaceSets.{places_of}
 use Rattle.county_problem.specs.OrderedValue.{problem_at}
@@ -13,7 +12,6 @@ use Rattle.connected_laws.proofs.Listing.{on_ok, stepped_none}
 use Rattle.certificate_laws.proofs.RegionGrowthLemmas.{regions_are_grown}
 use Rattle.state_groups.specs.Keeping.{others}
 use Rattle.state_groups.specs.People.{fewer_tables}
-use Rattle.connected_sets.proofs.Failing.{refused_not_stopped}
 use Rattle.state_groups.proofs.lists.search.Goals as goal
 
 pub grow-requires-clause-growth : goal.grow-requires-clause-growth
@@ -67,18 +65,6 @@ returns-clause-limit g c = c.grow.ensures.limit
 
 pub returns-clause-stopped : goal.returns-clause-stopped
 returns-clause-stopped g c = c.grow.ensures.stopped
-
-pub returns-in_err-growth-clause-listed : goal.returns-in_err-growth-clause-listed
-returns-in_err-growth-clause-listed g c = IfOk-from_err c.from_residual.result _ c.from_residual.ensures.0
-
-pub returns-in_err-growth-clause-counted : goal.returns-in_err-growth-clause-counted
-returns-in_err-growth-clause-counted g c = IfOk-from_err c.from_residual.result _ c.from_residual.ensures.0
-
-pub returns-in_err-growth-clause-limit : goal.returns-in_err-growth-clause-limit
-returns-in_err-growth-clause-limit g c = refl
-
-pub returns-in_err-growth-clause-stopped : goal.returns-in_err-growth-clause-stopped
-returns-in_err-growth-clause-stopped g c = refused_not_stopped c.from_residual.result c.from_residual.ensures.1
 
 pub returns-in_err-growth-clause-steps : goal.returns-in_err-growth-clause-steps
 returns-in_err-growth-clause-steps g c =

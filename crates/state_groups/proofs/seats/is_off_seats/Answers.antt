@@ -1,7 +1,6 @@
 use Rattle.std.proofs.Common.{◌≡◌, ℕ, ◌<◌, true, List, get_or, arith, ◌+◌, ◌||◌, nat_lt, None, ap, ◌∙◌, subst, sym, map, length}
 use Rattle.std.proofs.lemmas.Bool.{false≢true}
 use Rattle.std.proofs.lemmas.List.{length-map}
-use Rattle.std.proofs.lemmas.Result.{IfOk-from_err}
 use Rattle.place_sets.specs.PlaceSets.{places_of}
 use Rattle.county_problem.specs.ProblemValue.{ProblemValue}
 use Rattle.county_problem.specs.OrderedValue.{problem_at}
@@ -49,9 +48,6 @@ returns g c =
 
 pub parts_of-requires-clause-below : goal.parts_of-requires-clause-below
 parts_of-requires-clause-below g c = c.requires.below
-
-pub returns-in_err-parts : goal.returns-in_err-parts
-returns-in_err-parts g c = IfOk-from_err c.from_residual.result _ c.from_residual.ensures.0
 
 pub seat_sums-requires-clause-few : goal.seat_sums-requires-clause-few
 seat_sums-requires-clause-few g c = omega (arith, c.requires.few, ap length c.deref.ensures.value)
