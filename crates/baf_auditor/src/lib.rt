@@ -1,10 +1,6 @@
 //! Block assignment files, which give census blocks to districts by their labels, and the audit of a plan's assignments
 //! against a grouping of counties. `districts` lists the districts of a plan: the people of each, and the sets and the
 //! counties in which it has blocks.
-//!
-//! A further kind of finding begins with a variant of `Finding` in `finding.rt` and its definition in
-//! `specs/Findings.antt`. `grouping_report` writes the line of a finding (`findings.rt`, `specs/FindingsText.antt`),
-//! and `findings.rt` of `cli_explanations` tells a person about it.
 #![tactic(auto)]
 
 mod assignments;

@@ -3,7 +3,7 @@
 ghost use Rattle.std.specs.Prelude.{◌≡◌, ◌<◌, ◌≤◌, ℕ, List, [], ◌++◌, map, length, take, Some, IfOk, IfErr};
 ghost use Rattle.field_lines.specs.RawPieces.{raw_lines};
 ghost use Rattle.certificate_lines.specs.{Items.{by_words, groups_wanted, items_from}, Lines.most};
-ghost use Rattle.certificate_lines.specs.{Reading.{ReadsAll, IsUnlessMemory}, Rest.{IsTextMemory, ReadsLine}};
+ghost use Rattle.certificate_lines.specs.{Reading.IsUnlessMemory, Rest.{IsTextMemory, ReadsLine}};
 ghost use Rattle.certificate_lines.specs.{Fitting.AllFit, Spelling.text_of_items, declared.item.Wanted.Wanted};
 ghost use Rattle.certificate_lines.specs.declared.item.Item.TheVariants as item;
 ghost use Rattle.board_laws.specs.Content.{Event as EventValue};
@@ -17,7 +17,7 @@ use crate::first_lines::event_on;
 use board_texts::{lines_in, moved};
 use certificate_data::Format;
 use certificate_lines::{Cursor, TextFault, push_on};
-use certificate_text::front_tree;
+use certificate_text::{front_tree, groups_at};
 use county_codes::{Group, Grouping};
 use partial_text::front_part;
 use share_board::Event;
@@ -32,19 +32,6 @@ fn first_line(cursor: &mut Cursor) -> Result<EventLine, TextFault>
         Ok(first) => Ok(first),
         Err(kind) => Err(TextFault { kind, line }),
     }
-}
-
-/// Reads `count` groups of a target.
-fn groups_at(alloc: Global, cursor: &mut Cursor, count: u16) -> Result<Vec<Group>, TextFault>
-    ensures read { ReadsAll (groups_wanted count) (λ v. map item.Grouped v.items) [] cursor.old result cursor.new }
-    ensures number { IfOk result (λ v. length v.items ≡ count) }
-{
-    let mut groups = Vec::new(alloc);
-    for done in 0..count {
-        let group = cursor.group(alloc)?;
-        push_on(&mut groups, group, cursor.number())?;
-    }
-    Ok(groups)
 }
 
 /// Reads the `count` groups with which a `text` begins. Returns them and how many bytes spell them.

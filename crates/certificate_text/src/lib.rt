@@ -31,5 +31,5 @@ pub use laws::{
     trees_have_one_text, trees_spell,
 };
 pub use lines::{push_branch_line, push_mark_line, push_take_line, push_tree, tree_lines};
-pub use reading::{allowances_at, front_tree, read, read_tree};
+pub use reading::{allowances_at, front_tree, groups_at, read, read_tree};
 pub use writing::{write, write_tree};

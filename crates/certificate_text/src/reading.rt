@@ -43,7 +43,11 @@ pub fn allowances_at(
 }
 
 /// Reads `count` groups of a target.
-fn groups_at(alloc: Global, cursor: &mut Cursor, count: u16) -> Result<Vec<Group>, TextFault>
+///
+/// # Errors
+///
+/// Returns the first fault of the lines. If memory was refused, it returns `Memory` in place of any answer.
+pub fn groups_at(alloc: Global, cursor: &mut Cursor, count: u16) -> Result<Vec<Group>, TextFault>
     ensures read { ReadsAll (groups_wanted count) (λ v. map item.Grouped v.items) [] cursor.old result cursor.new }
     ensures number { IfOk result (λ v. length v.items ≡ count) }
 {

@@ -13,8 +13,8 @@ pub(crate) struct Shown<'a> {
     most: usize,
 }
 
-/// Returns the start of `bytes`, a line or a field, as it may be shown, up to 120 characters. After 120 characters,
-/// dots stand for the rest.
+/// Returns the start of `bytes`, a line or a field, as it may be shown. That is up to 120 characters, where a byte that
+/// isn't UTF-8 counts as one. Dots stand for the rest, if there is more.
 pub(crate) fn start_of(bytes: &[u8]) -> Shown<'_> {
     Shown { bytes, most: MOST }
 }
@@ -48,40 +48,53 @@ fn write_character<W: fmt::Write>(f: &mut fmt::Formatter<W>, character: char) ->
     }
 }
 
-/// Writes the characters of `text`, up to `most` of them, and returns how many more may follow.
+/// Writes the characters of `text`, up to `most` of them. Returns how many more may follow, or `None` if `text` has
+/// more than `most`.
 fn write_text<W: fmt::Write>(
     f: &mut fmt::Formatter<W>,
     text: &str,
     most: usize,
-) -> Result<usize, fmt::Error> {
+) -> Result<Option<usize>, fmt::Error> {
     let mut left = most;
     for character in text.chars() {
         if left == 0 {
-            return Ok(0);
+            return Ok(None);
         }
         left -= 1;
         write_character(f, character)?;
     }
-    Ok(left)
+    Ok(Some(left))
 }
 
-/// Writes the escapes of `bytes` that aren't UTF-8.
-fn write_bytes<W: fmt::Write>(f: &mut fmt::Formatter<W>, bytes: &[u8]) -> fmt::Result {
+/// Writes the escapes of `bytes` that aren't UTF-8, up to `most` of them. Returns how many more may follow, or `None`
+/// if there are more bytes than `most`.
+fn write_bytes<W: fmt::Write>(
+    f: &mut fmt::Formatter<W>,
+    bytes: &[u8],
+    most: usize,
+) -> Result<Option<usize>, fmt::Error> {
+    let mut left = most;
     for byte in bytes {
+        if left == 0 {
+            return Ok(None);
+        }
+        left -= 1;
         write!(f, "\\x{byte:02x}")?;
     }
-    Ok(())
+    Ok(Some(left))
 }
 
 impl fmt::Display for Shown<'_> {
     fn fmt<W: fmt::Write>(&self, f: &mut fmt::Formatter<W>) -> fmt::Result {
         let mut left = self.most;
         for chunk in self.bytes.utf8_chunks() {
-            left = write_text(f, chunk.valid(), left)?;
-            if left == 0 {
+            let Some(after_text) = write_text(f, chunk.valid(), left)? else {
                 return f.write_str("..");
-            }
-            write_bytes(f, chunk.invalid())?;
+            };
+            let Some(after_bytes) = write_bytes(f, chunk.invalid(), after_text)? else {
+                return f.write_str("..");
+            };
+            left = after_bytes;
         }
         Ok(())
     }
