@@ -50,7 +50,7 @@ const { makeCalls } = await hostModule("calls.mjs");
 const { NodeFiles } = await hostModule("node_files.mjs");
 
 /** The machine's files, with standard streams in memory. It notes what is renamed. */
-class NotingFiles extends NodeFiles {
+class RecordedFiles extends NodeFiles {
   /**
    * @param {Uint8Array} input
    * @param {() => number} requests
@@ -151,7 +151,7 @@ function run(asked) {
   /** @type {any} */
   let exports = null;
   const requests = () => Number(exports.count_requests());
-  const store = new NotingFiles(Buffer.from(asked.input, "base64"), requests);
+  const store = new RecordedFiles(Buffer.from(asked.input, "base64"), requests);
   const state = { store, words, memory: null, errno: 0 };
   exports = new WebAssembly.Instance(module, { env: makeCalls(state) }).exports;
   state.memory = exports.memory;

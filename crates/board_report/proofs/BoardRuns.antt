@@ -10,7 +10,7 @@ use Rattle.share_board.specs.declared.board.Board.{Board}
 use Rattle.share_board.specs.BoardValue.{IsOf, Keeps}
 use Rattle.share_board.specs.Rounds.{IsOpening}
 use Rattle.board_report.specs.ReplyLines.{reply_line}
-use Rattle.branch_bound.specs.declared.piece.Piece.{Piece}
+use Rattle.branch_bound.specs.declared.piece_answer.PieceAnswer.{PieceAnswer}
 use Rattle.board_report.specs.Taking.{TakesEvents, EventsAreTaken, HasTaken, HasTold, HasHeard}
 use Rattle.board_report.specs.BoardOutcome.{IsEnded, IsShared}
 use Rattle.board_report.specs.declared.board_outcome.Shared.{Shared}
@@ -41,7 +41,7 @@ module _ {C : Type 0} (test : C → ℕ → Bool) (problem : ProblemHeld) (depth
   }
 
   pub answered_so : before.problem ≡ problem → before.depth ≡ depth → before.budget ≡ piece_budget → IsOpening (problem_of problem) depth round b → HasHeard test before b events later
-      → (number : ℕ) (answer : Option Piece) → ((c : Content) → IsOf test later c → IsAnswerAt (problem_of problem) c number answer) → budget ≡ piece_budget → IsAnswered (problem_of problem) depth round events number answer
+      → (number : ℕ) (answer : Option PieceAnswer) → ((c : Content) → IsOf test later c → IsAnswerAt (problem_of problem) c number answer) → budget ≡ piece_budget → IsAnswered (problem_of problem) depth round events number answer
   answered_so problem_is depth_is budget_is opening heard number answer is same = record {
     replies = (heard.0).replies;
     last = (heard.0).last;
@@ -58,5 +58,5 @@ module _ {C : Type 0} (test : C → ℕ → Bool) (problem : ProblemHeld) (depth
       ∙ ap (λ (z : Round). z.format) opening.round_is
       ∙ is
 
-pub text_so : (format other : Format) (places counties number : ℕ) (answer : Option Piece) → format ≡ other → places ≡ counties → IfSome answer (HasText format places number) → IfSome answer (HasText other counties number)
+pub text_so : (format other : Format) (places counties number : ℕ) (answer : Option PieceAnswer) → format ≡ other → places ≡ counties → IfSome answer (HasText format places number) → IfSome answer (HasText other counties number)
 text_so format other places counties number answer e k h = subst (λ z. IfSome answer (HasText z counties number)) e (subst (λ z. IfSome answer (HasText format z number)) k h)

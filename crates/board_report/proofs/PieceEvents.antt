@@ -22,8 +22,8 @@ use Rattle.board_laws.specs.Content.{part_piece}
 use Rattle.branch_bound.specs.Resuming.{proving_round, IsBestPart}
 use Rattle.branch_bound.specs.Pieces.{IsPiece}
 use Rattle.branch_bound.proofs.Rounds.{listed_order}
-use Rattle.branch_bound.specs.declared.piece.Piece.{Piece}
-use Rattle.branch_bound.specs.declared.piece.Piece.TheVariants.{Proved, Better, Wider, Open}
+use Rattle.branch_bound.specs.declared.piece_answer.PieceAnswer.{PieceAnswer}
+use Rattle.branch_bound.specs.declared.piece_answer.PieceAnswer.TheVariants.{Proved, Better, Wider, Open}
 use Rattle.board_report.specs.EventLines.{greatest}
 use Rattle.board_report.specs.EventSpelling.{HasSpelling}
 use Rattle.partial_text.proofs.PartTexts.{have_texts as have_texts_of_parts}
@@ -35,7 +35,7 @@ groups_fit g lines =
     subst (λ (z : List Wanted). AllFit z (map Grouped g)) (append-nil (groups_wanted (length g)))
     (subst (λ (z : List Item). AllFit (groups_wanted (length g) ++ []) z) (append-nil (map Grouped g)) (target_fits (Some g) [] [] lines tt).1)
 
-pub has_text : (p : Problem) (round : Round) (s : State) (number : ℕ) (piece : Piece) → IsOrder p round.order → IsState p round s → round.limit ≤ most → number ≤ greatest → IsPiece p round s piece
+pub has_text : (p : Problem) (round : Round) (s : State) (number : ℕ) (piece : PieceAnswer) → IsOrder p round.order → IsState p round s → round.limit ≤ most → number ≤ greatest → IsPiece p round s piece
     → HasText round.format (length round.order) number piece
 has_text p round s number (Proved tree) order state small few is r low = record { line = (low, few); items = have_texts.tree p round s (tree_of tree) order state is.0 is.1; form = tt }
 has_text p round s number (Better g) order state small few is r low = record { line = (low, is.2.few); items = groups_fit g.groups.items is.2; form = tt }

@@ -11,7 +11,7 @@ use Rattle.board_laws.specs.Standing.{StandsAt}
 use Rattle.board_laws.specs.Content.{Content, Event, Reply}
 use Rattle.share_board.specs.declared.board.Board.{Board}
 use Rattle.branch_bound.specs.Pieces.{IsPiece}
-use Rattle.branch_bound.specs.declared.piece.Piece.{Piece}
+use Rattle.branch_bound.specs.declared.piece_answer.PieceAnswer.{PieceAnswer}
 use Rattle.board_report.specs.Taking.{EventsAreTaken, NoneRefused}
 
 -- how much an event may cost on such a board
@@ -28,7 +28,7 @@ IsStateHeld test board b number (Some state) =
     (state_at board.round.order test state)
 
 -- an answer of the piece at its state, exactly where it waits
-abbrev pub IsAnswerAt : Problem → Content → ℕ → Option Piece → Type 0
+abbrev pub IsAnswerAt : Problem → Content → ℕ → Option PieceAnswer → Type 0
 IsAnswerAt p b number None = ¬ Contains (waiting b.skeleton) number
 IsAnswerAt p b number (Some piece) =
     Contains (waiting b.skeleton) number
@@ -36,7 +36,7 @@ IsAnswerAt p b number (Some piece) =
 
 -- the piece of a board that has taken all events
 pub record IsAnswered (p : Problem) (depth : ℕ) (round : Round) (events : List Event) (number : ℕ)
-    (answer : Option Piece) : Type 0 where
+    (answer : Option PieceAnswer) : Type 0 where
   pub replies : List Reply
   pub last : Content
   pub taken : EventsAreTaken p depth piece_budget round events replies last

@@ -4,13 +4,13 @@ use Rattle.certificate_data.specs.declared.format.Format.{Format}
 use Rattle.certificate_data.specs.TreeValue.{tree_of}
 use Rattle.board_laws.specs.Content.{Event, result, part_piece, better, wider}
 use Rattle.partial_trees.specs.PartialValue.{partial_of}
-use Rattle.branch_bound.specs.declared.piece.Piece.{Piece}
-use Rattle.branch_bound.specs.declared.piece.Piece.TheVariants.{Proved, Better, Wider, Open}
+use Rattle.branch_bound.specs.declared.piece_answer.PieceAnswer.{PieceAnswer}
+use Rattle.branch_bound.specs.declared.piece_answer.PieceAnswer.TheVariants.{Proved, Better, Wider, Open}
 use Rattle.board_report.specs.EventLines.{greatest}
 use Rattle.board_report.specs.EventSpelling.{text_of_event, HasSpelling}
 
 -- the event that gives the answer to a board, for a round and a piece of these numbers; none, if no branch was begun
-abbrev pub event_in : ℕ → ℕ → Piece → Option Event
+abbrev pub event_in : ℕ → ℕ → PieceAnswer → Option Event
 event_in round number (Proved tree) = Some (result round number (tree_of tree))
 event_in round number (Better g) = Some (better round g.groups.items)
 event_in round number (Wider g) = Some (wider round)
@@ -22,10 +22,10 @@ abbrev pub told : Option Event → List ℕ
 told (Some event) = text_of_event event
 told None = codes "open\n"
 
-abbrev pub piece_text_of : ℕ → ℕ → Piece → List ℕ
+abbrev pub piece_text_of : ℕ → ℕ → PieceAnswer → List ℕ
 piece_text_of round number piece = told (event_in round number piece)
 
 -- whatever the number of the round, a text spells the event, if there is one
-abbrev pub HasText : Format → (counties number : ℕ) → Piece → Type 0
+abbrev pub HasText : Format → (counties number : ℕ) → PieceAnswer → Type 0
 HasText format counties number piece =
     (round : ℕ) → round ≤ greatest → IfSome (event_in round number piece) (HasSpelling format counties)

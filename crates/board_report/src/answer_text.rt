@@ -7,7 +7,7 @@ ghost use Rattle.board_report.specs.EventSpelling.{text_of_event, HasSpelling, E
 ghost use Rattle.board_report.specs.PieceText.{event_in, piece_text_of, HasText};
 
 use crate::event_writing::write_event;
-use branch_bound::Piece;
+use branch_bound::PieceAnswer;
 use certificate_data::Format;
 use certificate_lines::WriteFault;
 use share_board::Event;
@@ -15,15 +15,15 @@ use std::alloc::{AllocError, Global};
 
 /// Returns the event that gives the answer `piece` to a board, for the piece `number` of the round `round`. Returns
 /// `None` if the steps ran out before the search began a branch.
-fn answer_event(piece: Piece, round: u32, number: u32) -> Option<Event>
+fn answer_event(piece: PieceAnswer, round: u32, number: u32) -> Option<Event>
     ensures { option_map event_of result ≡ event_in round number piece }
 {
     match piece {
-        Piece::Proved(tree) => Some(Event::Result(round, number, tree)),
-        Piece::Better(grouping) => Some(Event::Better(round, grouping)),
-        Piece::Wider(_) => Some(Event::Wider(round)),
-        Piece::Open(Some(part)) => Some(Event::Part(round, number, part)),
-        Piece::Open(None) => None,
+        PieceAnswer::Proved(tree) => Some(Event::Result(round, number, tree)),
+        PieceAnswer::Better(grouping) => Some(Event::Better(round, grouping)),
+        PieceAnswer::Wider(_) => Some(Event::Wider(round)),
+        PieceAnswer::Open(Some(part)) => Some(Event::Part(round, number, part)),
+        PieceAnswer::Open(None) => None,
     }
 }
 
@@ -55,7 +55,7 @@ pub(crate) fn event_lines(
 /// Returns `AllocError` if memory was refused.
 pub fn piece_text(
     alloc: Global,
-    piece: Piece,
+    piece: PieceAnswer,
     round: u32,
     number: u32,
     format: Format,

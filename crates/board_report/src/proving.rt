@@ -13,7 +13,7 @@ ghost use Rattle.board_report.specs.Rounds.{IsFirstRound};
 use crate::opening::opened_board;
 use crate::shape::BoardShape;
 use crate::taking::take_all;
-use branch_bound::{Piece, prove_piece};
+use branch_bound::{PieceAnswer, prove_piece};
 use county_codes::Grouping;
 use county_problem::{Problem, Steps};
 use place_sets::{CountySet, MaskSet, WideSet, fits_mask};
@@ -59,7 +59,7 @@ fn answer_at<C: CountySet>(
     board: &Board<C>,
     number: u32,
     steps: u64,
-) -> Result<Option<Piece>, AllocError>
+) -> Result<Option<PieceAnswer>, AllocError>
     requires board { (b : Content) × IsOf C.test board.now b }
     requires problem { board.now.problem ≡ problem.now }
     requires fits { length board.now.round.order ≤ C.PLACES }
@@ -85,7 +85,7 @@ fn prove_over<C: CountySet>(
     events: Vec<Event>,
     number: u32,
     steps: u64,
-) -> Result<Option<Piece>, BoardFault>
+) -> Result<Option<PieceAnswer>, BoardFault>
     requires { length problem.now.counties ≤ C.PLACES }
     ensures answer { (round : RoundValue)
         × IsFirstRound (problem_of problem.now) grouping.now.groups.items shape.limit shape.format round
@@ -119,7 +119,7 @@ pub fn prove_waiting(
     events: Vec<Event>,
     number: u32,
     steps: u64,
-) -> Result<Option<Piece>, BoardFault>
+) -> Result<Option<PieceAnswer>, BoardFault>
     ensures answer { (round : RoundValue)
         × IsFirstRound (problem_of problem.now) grouping.now.groups.items shape.limit shape.format round
         × MatchResult

@@ -41,7 +41,7 @@ use Rattle.partial_trees.proofs.PartialLists.{made_tree, made_takes, made_take, 
 use Rattle.branch_bound.specs.declared.outcome.SearchOutcome.{SearchOutcome}
 use Rattle.branch_bound.specs.declared.outcome.SearchOutcome.TheVariants as outcome
 use Rattle.branch_bound.specs.Searching.{AreTakesOf, IsOutcome}
-use Rattle.branch_bound.specs.declared.piece.Piece.TheVariants.{Open}
+use Rattle.branch_bound.specs.declared.piece_answer.PieceAnswer.TheVariants.{Open}
 use Rattle.branch_bound.specs.Pieces.{IsPiece}
 use Rattle.branch_bound.specs.Parts.{whole_takes, whole_branch, whole_branches, IsOpenPart}
 use Rattle.branch_bound.proofs.Joining.{all_parts}

@@ -12,13 +12,13 @@ use Rattle.board_laws.specs.PartialTrees.{IsPart}
 use Rattle.partial_trees.specs.PartialValue.{partial_of}
 use Rattle.partial_trees.specs.Refusals.{IsPartProof}
 use Rattle.partial_trees.specs.OpenBranches.{BranchesAreOpen}
-use Rattle.branch_bound.specs.declared.piece.Piece.{Piece}
-use Rattle.branch_bound.specs.declared.piece.Piece.TheVariants.{Proved, Better, Wider, Open}
+use Rattle.branch_bound.specs.declared.piece_answer.PieceAnswer.{PieceAnswer}
+use Rattle.branch_bound.specs.declared.piece_answer.PieceAnswer.TheVariants.{Proved, Better, Wider, Open}
 
 -- A proof tree of the state that a text spells, a lawful grouping that agrees with the state and is greater than the
 -- target, or a partial tree of the state that texts spell. A grouping that is within the limit is one that a text
 -- spells.
-abbrev pub IsPiece : Problem → Round → State → Piece → Type 0
+abbrev pub IsPiece : Problem → Round → State → PieceAnswer → Type 0
 IsPiece p round s (Proved tree) = Proves (tree_of tree) p round s × HasLines round.format (tree_of tree)
 IsPiece p round s (Better g) =
     IsFound p round s g.groups.items × HasGroupsWithin round.limit g.groups.items × HasTargetLines g.groups.items
@@ -28,7 +28,7 @@ IsPiece p round s (Open (Some part)) =
     IsPart (partial_of part) × IsPartProof p round s (partial_of part) × BranchesAreOpen (partial_of part)
 
 -- the steps ran out
-abbrev pub IsOpen : Piece → Type 0
+abbrev pub IsOpen : PieceAnswer → Type 0
 IsOpen (Proved tree) = ⊥
 IsOpen (Better g) = ⊥
 IsOpen (Wider g) = ⊥

@@ -22,7 +22,7 @@ mod judging;
 mod larger_groups;
 mod outcome;
 mod parts;
-mod piece;
+mod piece_answer;
 mod pieces;
 mod plain_judging;
 mod plain_search;
@@ -31,7 +31,7 @@ mod solving;
 mod watcher;
 
 pub use answer::Answer;
-pub use piece::Piece;
+pub use piece_answer::PieceAnswer;
 pub use pieces::{prove_piece, prove_piece_over};
 pub use solving::{solve, solve_over, solve_watched};
 pub use watcher::{NoWatcher, Watcher};

@@ -19,7 +19,7 @@ ghost use Rattle.partial_trees.specs.PartialValue.{partial_of};
 
 use crate::outcome::SearchOutcome;
 use crate::parts::begun_part;
-use crate::piece::Piece;
+use crate::piece_answer::PieceAnswer;
 use crate::plain_search::prove_plain;
 use crate::search::prove;
 use crate::watcher::NoWatcher;
@@ -46,35 +46,35 @@ fn is_within(grouping: &Grouping, limit: u16) -> bool
 }
 
 /// Returns the answer for a greater grouping that was `found`.
-fn found_piece(round: &Round, found: Grouping) -> Piece
+fn found_piece(round: &Round, found: Grouping) -> PieceAnswer
     ensures piece { (p : ProblemLaw) (s : StateValue) → IsBetter p (round_of round.now) s found
         → IsPiece p (round_of round.now) s result }
     ensures closed { ¬ IsOpen result }
 {
     if is_within(&found, round.limit) {
-        Piece::Better(found)
+        PieceAnswer::Better(found)
     } else {
-        Piece::Wider(found)
+        PieceAnswer::Wider(found)
     }
 }
 
 /// Returns the answer where the steps ran out, given the `part` that was proved by then.
-fn open_piece(part: PartialTree) -> Piece
+fn open_piece(part: PartialTree) -> PieceAnswer
     ensures piece { (p : ProblemLaw) (round : RoundValue) (s : StateValue) → IsOpenPart p round s (partial_of part)
         → IsPiece p round s result }
     ensures open { IsOpen result }
 {
-    Piece::Open(begun_part(part))
+    PieceAnswer::Open(begun_part(part))
 }
 
 /// Returns the answer for an `outcome` of the search.
-fn piece_of(round: &Round, outcome: SearchOutcome) -> Piece
+fn piece_of(round: &Round, outcome: SearchOutcome) -> PieceAnswer
     ensures piece { (p : ProblemLaw) (s : StateValue) → IsOutcome p (round_of round.now) s outcome
         → IsPiece p (round_of round.now) s result }
     ensures open { IsOpen result ↔ IsStopped outcome }
 {
     match outcome {
-        SearchOutcome::Proved(tree) => Piece::Proved(tree),
+        SearchOutcome::Proved(tree) => PieceAnswer::Proved(tree),
         SearchOutcome::Better(found) => found_piece(round, found),
         SearchOutcome::Open(part) => open_piece(part),
     }
@@ -86,7 +86,7 @@ fn wide_piece<C: CountySet>(
     state: &State<C>,
     lists: &mut PartLists<C>,
     steps: &mut Steps,
-) -> Result<Piece, AllocError>
+) -> Result<PieceAnswer, AllocError>
     requires input { IsSearchInput C.PLACES C.test input.now }
     requires placed { IsPlaced (graph_places input.now.graph.now) C.test state.now }
     requires state { IsState (search_problem input.now) (search_round input.now) (search_state input.now C.test state.now) }
@@ -108,7 +108,7 @@ fn plain_piece<C: CountySet>(
     input: &SearchInput<C>,
     state: &State<C>,
     steps: &mut Steps,
-) -> Result<Piece, AllocError>
+) -> Result<PieceAnswer, AllocError>
     requires input { IsPlainGround C.PLACES C.test input.now }
     requires at { IsStateOf C.test input.now state.now }
     ensures piece { IfOk result (IsPiece (search_problem input.now) (search_round input.now) (search_state input.now C.test state.now)) }
@@ -134,7 +134,7 @@ pub fn prove_piece_over<C: CountySet>(
     state: &State<C>,
     lists: &mut PartLists<C>,
     steps: &mut Steps,
-) -> Result<Piece, AllocError>
+) -> Result<PieceAnswer, AllocError>
     requires graph { IsGraph C.test C.PLACES graph.now }
     requires order { graph_order graph.now ≡ round.now.order }
     requires small { round.now.limit ≤ most_counties }
@@ -163,7 +163,7 @@ fn ordered_piece<C: CountySet>(
     round: &Round,
     state: &State<C>,
     steps: &mut Steps,
-) -> Result<Piece, AllocError>
+) -> Result<PieceAnswer, AllocError>
     requires fits { length ordered.now.order ≤ C.PLACES }
     requires order { ordered.now.order ≡ round.now.order }
     requires small { round.now.limit ≤ most_counties }
@@ -199,7 +199,7 @@ pub fn prove_piece<C: CountySet>(
     round: &Round,
     state: &State<C>,
     steps: &mut Steps,
-) -> Result<Piece, AllocError>
+) -> Result<PieceAnswer, AllocError>
     requires fits { length round.now.order ≤ C.PLACES }
     requires order { IsOrder (problem_of problem.now) round.now.order }
     requires small { round.now.limit ≤ most_counties }

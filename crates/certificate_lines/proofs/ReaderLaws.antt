@@ -2,13 +2,13 @@
 use Rattle.std.proofs.Common.{◌≡◌, ℕ, ◌+◌, Bool, List, [], ◌∷◌, ◌++◌, length, drop, reverse, Option, Some, None, Result, Ok, Err, refl, ap, sym, subst, ◌∙◌, append_assoc, append-nil, inl, inr}
 use Rattle.std.proofs.Math.Seq.{drop-append_seam}
 use Rattle.field_lines.specs.RawPieces.{RawLine, raw_lines_from}
-use Rattle.field_lines.specs.Piece.{raw_of}
+use Rattle.field_lines.specs.TextPiece.{raw_of}
 use Rattle.field_lines.specs.Source.{Given}
 use Rattle.field_lines.specs.HeldBytes.{StaysEnded}
 use Rattle.field_lines.specs.LinesFrom.{LinesHeld}
 use Rattle.field_lines.specs.PiecesFrom.{pieces_left, BeginsTooLong, IsNextPieceFrom, IsRawRead, AnswersRaw}
 use Rattle.field_lines.proofs.ReadLineLemmas.{may_come}
-use Rattle.field_lines.specs.declared.raw_pieces.Piece.{Piece}
+use Rattle.field_lines.specs.declared.raw_pieces.TextPiece.{TextPiece}
 use Rattle.field_lines.specs.declared.fault.LineFault.{LineFault}
 use Rattle.field_lines.specs.declared.fault.LineFault.TheVariants as of_line
 use Rattle.certificate_lines.specs.Rest.{text_fault_at}
@@ -51,7 +51,7 @@ long_end n number (p ∷ ps) long = refl
 
 module _ (old new : LinesHeld) (before after : Given) (failed failed_then : Bool) where
   module _ (w : Wanted) (below : List Wanted) (number : ℕ) where
-    pub read_found : (p : Piece) → IsNextPieceFrom (pieces_left old) before failed (Ok (Some p)) (pieces_left new) after failed_then
+    pub read_found : (p : TextPiece) → IsNextPieceFrom (pieces_left old) before failed (Ok (Some p)) (pieces_left new) after failed_then
         → (item : Item) (stack : List Wanted) → item_on w (raw_of p) ≡ Ok item → reverse stack ≡ wanted_after w item ++ reverse below
         → ReadsItem (left_at (w ∷ reverse below) number old) before (Ok item) (left_at (reverse stack) (number + 1) new) after
     read_found p next item stack e stacked all sees =
@@ -64,7 +64,7 @@ module _ (old new : LinesHeld) (before after : Given) (failed failed_then : Bool
               ∙ ap (λ (t : List ℕ). first item (reading_from (reverse stack) (number + 1) (pieces new t))) (sym g.is),
         )
 
-    pub read_wrong : (p : Piece) → IsNextPieceFrom (pieces_left old) before failed (Ok (Some p)) (pieces_left new) after failed_then
+    pub read_wrong : (p : TextPiece) → IsNextPieceFrom (pieces_left old) before failed (Ok (Some p)) (pieces_left new) after failed_then
         → (fault : TextFault) (then : List Wanted) (m : ℕ) → ((fault.kind ≡ Memory → ⊥) → item_on w (raw_of p) ≡ Err fault.kind) → fault.line ≡ number
         → ReadsItem (left_at (w ∷ reverse below) number old) before (Err fault) (left_at then m new) after
     read_wrong p next fault then m e line all sees =
@@ -115,7 +115,7 @@ module _ (old new : LinesHeld) (before after : Given) (failed failed_then : Bool
           ),
         )
 
-    pub end_passed : (p : Piece) → IsNextPieceFrom (pieces_left old) before failed (Ok (Some p)) (pieces_left new) after failed_then
+    pub end_passed : (p : TextPiece) → IsNextPieceFrom (pieces_left old) before failed (Ok (Some p)) (pieces_left new) after failed_then
         → ReadsEnd (left_at [] number old) before (Err (text_fault_at AfterEnd number)) (left_at [] number new) after
     end_passed p next all sees =
         let g = goes before after next.pulled all next.given next.end sees in (
@@ -137,7 +137,7 @@ module _ (old new : LinesHeld) (before after : Given) (failed failed_then : Bool
     end_off of_line.TooManyLines next all sees = absurd next.answers
 
   -- a reader that has answered no fault
-  pub raw_next : (answer : Result (Option Piece) LineFault) → IsRawRead old before failed answer new after failed_then → old.fault ≡ None
+  pub raw_next : (answer : Result (Option TextPiece) LineFault) → IsRawRead old before failed answer new after failed_then → old.fault ≡ None
       → AnswersRaw None old before failed answer new after failed_then
   raw_next answer raw sound = subst (λ (f : Option LineFault). AnswersRaw f old before failed answer new after failed_then) sound raw
 

@@ -2,7 +2,7 @@
 
 ghost use Rattle.std.specs.Prelude.{◌≡◌, ℕ, ◌++◌, ◌==◌, ◌&&◌, true, false, List, [], ◌∷◌, Option, Some, None, Result, Ok, Err, IfOk, OnOk, MatchOption, codes, drop, length, reverse, option_map, string_bytes, map};
 ghost use Rattle.std.specs.{List.{slice_split, list_all}, Str.is_utf8};
-ghost use Rattle.field_lines.specs.{RawPieces.{RawLine, raw_lines}, Piece.raw_of};
+ghost use Rattle.field_lines.specs.{RawPieces.{RawLine, raw_lines}, TextPiece.raw_of};
 ghost use Rattle.cli_file_stores.specs.{Files.NamedFile, Memory.files_of, declared.whole_source.WholeFault.WholeFault};
 ghost use Rattle.cli.specs.Case.{whole_line, file_name, first_case_line, case_files, is_case, are_named, with_open, parts_of};
 ghost use Rattle.cli.specs.Delivery.{texts};
@@ -17,7 +17,7 @@ use crate::notes::Notes;
 use branch_bound::NoWatcher;
 use cli_answers::{MEMORY, RunAnswer, RunOutcome};
 use cli_file_stores::{MemoryFile, MemoryFileStore, Sink, WholeFault, read_whole};
-use field_lines::{Piece, RawLines, Source};
+use field_lines::{RawLines, Source, TextPiece};
 use std::alloc::{AllocError, Global};
 use written_output::{NoSink, Written};
 
@@ -42,7 +42,7 @@ fn named_file(line: &[u8]) -> Option<&[u8]>
 }
 
 /// Appends the bytes of `piece`, and an LF if one ends it.
-fn push_line(bytes: &mut Vec<u8>, piece: Piece<'_>) -> Result<(), AllocError>
+fn push_line(bytes: &mut Vec<u8>, piece: TextPiece<'_>) -> Result<(), AllocError>
     ensures { OnOk result (bytes.new.items ≡ bytes.old.items ++ whole_line (raw_of piece.entry)) }
 {
     bytes.extend_from_slice(piece.bytes)?;

@@ -48,12 +48,12 @@ impl<R: Files + AllocGlobal> DiskFileStore<R> {
 
 /// A reader that notes the kind of error that its last read gave.
 #[derive(Drop)]
-struct NotingReader<'a, R> {
+struct ReaderWithReason<'a, R> {
     reader: R,
     reason: &'a mut Option<ErrorKind>,
 }
 
-impl<R: Read> Read for NotingReader<'_, R> {
+impl<R: Read> Read for ReaderWithReason<'_, R> {
     fn read(&mut self, buf: &mut [u8]) -> io::Result<usize> {
         match self.reader.read(buf) {
             Ok(count) => {
@@ -148,7 +148,7 @@ impl<R: Files + AllocGlobal> DiskFileStore<R> {
             return Err(FileStoreFault::TooLarge);
         }
         let mut reason = None;
-        let mut source = Reading::new(NotingReader {
+        let mut source = Reading::new(ReaderWithReason {
             reader: file,
             reason: &mut reason,
         });

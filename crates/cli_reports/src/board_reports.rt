@@ -4,7 +4,7 @@ ghost use Rattle.std.specs.Prelude.{◌≡◌, ◌≤◌, min, Some, None, Optio
 ghost use Rattle.certificate_lines.specs.Lines.{most};
 ghost use Rattle.county_problem.specs.ProblemValue.{problem_of};
 ghost use Rattle.share_board.specs.Events.{event_of};
-ghost use Rattle.branch_bound.specs.declared.piece.Piece.{Piece as PieceValue};
+ghost use Rattle.branch_bound.specs.declared.piece_answer.PieceAnswer.{PieceAnswer as PieceAnswerValue};
 ghost use Rattle.board_report.specs.{PieceText.HasText, PieceAnswers.{IsAnswered, piece_budget}, BoardOutcome.IsShared};
 ghost use Rattle.cli_answers.specs.Answers.{answer_of};
 ghost use Rattle.run_laws.specs.BoardSteps.{format_of, depth_of, limit_of_words, AnswersOnBoard};
@@ -12,7 +12,7 @@ ghost use Rattle.run_laws.specs.PieceSteps.{no_such_piece, piece_said, piece_sta
 ghost use Rattle.branch_bound.specs.Resuming.{longest as longest_of};
 
 use board_report::{BoardShape, Shared, piece_text, prove_waiting, share};
-use branch_bound::Piece;
+use branch_bound::PieceAnswer;
 use certificate_data::Format;
 use cli_answers::{RunAnswer, RunOutcome};
 use cli_words::{PieceWords, RoundWords};
@@ -88,20 +88,20 @@ pub fn share_events(
 }
 
 /// Returns what a run comes to that gives `piece`.
-fn piece_outcome(piece: &Piece) -> RunOutcome {
+fn piece_outcome(piece: &PieceAnswer) -> RunOutcome {
     match piece {
-        Piece::Proved(_) | Piece::Better(_) | Piece::Wider(_) => RunOutcome::Done,
-        Piece::Open(part) => RunOutcome::PieceOpen(part.is_some()),
+        PieceAnswer::Proved(_) | PieceAnswer::Better(_) | PieceAnswer::Wider(_) => RunOutcome::Done,
+        PieceAnswer::Open(part) => RunOutcome::PieceOpen(part.is_some()),
     }
 }
 
 /// Returns the exit status of `piece`: 3 if the steps ran out, else 0.
-fn status_of(piece: &Piece) -> u8
+fn status_of(piece: &PieceAnswer) -> u8
     ensures { result ≡ piece_status piece.now }
 {
     match piece {
-        Piece::Proved(_) | Piece::Better(_) | Piece::Wider(_) => 0,
-        Piece::Open(_) => 3,
+        PieceAnswer::Proved(_) | PieceAnswer::Better(_) | PieceAnswer::Wider(_) => 0,
+        PieceAnswer::Open(_) => 3,
     }
 }
 
@@ -110,7 +110,7 @@ fn report_piece(
     alloc: Global,
     words: PieceWords<'_>,
     counties: u16,
-    piece: Piece,
+    piece: PieceAnswer,
 ) -> Result<RunAnswer, AllocError>
     requires few { counties ≤ most }
     requires text { HasText (format_of words.board.round) counties words.number piece }
@@ -140,7 +140,7 @@ fn report_answer(
     alloc: Global,
     words: PieceWords<'_>,
     counties: u16,
-    answer: Option<Piece>,
+    answer: Option<PieceAnswer>,
 ) -> Result<RunAnswer, AllocError>
     requires few { counties ≤ most }
     requires text { IfSome answer (HasText (format_of words.board.round) counties words.number) }
@@ -168,7 +168,7 @@ pub fn piece_and_report(
 ) -> Result<RunAnswer, BoardFault>
     ensures said { IfOk
         result
-        (λ a. (piece : Option PieceValue)
+        (λ a. (piece : Option PieceAnswerValue)
         × AnswersOnBoard problem.now grouping.now.groups.items words.entry.board.round piece_budget (λ round. IsAnswered (problem_of problem.now) (depth_of words.entry.board.round) round (map event_of events.items) words.entry.number) (Ok piece)
         × (answer_of a ≡ piece_said words.entry.round words.entry.number piece)) }
     ensures fault { IfErr

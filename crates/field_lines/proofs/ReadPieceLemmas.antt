@@ -2,7 +2,7 @@
 use Rattle.std.proofs.Common.{◌≡◌, ℕ, ◌+◌, ◌-◌, ◌^◌, ◌<◌, ◌≤◌, ◌==◌, nat_lt, eqb-true, Bool, true, false, List, [], ◌∷◌, ◌++◌, length, Option, Some, None, Result, Ok, Err, refl, sym, ap, ◌∙◌, append_assoc, arith, subst, length-append, length-take-le, if◌then◌else◌}
 use Rattle.std.proofs.lemmas.Bool.Decides.{nat_tests}
 use Rattle.field_lines.specs.RawPieces.{RawLine, raw_lines_from}
-use Rattle.field_lines.specs.Piece.{raw_of}
+use Rattle.field_lines.specs.TextPiece.{raw_of}
 use Rattle.field_lines.specs.Fault.{most_bytes}
 use Rattle.field_lines.specs.Source.{Given}
 use Rattle.field_lines.specs.HeldBytes.{Pulled, Pulls}
@@ -14,7 +14,7 @@ use Rattle.field_lines.specs.PiecesFrom.{BeginsTooLong, IsNextPieceFrom, pieces_
 use Rattle.field_lines.specs.ReadPiece.{raw_fault_at, TakesRaw}
 use Rattle.field_lines.specs.declared.fault.LineFault.{LineFault}
 use Rattle.field_lines.specs.declared.fault.LineFault.TheVariants.{LineTooLong, Memory}
-use Rattle.field_lines.specs.declared.raw_pieces.Piece.{Piece}
+use Rattle.field_lines.specs.declared.raw_pieces.TextPiece.{TextPiece}
 use Rattle.field_lines.specs.declared.taken_pieces.TakenPiece.{TakenPiece}
 use Rattle.field_lines.proofs.FrontLemmas.{lf_first, begins_with}
 
@@ -57,7 +57,7 @@ raw_faulty n old new g h d e lf count fault pulls front ok is =
     is
 
 -- an answer of a reader that has answered no fault so far
-reads_next : (old new : LinesHeld) (g h : Given) (d e : Bool) (answer : Result (Option Piece) LineFault) → old.fault ≡ None
+reads_next : (old new : LinesHeld) (g h : Given) (d e : Bool) (answer : Result (Option TextPiece) LineFault) → old.fault ≡ None
     → IsNextPieceFrom (pieces_left old) g d answer (pieces_left new) h e → new.fault ≡ fault_answered answer → IsAtLine answer new.number → IsPastNumbers answer new.number → IsRawRead old g d answer new h e
 reads_next old new g h d e answer sound next fault at past = subst (λ (o : Option LineFault). AnswersRaw o old g d answer new h e) (sym sound) (next, fault, at, past)
 
@@ -69,7 +69,7 @@ module _ (number : ℕ) (old new : Pulled) (fault : Option LineFault) (g h : Giv
   after n = record { bytes = new.bytes; number = n; fault = fault }
 
   -- a piece was taken
-  pub reads_piece : (t : TakenPiece) (p : Piece) → TakesRaw number old g d (Ok (Some t)) new h e → raw_of p ≡ piece_at number new t → IsRawRead before g d (Ok (Some p)) (after (number + 1)) h e
+  pub reads_piece : (t : TakenPiece) (p : TextPiece) → TakesRaw number old g d (Ok (Some t)) new h e → raw_of p ≡ piece_at number new t → IsRawRead before g d (Ok (Some p)) (after (number + 1)) h e
   reads_piece t p takes is =
       let more : number + 1 < 2 ^ 64 = takes.answers.2 in
       reads_next before (after (number + 1)) g h d e (Ok (Some p)) none (record {

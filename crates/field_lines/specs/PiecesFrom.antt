@@ -2,12 +2,12 @@
 use Rattle.std.specs.Prelude.{◌≡◌, ℕ, ◌-◌, ◌^◌, ◌<◌, Bool, true, List, [], ◌∷◌, ◌++◌, length, Option, Some, None}
 use Rattle.std.specs.Prelude.{Result, Ok, Err, OnOk, OnSome, IfOk}
 use Rattle.field_lines.specs.RawPieces.{RawLine, raw_lines_from}
-use Rattle.field_lines.specs.Piece.{raw_of}
+use Rattle.field_lines.specs.TextPiece.{raw_of}
 use Rattle.field_lines.specs.Fault.{most_bytes}
 use Rattle.field_lines.specs.Source.{Given}
 use Rattle.field_lines.specs.HeldBytes.{MayCome, StaysEnded}
 use Rattle.field_lines.specs.LinesFrom.{LinesHeld, FailsOnly, fault_answered, IsAtLine}
-use Rattle.field_lines.specs.declared.raw_pieces.Piece.{Piece}
+use Rattle.field_lines.specs.declared.raw_pieces.TextPiece.{TextPiece}
 use Rattle.field_lines.specs.declared.fault.LineFault.{LineFault}
 use Rattle.field_lines.specs.declared.fault.LineFault.TheVariants.{LineTooLong, TooManyLines, ReadFault, Memory}
 
@@ -38,7 +38,7 @@ BeginsTooLong number (p ∷ ps) = (p.number ≡ number) × (most_bytes < length 
 -- What is answered where `old` was left, and these bytes were pulled: whatever comes later, the first of the pieces, or
 -- that it is too long; at the end that there is none.
 abbrev pub AnswersPieces : (List ℕ → List RawLine) → List ℕ → (List ℕ → List RawLine) → Bool
-    → Result (Option Piece) LineFault → Type 0
+    → Result (Option TextPiece) LineFault → Type 0
 AnswersPieces old pulled new ended (Ok (Some p)) =
     (later : List ℕ) → MayCome ended later → old (pulled ++ later) ≡ raw_of p ∷ new later
 AnswersPieces old pulled new ended (Ok None) = (ended ≡ true) × (old pulled ≡ []) × (new [] ≡ [])
@@ -50,7 +50,7 @@ AnswersPieces old pulled new ended (Err TooManyLines) = ⊥
 
 -- What a call answers that has answered no fault so far. The source gave `pulled` meanwhile.
 pub record IsNextPieceFrom (old : PiecesLeft) (given_before : Given) (failed_before : Bool)
-    (answer : Result (Option Piece) LineFault) (new : PiecesLeft) (given_after : Given)
+    (answer : Result (Option TextPiece) LineFault) (new : PiecesLeft) (given_after : Given)
     (failed_after : Bool) : Type 0 where
   pub pulled : List ℕ
   pub given : given_after.bytes ≡ given_before.bytes ++ pulled
@@ -66,8 +66,8 @@ IsPastNumbers (Err Memory) number = number ≡ 2 ^ 64 - 1
 IsPastNumbers answer number = Unit {0}
 
 -- What a reader answers that has this fault: it stays, and nothing is pulled. Without one it answers the next piece.
-abbrev pub AnswersRaw : Option LineFault → LinesHeld → Given → Bool → Result (Option Piece) LineFault → LinesHeld → Given
-    → Bool → Type 0
+abbrev pub AnswersRaw : Option LineFault → LinesHeld → Given → Bool
+    → Result (Option TextPiece) LineFault → LinesHeld → Given → Bool → Type 0
 AnswersRaw (Some fault) old given_before failed_before answer new given_after failed_after =
     (answer ≡ Err fault) × (new ≡ old) × (given_after ≡ given_before) × (failed_after ≡ failed_before)
 AnswersRaw None old given_before failed_before answer new given_after failed_after =
@@ -75,11 +75,13 @@ AnswersRaw None old given_before failed_before answer new given_after failed_aft
     × (new.fault ≡ fault_answered answer) × IsAtLine answer new.number × IsPastNumbers answer new.number
 
 -- what a call of a reader of pieces answers
-abbrev pub IsRawRead : LinesHeld → Given → Bool → Result (Option Piece) LineFault → LinesHeld → Given → Bool → Type 0
+abbrev pub IsRawRead : LinesHeld → Given → Bool
+    → Result (Option TextPiece) LineFault → LinesHeld → Given → Bool → Type 0
 IsRawRead old given_before failed_before answer new given_after failed_after =
     AnswersRaw old.fault old given_before failed_before answer new given_after failed_after
 
 -- what a call of any reader of pieces answers, where the reader has answered no fault so far
-abbrev pub IsNextPieceOf : PiecesLeft → Given → Bool → Result (Option Piece) LineFault → PiecesLeft → Given → Bool → Type 0
+abbrev pub IsNextPieceOf : PiecesLeft → Given → Bool
+    → Result (Option TextPiece) LineFault → PiecesLeft → Given → Bool → Type 0
 IsNextPieceOf old given_before failed_before answer new given_after failed_after =
     old.fault ≡ None → IsNextPieceFrom old given_before failed_before answer new given_after failed_after

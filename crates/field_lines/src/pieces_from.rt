@@ -5,7 +5,7 @@ ghost use Rattle.field_lines.specs.Source.{Given, nothing_comes};
 ghost use Rattle.field_lines.specs.PiecesFrom.{PiecesLeft, pieces_of_text, pieces_left, IsNextPieceOf};
 
 use crate::fault::LineFault;
-use crate::raw_pieces::{Piece, RawLines};
+use crate::raw_pieces::{RawLines, TextPiece};
 use crate::raw_reader::RawReader;
 use crate::source::Source;
 
@@ -26,7 +26,7 @@ pub trait PiecesFrom<F> {
     /// # Errors
     ///
     /// Returns the same errors as `RawReader::next_piece`. A text in memory gives none.
-    fn next_from(&mut self, from: &mut F) -> Result<Option<Piece<'_>>, LineFault>
+    fn next_from(&mut self, from: &mut F) -> Result<Option<TextPiece<'_>>, LineFault>
         ensures* next { sem 𝓛 (Rests Self.row self.entry (λ new. IsNextPieceOf (left self.old) (given from.old) (is_failed from.old) result (left new) (given from.new) (is_failed from.new))) };
 }
 
@@ -38,7 +38,7 @@ impl PiecesFrom<()> for RawLines<'_> {
 
     ghost left = { pieces_of_text };
 
-    fn next_from(&mut self, _from: &mut ()) -> Result<Option<Piece<'_>>, LineFault> {
+    fn next_from(&mut self, _from: &mut ()) -> Result<Option<TextPiece<'_>>, LineFault> {
         let next = self.next_piece();
         let _left = &*self;
         Ok(next)
@@ -52,7 +52,7 @@ impl<S: Source> PiecesFrom<S> for RawReader {
 
     ghost left = { pieces_left };
 
-    fn next_from(&mut self, from: &mut S) -> Result<Option<Piece<'_>>, LineFault> {
+    fn next_from(&mut self, from: &mut S) -> Result<Option<TextPiece<'_>>, LineFault> {
         self.next_piece(from)
     }
 }

@@ -6,7 +6,7 @@ ghost use Rattle.field_lines.specs.ReadPiece.{raw_fault_at, TakesRaw};
 use crate::fault::LineFault;
 use crate::lines::MAX_LINE;
 use crate::pulled_bytes::PulledBytes;
-use crate::raw_pieces::Piece;
+use crate::raw_pieces::TextPiece;
 use crate::source::Source;
 use crate::taken_pieces::TakenPiece;
 use std::alloc::Global;
@@ -98,7 +98,10 @@ impl RawReader {
     /// Returns `LineTooLong` at a piece of more than `MAX_LINE` bytes. Returns `ReadFault` with the piece that was
     /// being read if the source failed. Returns `Memory` at piece 18,446,744,073,709,551,615. Each later call returns
     /// the same fault, and pulls nothing.
-    pub fn next_piece<S: Source>(&mut self, source: &mut S) -> Result<Option<Piece<'_>>, LineFault>
+    pub fn next_piece<S: Source>(
+        &mut self,
+        source: &mut S,
+    ) -> Result<Option<TextPiece<'_>>, LineFault>
         ensures bytes { IfOk result (λ next. IfSome next (λ p. length p.bytes.now ≤ most_bytes)) }
         ensures* next { sem 𝓛 (Rests the_row self.entry (λ new. IsRawRead self.old (S.given source.old) (S.is_failed source.old) result new (S.given source.new) (S.is_failed source.new))) }
     {
@@ -111,7 +114,7 @@ impl RawReader {
                 self.number = number + 1;
                 self.last = piece;
                 let bytes = self.pulled.taken(piece.from, piece.to);
-                Ok(Some(Piece {
+                Ok(Some(TextPiece {
                     number,
                     bytes,
                     ended: piece.ended,

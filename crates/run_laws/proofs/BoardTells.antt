@@ -17,8 +17,8 @@ use Rattle.board_report.specs.BoardOutcome.{IsShared, IsJoinedText, AreJoined, b
 use Rattle.board_report.specs.Rounds.{IsFirstRound}
 use Rattle.board_report.specs.PieceAnswers.{IsAnswered, piece_budget}
 use Rattle.board_report.specs.declared.board_outcome.Shared.{Shared}
-use Rattle.branch_bound.specs.declared.piece.Piece.{Piece as PieceAnswer}
-use Rattle.branch_bound.specs.declared.piece.Piece.TheVariants.{Proved, Better, Wider, Open}
+use Rattle.branch_bound.specs.declared.piece_answer.PieceAnswer.{PieceAnswer}
+use Rattle.branch_bound.specs.declared.piece_answer.PieceAnswer.TheVariants.{Proved, Better, Wider, Open}
 use Rattle.cli_words.specs.declared.words.BoardWords.{BoardWords}
 use Rattle.cli_words.specs.declared.words.ShareWords.{ShareWords}
 use Rattle.cli_words.specs.declared.words.PieceWords.{PieceWords}

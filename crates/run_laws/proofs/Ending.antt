@@ -7,7 +7,7 @@ use Rattle.cli_answers.specs.Answer.{Answered, memory_answer}
 use Rattle.run_laws.specs.Steps.{Steps}
 use Rattle.run_laws.specs.Storing.{EndsStoring, store_steps, said_after}
 use Rattle.run_laws.proofs.Refusing.{IsRefusal, Refuses}
-use Rattle.run_laws.proofs.StoreLemmas.{StoresAndSays, refusal_status, all_stored}
+use Rattle.run_laws.proofs.StoreLemmas.{StoresThenAnswers, refusal_status, all_stored}
 
 pub same_status : (a b : Answered) → a ≡ b → a.status ≡ b.status
 same_status a b e = ap (λ (x : Answered). x.status) e
@@ -38,12 +38,12 @@ module _ {S : Type 0} (steps : Steps S) (files_of : S → List NamedFile) (say :
       absurd (not_refused a low (inr (same_status a (say s (Some refusal)) said ∙ same s refusal ∙ refusal_status (files_of s) between after stored refusal stores)))
 
   -- they stopped, or they came to a value
-  pub stopped_or_said : StoresAndSays steps files_of say before after stored a → steps before after (Err a) ⊎ HasEnded steps files_of (λ s. say s None) before stored a
+  pub stopped_or_said : StoresThenAnswers steps files_of say before after stored a → steps before after (Err a) ⊎ HasEnded steps files_of (λ s. say s None) before stored a
   stopped_or_said (inl stop) = inl stop.0
   stopped_or_said (inr h) = inr (said_with h.0 h.1 h.2 h.3 h.4 h.5)
 
   -- steps that stop in refusals alone came to a value
-  pub has_said : Refuses steps → StoresAndSays steps files_of say before after stored a → HasEnded steps files_of (λ s. say s None) before stored a
+  pub has_said : Refuses steps → StoresThenAnswers steps files_of say before after stored a → HasEnded steps files_of (λ s. say s None) before stored a
   has_said refuses (inl stop) = absurd (not_refused a low (refuses before after a stop.0))
   has_said refuses (inr h) = said_with h.0 h.1 h.2 h.3 h.4 h.5
 

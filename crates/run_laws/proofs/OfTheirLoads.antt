@@ -61,7 +61,7 @@ use Rattle.run_laws.specs.Recording.{RecordEnds}
 use Rattle.run_laws.specs.Run.{CommandEnds, CommandRun, IsRunAnswer, RunsAsAsked}
 use Rattle.run_laws.specs.Loads.{AnsweredBy, RunsAreOfTheirLoads}
 use Rattle.run_laws.specs.Headline.{IsStoreTaken}
-use Rattle.run_laws.proofs.StoreLemmas.{StoresAndSays}
+use Rattle.run_laws.proofs.StoreLemmas.{StoresThenAnswers}
 use Rattle.run_laws.proofs.Lifting.{Extends, extends_same, extends_twice, answered_split, Lifts, lifts_load, lifts_read_one, lifts_given_of, lifts_given_of_both, lifts_call, lifts_value, lifts_bind, lifts_optional, ends_lift}
 
 -- files that are stored add events
@@ -184,8 +184,8 @@ module _ (given : Option Files) (files : Files) where
 
   -- steps after whose files something is said
   saying_ends : {S : Type 0} (steps on_files : Steps S) (files_of : S → List NamedFile) (say : S → Option Answered → Answered) → Lifts given files steps on_files
-      → (before after : History) (stored : List NamedFile) (a : Answered) → StoresAndSays steps files_of say before after stored a → AnsweredBy files before after
-      → StoresAndSays on_files files_of say before after stored a
+      → (before after : History) (stored : List NamedFile) (a : Answered) → StoresThenAnswers steps files_of say before after stored a → AnsweredBy files before after
+      → StoresThenAnswers on_files files_of say before after stored a
   saying_ends steps on_files files_of say lift before after stored a (inl h) by = inl (lift.lifts before after (Err a) h.0 by, h.1)
   saying_ends steps on_files files_of say lift before after stored a (inr h) by =
       let parts = answered_split given files before h.1 after (lift.extends before h.1 (Ok h.0) h.3) (stores_extend _ h.1 after stored h.2 h.4) by in
@@ -227,7 +227,7 @@ module _ (given : Option Files) (files : Files) where
   quiet_extends steps on_files lift before after a (inr h) = lift.extends before after (Err a) h
 
   saying_extends : {S : Type 0} (steps on_files : Steps S) (files_of : S → List NamedFile) (say : S → Option Answered → Answered) → Lifts given files steps on_files
-      → (before after : History) (stored : List NamedFile) (a : Answered) → StoresAndSays steps files_of say before after stored a → Extends before after
+      → (before after : History) (stored : List NamedFile) (a : Answered) → StoresThenAnswers steps files_of say before after stored a → Extends before after
   saying_extends steps on_files files_of say lift before after stored a (inl h) = lift.extends before after (Err a) h.0
   saying_extends steps on_files files_of say lift before after stored a (inr h) =
       let read = lift.extends before h.1 (Ok h.0) h.3 in
@@ -313,7 +313,7 @@ module _ (given : Option Files) (files : Files) where
       by_place rest (inr later) = taken_later before h.0 after f.name f.bytes (_, h.2.1) (rest later)
 
   saying_taken : {S : Type 0} (steps on_files : Steps S) (files_of : S → List NamedFile) (say : S → Option Answered → Answered) → Lifts given files steps on_files
-      → (before after : History) (stored : List NamedFile) (a : Answered) → StoresAndSays steps files_of say before after stored a → (f : NamedFile) → Contains stored f → IsStoreTaken before after f.name f.bytes
+      → (before after : History) (stored : List NamedFile) (a : Answered) → StoresThenAnswers steps files_of say before after stored a → (f : NamedFile) → Contains stored f → IsStoreTaken before after f.name f.bytes
   saying_taken steps on_files files_of say lift before after stored a (inl h) f there = absurd (none_holds stored f h.1 there)
   saying_taken steps on_files files_of say lift before after stored a (inr h) f there =
       taken_later before h.1 after f.name f.bytes (lift.extends before h.1 (Ok h.0) h.3) (stores_taken (files_of h.0) h.1 after stored h.2 h.4 f there)

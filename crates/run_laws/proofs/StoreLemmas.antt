@@ -11,8 +11,8 @@ use Rattle.run_laws.proofs.Texts.{file_store_status}
 
 -- Steps come to what is to be stored, and its files are then stored. What is said is said by the answer to the file
 -- that was refused, if one was.
-abbrev pub StoresAndSays : {S : Type 0} → Steps S → (S → List NamedFile) → (S → Option Answered → Answered) → History → History → List NamedFile → Answered → Type 0
-StoresAndSays {S} steps files_of say before after stored a =
+abbrev pub StoresThenAnswers : {S : Type 0} → Steps S → (S → List NamedFile) → (S → Option Answered → Answered) → History → History → List NamedFile → Answered → Type 0
+StoresThenAnswers {S} steps files_of say before after stored a =
     (steps before after (Err a) × (stored ≡ []))
     ⊎ ((s : S) × (between : History) × (refusal : Option Answered) × steps before between (Ok s) × store_steps (files_of s) between after stored refusal × (a ≡ say s refusal))
 

@@ -44,7 +44,7 @@ use Rattle.partial_trees.specs.declared.tree.PartialTree.{PartialTree}
 use Rattle.partial_trees.specs.PartialValue.{partial_of}
 use Rattle.board_report.specs.Resuming.{resuming_events}
 use Rattle.branch_bound.specs.Resuming.{IsBestPart}
-use Rattle.branch_bound.specs.declared.piece.Piece.{Piece as PieceAnswer}
+use Rattle.branch_bound.specs.declared.piece_answer.PieceAnswer.{PieceAnswer}
 use Rattle.cli_words.specs.Words.{Means, takes_words, standard_input}
 use Rattle.cli_words.specs.declared.words.CommonWords.{CommonWords}
 use Rattle.cli_words.specs.declared.words.ProblemWords.{ProblemWords}

@@ -4,8 +4,8 @@ use Rattle.std.specs.Prelude.{◌≡◌, ℕ, List, length, Option, Some, None, 
 use Rattle.grouping_laws.specs.Grouping.{Grouping}
 use Rattle.county_problem.specs.ProblemValue.{ProblemValue, problem_of}
 use Rattle.board_laws.specs.Content.{Event}
-use Rattle.branch_bound.specs.declared.piece.Piece as solver
-use Rattle.branch_bound.specs.declared.piece.Piece.TheVariants.{Proved, Better, Wider, Open}
+use Rattle.branch_bound.specs.declared.piece_answer.PieceAnswer.{PieceAnswer}
+use Rattle.branch_bound.specs.declared.piece_answer.PieceAnswer.TheVariants.{Proved, Better, Wider, Open}
 use Rattle.board_report.specs.PieceAnswers.{IsAnswered, piece_budget}
 use Rattle.board_report.specs.PieceText.{piece_text_of}
 use Rattle.cli_words.specs.declared.words.PieceWords.{PieceWords}
@@ -21,7 +21,7 @@ abbrev pub no_such_piece : Answered
 no_such_piece = record { text = codes "no such piece\n"; status = 4 }
 
 -- the exit status: 3 where the steps ran out
-abbrev pub piece_status : solver.Piece → ℕ
+abbrev pub piece_status : PieceAnswer → ℕ
 piece_status (Proved tree) = 0
 piece_status (Better g) = 0
 piece_status (Wider g) = 0
@@ -29,12 +29,12 @@ piece_status (Open split) = 3
 
 -- What is said of the piece of a number: what a solver answers of it, with the round of the words, or that there is
 -- none.
-abbrev pub piece_said : ℕ → ℕ → Option solver.Piece → Answered
+abbrev pub piece_said : ℕ → ℕ → Option PieceAnswer → Answered
 piece_said round number None = no_such_piece
 piece_said round number (Some piece) = record { text = piece_text_of round number piece; status = piece_status piece }
 
 -- the step in which a solver proves a piece
-abbrev pub piece_step : ProblemValue → Grouping → PieceWords → List Event → Steps (Option solver.Piece)
+abbrev pub piece_step : ProblemValue → Grouping → PieceWords → List Event → Steps (Option PieceAnswer)
 piece_step v g words events =
     call_step board_answer
     (AnswersOnBoard v g words.board.round piece_budget

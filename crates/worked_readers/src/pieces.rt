@@ -5,7 +5,7 @@ use crate::calls::{Call, show_failing, show_parts};
 use crate::script::{Manner, source_of};
 use crate::texts::{FAILING, TEXTS, long_text};
 use anyhow::{Error, Result};
-use field_lines::{LineFault, Piece, PiecesFrom, RawLines, RawReader};
+use field_lines::{LineFault, PiecesFrom, RawLines, RawReader, TextPiece};
 use std::alloc::Global;
 
 /// The pieces of a text.
@@ -15,7 +15,7 @@ struct PiecesOf<'a> {
 }
 
 /// Returns in words the answer `next` of one call. Returns an error if memory was refused.
-fn answer(alloc: Global, next: Result<Option<Piece<'_>>, LineFault>) -> Result<String> {
+fn answer(alloc: Global, next: Result<Option<TextPiece<'_>>, LineFault>) -> Result<String> {
     match next {
         Ok(Some(piece)) => {
             let bytes = shown(alloc, piece.bytes)?;

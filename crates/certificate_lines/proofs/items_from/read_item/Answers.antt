@@ -1,7 +1,7 @@
 use Rattle.std.proofs.Common.{◌+◌, ◌∷◌, reverse, Option, Some, Result, Ok, Err, ◌∙◌, ap, sym, subst}
-use Rattle.field_lines.specs.Piece.{raw_of}
+use Rattle.field_lines.specs.TextPiece.{raw_of}
 use Rattle.field_lines.specs.PiecesFrom.{IsRawRead}
-use Rattle.field_lines.specs.declared.raw_pieces.Piece.{Piece}
+use Rattle.field_lines.specs.declared.raw_pieces.TextPiece.{TextPiece}
 use Rattle.field_lines.specs.declared.fault.LineFault.{LineFault}
 use Rattle.certificate_lines.specs.ItemsLeft.{left_at, ReadsItem}
 use Rattle.certificate_lines.specs.declared.fault.TextFault.{TextFault}
@@ -18,8 +18,8 @@ returns-in-Ok-clause-read g c =
     let failed = g.S.Source.is_failed c.args.from.now in
     let failed_then = g.S.Source.is_failed c.next_piece.new.source in
     let p = c.in-Ok-Some.piece in
-    let raw = subst (λ (a : Result (Option Piece) LineFault). IsRawRead old before failed a new after failed_then)
-    (c.in-Ok-Some.is ∙ ap (λ (o : Option Piece). Ok o) c.in-Ok-Some.field-0-is) c.next_piece.follows.holds-at-none in
+    let raw = subst (λ (a : Result (Option TextPiece) LineFault). IsRawRead old before failed a new after failed_then)
+    (c.in-Ok-Some.is ∙ ap (λ (o : Option TextPiece). Ok o) c.in-Ok-Some.field-0-is) c.next_piece.follows.holds-at-none in
     read_found old new before after failed failed_then c.args.wanted c.args.stack.now.items c.args.line p (raw_next old new before after failed failed_then (Ok (Some p)) raw c.requires.sound).0 c.in-Ok.item c.item_at.new.stack.items (c.in-Ok.ensures.read p.number) c.in-Ok.ensures.stacked
 
 pub returns-in-Ok-clause-bounded : goal.returns-in-Ok-clause-bounded
@@ -34,6 +34,6 @@ returns-in-Err-clause-read g c =
     let after = g.S.Source.given c.next_piece.new.source in
     let failed = g.S.Source.is_failed c.args.from.now in
     let failed_then = g.S.Source.is_failed c.next_piece.new.source in
-    let raw = subst (λ (a : Result (Option Piece) LineFault). IsRawRead old before failed a new after failed_then) c.in-Err.is c.next_piece.follows.holds-at-none in
+    let raw = subst (λ (a : Result (Option TextPiece) LineFault). IsRawRead old before failed a new after failed_then) c.in-Err.is c.next_piece.follows.holds-at-none in
     subst (λ (f : TextFault). ReadsItem (left_at (c.args.wanted ∷ reverse c.args.stack.now.items) c.args.line old) before (Err f) (left_at (reverse c.args.stack.now.items) (c.args.line + 1) new) after) (sym c.fault_of_reader.ensures)
     (read_off old new before after failed failed_then c.args.wanted c.args.stack.now.items c.args.line c.in-Err.fault (raw_next old new before after failed failed_then (Err c.in-Err.fault) raw c.requires.sound).0 (reverse c.args.stack.now.items) (c.args.line + 1))

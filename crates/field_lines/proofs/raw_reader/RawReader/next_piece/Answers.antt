@@ -1,7 +1,7 @@
 use Rattle.std.proofs.Common.{◌≡◌, ◌≤◌, ◌+◌, ℕ, List, None, Ok, Some, length, refl, sym, ap, subst}
 use Rattle.field_lines.specs.Fault.{most_bytes}
-use Rattle.field_lines.specs.Piece.{raw_of}
-use Rattle.field_lines.specs.declared.raw_pieces.Piece.{Piece}
+use Rattle.field_lines.specs.TextPiece.{raw_of}
+use Rattle.field_lines.specs.declared.raw_pieces.TextPiece.{TextPiece}
 use Rattle.field_lines.specs.TakenPieces.{piece_at}
 use Rattle.field_lines.specs.LinesFrom.{LinesHeld}
 use Rattle.field_lines.specs.PiecesFrom.{IsRawRead}
@@ -19,7 +19,7 @@ returns-in-Ok-Some g c =
     let failed_before = g.S.Source.is_failed c.args.source.now in
     let failed_after = g.S.Source.is_failed c.take_raw.new.source in
     let t = c.in-Ok-Some.piece in
-    let p : Piece = record { number = n; bytes = c.taken-bytes.result; ended = t.ended } in
+    let p : TextPiece = record { number = n; bytes = c.taken-bytes.result; ended = t.ended } in
     let takes : TakesRaw n inside.pulled given_before failed_before (Ok (Some t)) new given_after failed_after = rw c.in-Ok-Some.field-0-is at c.in-Ok-Some.ensures in
     let is : raw_of p ≡ piece_at n new t = ap (λ (l : List ℕ). record { number = n; bytes = l; ended = t.ended }) c.taken-bytes.ensures in
     let next = reads_piece n inside.pulled new inside.fault given_before given_after failed_before failed_after c.in_default.is t p takes is in

@@ -6,7 +6,7 @@ use partial_trees::PartialTree;
 
 /// The solver's answer to a piece, which is a state of a round.
 #[derive(Debug, Drop)]
-pub enum Piece {
+pub enum PieceAnswer {
     /// A proof tree of the state: no lawful grouping that agrees with the state is greater than the target.
     Proved(Tree),
     /// A lawful grouping that agrees with the state and is greater than the target, with no group above the limit.
