@@ -20,7 +20,7 @@ use Rattle.certificate_text.proofs.Texts.{have_texts}
 use Rattle.board_laws.specs.PartialTrees.{PartialTree}
 use Rattle.board_laws.specs.Content.{part_piece}
 use Rattle.branch_bound.specs.Resuming.{proving_round, IsBestPart}
-use Rattle.branch_bound.specs.Pieces.{IsPiece}
+use Rattle.branch_bound.specs.Pieces.{IsPieceAnswer}
 use Rattle.branch_bound.proofs.Rounds.{listed_order}
 use Rattle.branch_bound.specs.declared.piece_answer.PieceAnswer.{PieceAnswer}
 use Rattle.branch_bound.specs.declared.piece_answer.PieceAnswer.TheVariants.{Proved, Better, Wider, Open}
@@ -35,8 +35,8 @@ groups_fit g lines =
     subst (λ (z : List Wanted). AllFit z (map Grouped g)) (append-nil (groups_wanted (length g)))
     (subst (λ (z : List Item). AllFit (groups_wanted (length g) ++ []) z) (append-nil (map Grouped g)) (target_fits (Some g) [] [] lines tt).1)
 
-pub has_text : (p : Problem) (round : Round) (s : State) (number : ℕ) (piece : PieceAnswer) → IsOrder p round.order → IsState p round s → round.limit ≤ most → number ≤ greatest → IsPiece p round s piece
-    → HasText round.format (length round.order) number piece
+pub has_text : (p : Problem) (round : Round) (s : State) (number : ℕ) (answer : PieceAnswer) → IsOrder p round.order → IsState p round s → round.limit ≤ most → number ≤ greatest → IsPieceAnswer p round s answer
+    → HasText round.format (length round.order) number answer
 has_text p round s number (Proved tree) order state small few is r low = record { line = (low, few); items = have_texts.tree p round s (tree_of tree) order state is.0 is.1; form = tt }
 has_text p round s number (Better g) order state small few is r low = record { line = (low, is.2.few); items = groups_fit g.groups.items is.2; form = tt }
 has_text p round s number (Wider g) order state small few is r low = record { line = low; items = tt; form = tt }

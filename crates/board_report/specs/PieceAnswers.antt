@@ -10,7 +10,7 @@ use Rattle.board_laws.specs.Skeleton.{waiting}
 use Rattle.board_laws.specs.Standing.{StandsAt}
 use Rattle.board_laws.specs.Content.{Content, Event, Reply}
 use Rattle.share_board.specs.declared.board.Board.{Board}
-use Rattle.branch_bound.specs.Pieces.{IsPiece}
+use Rattle.branch_bound.specs.Pieces.{IsPieceAnswer}
 use Rattle.branch_bound.specs.declared.piece_answer.PieceAnswer.{PieceAnswer}
 use Rattle.board_report.specs.Taking.{EventsAreTaken, NoneRefused}
 
@@ -27,14 +27,14 @@ IsStateHeld test board b number (Some state) =
     × StandsAt b.skeleton b.round (empty_state (problem_of board.problem)) number
     (state_at board.round.order test state)
 
--- an answer of the piece at its state, exactly where it waits
+-- an answer to the piece at its state, exactly where it waits
 abbrev pub IsAnswerAt : Problem → Content → ℕ → Option PieceAnswer → Type 0
 IsAnswerAt p b number None = ¬ Contains (waiting b.skeleton) number
-IsAnswerAt p b number (Some piece) =
+IsAnswerAt p b number (Some answer) =
     Contains (waiting b.skeleton) number
-    × ((s : State) × StandsAt b.skeleton b.round (empty_state p) number s × IsPiece p b.round s piece)
+    × ((s : State) × StandsAt b.skeleton b.round (empty_state p) number s × IsPieceAnswer p b.round s answer)
 
--- the piece of a board that has taken all events
+-- an answer to the piece of a board that has taken all events
 pub record IsAnswered (p : Problem) (depth : ℕ) (round : Round) (events : List Event) (number : ℕ)
     (answer : Option PieceAnswer) : Type 0 where
   pub replies : List Reply

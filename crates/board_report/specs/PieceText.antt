@@ -23,9 +23,9 @@ told (Some event) = text_of_event event
 told None = codes "open\n"
 
 abbrev pub piece_text_of : ℕ → ℕ → PieceAnswer → List ℕ
-piece_text_of round number piece = told (event_in round number piece)
+piece_text_of round number answer = told (event_in round number answer)
 
 -- whatever the number of the round, a text spells the event, if there is one
 abbrev pub HasText : Format → (counties number : ℕ) → PieceAnswer → Type 0
-HasText format counties number piece =
-    (round : ℕ) → round ≤ greatest → IfSome (event_in round number piece) (HasSpelling format counties)
+HasText format counties number answer =
+    (round : ℕ) → round ≤ greatest → IfSome (event_in round number answer) (HasSpelling format counties)

@@ -13,12 +13,12 @@ use certificate_lines::WriteFault;
 use share_board::Event;
 use std::alloc::{AllocError, Global};
 
-/// Returns the event that gives the answer `piece` to a board, for the piece `number` of the round `round`. Returns
+/// Returns the event that gives the `answer` to a board, for the piece `number` of the round `round`. Returns
 /// `None` if the steps ran out before the search began a branch.
-fn answer_event(piece: PieceAnswer, round: u32, number: u32) -> Option<Event>
-    ensures { option_map event_of result ≡ event_in round number piece }
+fn answer_event(answer: PieceAnswer, round: u32, number: u32) -> Option<Event>
+    ensures { option_map event_of result ≡ event_in round number answer }
 {
-    match piece {
+    match answer {
         PieceAnswer::Proved(tree) => Some(Event::Result(round, number, tree)),
         PieceAnswer::Better(grouping) => Some(Event::Better(round, grouping)),
         PieceAnswer::Wider(_) => Some(Event::Wider(round)),
@@ -47,7 +47,7 @@ pub(crate) fn event_lines(
     }
 }
 
-/// Returns what is printed of a solver's answer `piece` in the round with the number `round`. It is the text of the
+/// Returns what is printed of a solver's `answer` in the round with the number `round`. It is the text of the
 /// event that gives the answer to a board, or `open` if no branch was begun.
 ///
 /// # Errors
@@ -55,18 +55,18 @@ pub(crate) fn event_lines(
 /// Returns `AllocError` if memory was refused.
 pub fn piece_text(
     alloc: Global,
-    piece: PieceAnswer,
+    answer: PieceAnswer,
     round: u32,
     number: u32,
     format: Format,
     counties: u16,
 ) -> Result<Vec<u8>, AllocError>
     requires few { counties ≤ most }
-    requires spelled { HasText format counties number piece }
-    ensures text { IfOk result (λ text. text.items ≡ piece_text_of round number piece) }
-    ensures spelled { IfOk result (λ text. IfSome (event_in round number piece) (λ event. EventsAreSpelled format counties text.items (event ∷ []))) }
+    requires spelled { HasText format counties number answer }
+    ensures text { IfOk result (λ text. text.items ≡ piece_text_of round number answer) }
+    ensures spelled { IfOk result (λ text. IfSome (event_in round number answer) (λ event. EventsAreSpelled format counties text.items (event ∷ []))) }
 {
-    match answer_event(piece, round, number) {
+    match answer_event(answer, round, number) {
         Some(event) => event_lines(alloc, &event, format, counties),
         None => Vec::from_slice(alloc, b"open\n"),
     }

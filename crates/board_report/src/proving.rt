@@ -71,8 +71,8 @@ fn answer_at<C: CountySet>(
         return Ok(None);
     };
     let mut steps = Steps::new(steps);
-    let piece = prove_piece(alloc, problem, board.proof_round(), &state, &mut steps)?;
-    Ok(Some(piece))
+    let answer = prove_piece(alloc, problem, board.proof_round(), &state, &mut steps)?;
+    Ok(Some(answer))
 }
 
 /// Returns what `prove_waiting` returns for the piece `number`, with any form of sets of places that has room for the

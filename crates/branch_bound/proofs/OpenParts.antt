@@ -1,5 +1,5 @@
 -- Partial trees of what a search has proved when its steps run out.
-use Rattle.std.proofs.Common.{◌≡◌, ℕ, ◌+◌, ◌-◌, ◌≤◌, ◌<◌, inl, inr, List, [], ◌∷◌, ◌++◌, length, map, drop, get_or, take as firsts, take_all, Vec, Global, Option, Some, None, Result, Ok, Err, IfOk, IfSome, refl, sym, ap, ◌∙◌, subst, arith, append_assoc, append-nil}
+use Rattle.std.proofs.Common.{◌≡◌, ℕ, ◌+◌, ◌-◌, ◌≤◌, ◌<◌, inl, inr, List, [], ◌∷◌, ◌++◌, length, map, drop, get_or, take as firsts, take_all, Vec, Global, Option, None, Result, Ok, Err, IfOk, refl, sym, ap, ◌∙◌, subst, arith, append_assoc, append-nil}
 use Rattle.std.specs.List.{AllByRecursion}
 use Rattle.std.specs.Iterator.{Yields}
 use Rattle.std.specs.Vec.Iter.{into_iter_items, into_iter_len, into_iter_steps}
@@ -41,8 +41,6 @@ use Rattle.partial_trees.proofs.PartialLists.{made_tree, made_takes, made_take, 
 use Rattle.branch_bound.specs.declared.outcome.SearchOutcome.{SearchOutcome}
 use Rattle.branch_bound.specs.declared.outcome.SearchOutcome.TheVariants as outcome
 use Rattle.branch_bound.specs.Searching.{AreTakesOf, IsOutcome}
-use Rattle.branch_bound.specs.declared.piece_answer.PieceAnswer.TheVariants.{Open}
-use Rattle.branch_bound.specs.Pieces.{IsPiece}
 use Rattle.branch_bound.specs.Parts.{whole_takes, whole_branch, whole_branches, IsOpenPart}
 use Rattle.branch_bound.proofs.Joining.{all_parts}
 
@@ -286,8 +284,3 @@ begun_part p round s t some is = (go (out-PartialTree t).branches.items (rest_of
     go : (bs : List PartialBranch) (rest part : PartialTree) → (bs ≡ [] → ⊥) → part ≡ list_onto bs rest → 1 ≤ open_leaves part → IsPart part
     go [] rest part none e leaves = absurd (none refl)
     go (PartialBranch' county limit shape takes ∷ bs) rest part none e leaves = subst IsPart (sym e) (subst (λ z. 1 ≤ open_leaves z) e leaves)
-
--- and what a solver answers with it, if there is one
-pub open_answer : (p : Problem) (round : Round) (s : State) (r : Option PartialTreeHeld) → IfSome r (λ t. IsPart (partial_of t) × IsPartProof p round s (partial_of t) × BranchesAreOpen (partial_of t)) → IsPiece p round s (Open r)
-open_answer p round s None is = tt
-open_answer p round s (Some part) is = is

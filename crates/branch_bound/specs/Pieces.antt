@@ -18,13 +18,13 @@ use Rattle.branch_bound.specs.declared.piece_answer.PieceAnswer.TheVariants.{Pro
 -- A proof tree of the state that a text spells, a lawful grouping that agrees with the state and is greater than the
 -- target, or a partial tree of the state that texts spell. A grouping that is within the limit is one that a text
 -- spells.
-abbrev pub IsPiece : Problem → Round → State → PieceAnswer → Type 0
-IsPiece p round s (Proved tree) = Proves (tree_of tree) p round s × HasLines round.format (tree_of tree)
-IsPiece p round s (Better g) =
+abbrev pub IsPieceAnswer : Problem → Round → State → PieceAnswer → Type 0
+IsPieceAnswer p round s (Proved tree) = Proves (tree_of tree) p round s × HasLines round.format (tree_of tree)
+IsPieceAnswer p round s (Better g) =
     IsFound p round s g.groups.items × HasGroupsWithin round.limit g.groups.items × HasTargetLines g.groups.items
-IsPiece p round s (Wider g) = IsFound p round s g.groups.items × ¬ HasGroupsWithin round.limit g.groups.items
-IsPiece p round s (Open None) = ⊤
-IsPiece p round s (Open (Some part)) =
+IsPieceAnswer p round s (Wider g) = IsFound p round s g.groups.items × ¬ HasGroupsWithin round.limit g.groups.items
+IsPieceAnswer p round s (Open None) = ⊤
+IsPieceAnswer p round s (Open (Some part)) =
     IsPart (partial_of part) × IsPartProof p round s (partial_of part) × BranchesAreOpen (partial_of part)
 
 -- the steps ran out

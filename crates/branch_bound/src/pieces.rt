@@ -13,7 +13,7 @@ ghost use Rattle.county_problem.specs.ProblemValue.{problem_of};
 ghost use Rattle.state_groups.specs.PlacedValues.{state_at, IsPlaced};
 ghost use Rattle.branch_bound.specs.PlainRounds.{IsPlainGround, IsStateOf};
 ghost use Rattle.branch_bound.specs.Searching.{search_problem, search_round, search_state, IsSearchInput, IsBetter, IsOutcome, IsStopped};
-ghost use Rattle.branch_bound.specs.{Parts.IsOpenPart, Pieces.{IsPiece, IsOpen}};
+ghost use Rattle.branch_bound.specs.{Parts.IsOpenPart, Pieces.{IsPieceAnswer, IsOpen}};
 ghost use Rattle.search_groups.specs.PartLists.{AreListsOf};
 ghost use Rattle.partial_trees.specs.PartialValue.{partial_of};
 
@@ -46,9 +46,9 @@ fn is_within(grouping: &Grouping, limit: u16) -> bool
 }
 
 /// Returns the answer for a greater grouping that was `found`.
-fn found_piece(round: &Round, found: Grouping) -> PieceAnswer
+fn found_answer(round: &Round, found: Grouping) -> PieceAnswer
     ensures piece { (p : ProblemLaw) (s : StateValue) → IsBetter p (round_of round.now) s found
-        → IsPiece p (round_of round.now) s result }
+        → IsPieceAnswer p (round_of round.now) s result }
     ensures closed { ¬ IsOpen result }
 {
     if is_within(&found, round.limit) {
@@ -59,24 +59,24 @@ fn found_piece(round: &Round, found: Grouping) -> PieceAnswer
 }
 
 /// Returns the answer where the steps ran out, given the `part` that was proved by then.
-fn open_piece(part: PartialTree) -> PieceAnswer
+fn open_answer(part: PartialTree) -> PieceAnswer
     ensures piece { (p : ProblemLaw) (round : RoundValue) (s : StateValue) → IsOpenPart p round s (partial_of part)
-        → IsPiece p round s result }
+        → IsPieceAnswer p round s result }
     ensures open { IsOpen result }
 {
     PieceAnswer::Open(begun_part(part))
 }
 
 /// Returns the answer for an `outcome` of the search.
-fn piece_of(round: &Round, outcome: SearchOutcome) -> PieceAnswer
+fn answer_for(round: &Round, outcome: SearchOutcome) -> PieceAnswer
     ensures piece { (p : ProblemLaw) (s : StateValue) → IsOutcome p (round_of round.now) s outcome
-        → IsPiece p (round_of round.now) s result }
+        → IsPieceAnswer p (round_of round.now) s result }
     ensures open { IsOpen result ↔ IsStopped outcome }
 {
     match outcome {
         SearchOutcome::Proved(tree) => PieceAnswer::Proved(tree),
-        SearchOutcome::Better(found) => found_piece(round, found),
-        SearchOutcome::Open(part) => open_piece(part),
+        SearchOutcome::Better(found) => found_answer(round, found),
+        SearchOutcome::Open(part) => open_answer(part),
     }
 }
 
@@ -92,15 +92,15 @@ fn wide_piece<C: CountySet>(
     requires state { IsState (search_problem input.now) (search_round input.now) (search_state input.now C.test state.now) }
     requires lists { AreListsOf C.test (place_problem input.now.graph.now) (graph_places input.now.graph.now) lists.old }
     ensures lists { AreListsOf C.test (place_problem input.now.graph.now) (graph_places input.now.graph.now) lists.new }
-    ensures piece { IfOk result (IsPiece (search_problem input.now) (search_round input.now) (search_state input.now C.test state.now)) }
+    ensures piece { IfOk result (IsPieceAnswer (search_problem input.now) (search_round input.now) (search_state input.now C.test state.now)) }
     ensures limit { steps.new.limit ≡ steps.old.limit }
-    ensures counted { IfOk result (λ piece. ¬ IsOpen piece → steps.old.used < steps.new.used) }
+    ensures counted { IfOk result (λ answer. ¬ IsOpen answer → steps.old.used < steps.new.used) }
     ensures more { steps.old.used ≤ steps.new.used }
-    ensures open { IfOk result (λ piece. IsOpen piece → steps.new.used ≡ steps.new.limit) }
+    ensures open { IfOk result (λ answer. IsOpen answer → steps.new.used ≡ steps.new.limit) }
 {
     let position = position_at(input, state)?;
     let outcome = prove(input, position, lists, &mut NoWatcher, steps)?;
-    Ok(piece_of(input.round, outcome))
+    Ok(answer_for(input.round, outcome))
 }
 
 /// Returns the answer for a piece of a plain round, whose state is `state`.
@@ -111,15 +111,15 @@ fn plain_piece<C: CountySet>(
 ) -> Result<PieceAnswer, AllocError>
     requires input { IsPlainGround C.PLACES C.test input.now }
     requires at { IsStateOf C.test input.now state.now }
-    ensures piece { IfOk result (IsPiece (search_problem input.now) (search_round input.now) (search_state input.now C.test state.now)) }
+    ensures piece { IfOk result (IsPieceAnswer (search_problem input.now) (search_round input.now) (search_state input.now C.test state.now)) }
     ensures limit { steps.new.limit ≡ steps.old.limit }
-    ensures counted { IfOk result (λ piece. ¬ IsOpen piece → steps.old.used < steps.new.used) }
+    ensures counted { IfOk result (λ answer. ¬ IsOpen answer → steps.old.used < steps.new.used) }
     ensures more { steps.old.used ≤ steps.new.used }
-    ensures open { IfOk result (λ piece. IsOpen piece → steps.new.used ≡ steps.new.limit) }
+    ensures open { IfOk result (λ answer. IsOpen answer → steps.new.used ≡ steps.new.limit) }
 {
     let copy = copied_state(input.graph.alloc, input.graph.ordered, state)?;
     let outcome = prove_plain(input, copy, steps)?;
-    Ok(piece_of(input.round, outcome))
+    Ok(answer_for(input.round, outcome))
 }
 
 /// Searches a piece of a `round` over a `graph` of its counties, as `prove_piece` does. The `lists` of groups are kept
@@ -142,11 +142,11 @@ pub fn prove_piece_over<C: CountySet>(
     requires state { IsState (graph_problem graph.now) (round_of round.now) (state_at (graph_order graph.now) C.test state.now) }
     requires lists { AreListsOf C.test (place_problem graph.now) (graph_places graph.now) lists.old }
     ensures lists { AreListsOf C.test (place_problem graph.now) (graph_places graph.now) lists.new }
-    ensures piece { IfOk result (IsPiece (graph_problem graph.now) (round_of round.now) (state_at (graph_order graph.now) C.test state.now)) }
+    ensures piece { IfOk result (IsPieceAnswer (graph_problem graph.now) (round_of round.now) (state_at (graph_order graph.now) C.test state.now)) }
     ensures limit { steps.new.limit ≡ steps.old.limit }
-    ensures counted { IfOk result (λ piece. ¬ IsOpen piece → steps.old.used < steps.new.used) }
+    ensures counted { IfOk result (λ answer. ¬ IsOpen answer → steps.old.used < steps.new.used) }
     ensures more { steps.old.used ≤ steps.new.used }
-    ensures open { IfOk result (λ piece. IsOpen piece → steps.new.used ≡ steps.new.limit) }
+    ensures open { IfOk result (λ answer. IsOpen answer → steps.new.used ≡ steps.new.limit) }
 {
     let input = SearchInput { graph, round };
     match round.format {
@@ -169,11 +169,11 @@ fn ordered_piece<C: CountySet>(
     requires small { round.now.limit ≤ most_counties }
     requires placed { IsPlaced (length ordered.now.order) C.test state.now }
     requires state { IsState (problem_of ordered.now.problem) (round_of round.now) (state_at ordered.now.order C.test state.now) }
-    ensures piece { IfOk result (IsPiece (problem_of ordered.now.problem) (round_of round.now) (state_at ordered.now.order C.test state.now)) }
+    ensures piece { IfOk result (IsPieceAnswer (problem_of ordered.now.problem) (round_of round.now) (state_at ordered.now.order C.test state.now)) }
     ensures limit { steps.new.limit ≡ steps.old.limit }
-    ensures counted { IfOk result (λ piece. ¬ IsOpen piece → steps.old.used < steps.new.used) }
+    ensures counted { IfOk result (λ answer. ¬ IsOpen answer → steps.old.used < steps.new.used) }
     ensures more { steps.old.used ≤ steps.new.used }
-    ensures open { IfOk result (λ piece. IsOpen piece → steps.new.used ≡ steps.new.limit) }
+    ensures open { IfOk result (λ answer. IsOpen answer → steps.new.used ≡ steps.new.limit) }
 {
     let graph = CountyGraph::build(alloc, ordered)?;
     let mut lists = PartLists::new(alloc);
@@ -205,11 +205,11 @@ pub fn prove_piece<C: CountySet>(
     requires small { round.now.limit ≤ most_counties }
     requires placed { IsPlaced (length round.now.order) C.test state.now }
     requires state { IsState (problem_of problem.now) (round_of round.now) (state_at round.now.order C.test state.now) }
-    ensures piece { IfOk result (IsPiece (problem_of problem.now) (round_of round.now) (state_at round.now.order C.test state.now)) }
+    ensures piece { IfOk result (IsPieceAnswer (problem_of problem.now) (round_of round.now) (state_at round.now.order C.test state.now)) }
     ensures limit { steps.new.limit ≡ steps.old.limit }
-    ensures counted { IfOk result (λ piece. ¬ IsOpen piece → steps.old.used < steps.new.used) }
+    ensures counted { IfOk result (λ answer. ¬ IsOpen answer → steps.old.used < steps.new.used) }
     ensures more { steps.old.used ≤ steps.new.used }
-    ensures open { IfOk result (λ piece. IsOpen piece → steps.new.used ≡ steps.new.limit) }
+    ensures open { IfOk result (λ answer. IsOpen answer → steps.new.used ≡ steps.new.limit) }
 {
     match Ordered::build(alloc, problem, round.order.as_slice()) {
         Ok(ordered) => ordered_piece(alloc, &ordered, round, state, steps),

@@ -87,39 +87,39 @@ pub fn share_events(
     share(alloc, problem, grouping, shape, events, budget)
 }
 
-/// Returns what a run comes to that gives `piece`.
-fn piece_outcome(piece: &PieceAnswer) -> RunOutcome {
-    match piece {
+/// Returns what a run comes to that gives this `answer`.
+fn piece_outcome(answer: &PieceAnswer) -> RunOutcome {
+    match answer {
         PieceAnswer::Proved(_) | PieceAnswer::Better(_) | PieceAnswer::Wider(_) => RunOutcome::Done,
         PieceAnswer::Open(part) => RunOutcome::PieceOpen(part.is_some()),
     }
 }
 
-/// Returns the exit status of `piece`: 3 if the steps ran out, else 0.
-fn status_of(piece: &PieceAnswer) -> u8
-    ensures { result ≡ piece_status piece.now }
+/// Returns the exit status for this `answer`: 3 if the steps ran out, else 0.
+fn status_of(answer: &PieceAnswer) -> u8
+    ensures { result ≡ piece_status answer.now }
 {
-    match piece {
+    match answer {
         PieceAnswer::Proved(_) | PieceAnswer::Better(_) | PieceAnswer::Wider(_) => 0,
         PieceAnswer::Open(_) => 3,
     }
 }
 
-/// Returns what is said of `piece`, on a board of this number of `counties`.
+/// Returns what is said of the `answer` to a piece, on a board of this number of `counties`.
 fn report_piece(
     alloc: Global,
     words: PieceWords<'_>,
     counties: u16,
-    piece: PieceAnswer,
+    answer: PieceAnswer,
 ) -> Result<RunAnswer, AllocError>
     requires few { counties ≤ most }
-    requires text { HasText (format_of words.board.round) counties words.number piece }
-    ensures { IfOk result (λ a. answer_of a ≡ piece_said words.entry.round words.entry.number (Some piece)) }
+    requires text { HasText (format_of words.board.round) counties words.number answer }
+    ensures { IfOk result (λ a. answer_of a ≡ piece_said words.entry.round words.entry.number (Some answer)) }
 {
     let format = format_for(words.board.round);
-    let outcome = piece_outcome(&piece);
-    let status = status_of(&piece);
-    let text = piece_text(alloc, piece, words.round, words.number, format, counties)?;
+    let outcome = piece_outcome(&answer);
+    let status = status_of(&answer);
+    let text = piece_text(alloc, answer, words.round, words.number, format, counties)?;
     Ok(RunAnswer {
         text,
         status,
@@ -147,7 +147,7 @@ fn report_answer(
     ensures { IfOk result (λ a. answer_of a ≡ piece_said words.entry.round words.entry.number answer) }
 {
     match answer {
-        Some(piece) => report_piece(alloc, words, counties, piece),
+        Some(found) => report_piece(alloc, words, counties, found),
         None => report_none(alloc),
     }
 }
@@ -168,9 +168,9 @@ pub fn piece_and_report(
 ) -> Result<RunAnswer, BoardFault>
     ensures said { IfOk
         result
-        (λ a. (piece : Option PieceAnswerValue)
-        × AnswersOnBoard problem.now grouping.now.groups.items words.entry.board.round piece_budget (λ round. IsAnswered (problem_of problem.now) (depth_of words.entry.board.round) round (map event_of events.items) words.entry.number) (Ok piece)
-        × (answer_of a ≡ piece_said words.entry.round words.entry.number piece)) }
+        (λ a. (answer : Option PieceAnswerValue)
+        × AnswersOnBoard problem.now grouping.now.groups.items words.entry.board.round piece_budget (λ round. IsAnswered (problem_of problem.now) (depth_of words.entry.board.round) round (map event_of events.items) words.entry.number) (Ok answer)
+        × (answer_of a ≡ piece_said words.entry.round words.entry.number answer)) }
     ensures fault { IfErr
         result
         (λ fault. AnswersOnBoard problem.now grouping.now.groups.items words.entry.board.round piece_budget (λ round. IsAnswered (problem_of problem.now) (depth_of words.entry.board.round) round (map event_of events.items) words.entry.number) (Err fault)) }

@@ -8,7 +8,7 @@ use crate::code::CountyCode;
 use crate::county::County;
 use std::alloc::{AllocError, Global};
 
-/// Returns whether `code` is in the list.
+/// Returns whether `code` is one of the `codes`.
 pub fn has_code(codes: &[CountyCode], code: CountyCode) -> bool
     ensures { result ≡ contains codes.now code }
 {

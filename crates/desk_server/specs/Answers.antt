@@ -8,7 +8,7 @@ use Rattle.piece_states.specs.PieceValue.{PieceTold}
 use Rattle.piece_states.specs.RoundStates.{IsTold}
 use Rattle.board_texts.specs.RoundText.{RoundTold}
 use Rattle.board_texts.specs.BoardText.{BoardTextTold, Round, Open}
-use Rattle.branch_bound.specs.Pieces.{IsPiece}
+use Rattle.branch_bound.specs.Pieces.{IsPieceAnswer}
 use Rattle.branch_bound.specs.declared.piece_answer.PieceAnswer.{PieceAnswer}
 use Rattle.board_report.specs.PieceText.{piece_text_of}
 use Rattle.desk_server.specs.Rounds.{round_told}
@@ -23,7 +23,7 @@ pub record CanProve (p : Problem) (last : Option RoundTold) (piece : PieceTold) 
 -- the text of an answer of the solver at a state of a round
 abbrev pub IsAnswerAt : Problem → RoundValue → State → (number piece : ℕ) → List ℕ → Type 0
 IsAnswerAt p round s number piece text =
-    (answer : PieceAnswer) × IsPiece p round s answer × (text ≡ piece_text_of number piece answer)
+    (answer : PieceAnswer) × IsPieceAnswer p round s answer × (text ≡ piece_text_of number piece answer)
 
 -- the text for a piece of a round, exactly where what is told of the piece is a state of the round
 abbrev pub IsAnswerIn : Problem → RoundValue → PieceTold → Option (List ℕ) → Type 0

@@ -264,25 +264,25 @@ module _ (files : Files) where
         piece_grouping_stops on.value (problem_of_files files words.board.problem on.value (problem_reads files words.board.problem before on.between on.value on.given)) on.between after a on.goes_on
 
     -- what is told of a piece that waits
-    by_piece : (a : Answered) (piece : PieceAnswer) → a ≡ piece_said words.round words.number (Some piece) → PieceTells files words a → (stored : List NamedFile) → Tells files (Piece words) stored a
+    by_piece : (a : Answered) (answer : PieceAnswer) → a ≡ piece_said words.round words.number (Some answer) → PieceTells files words a → (stored : List NamedFile) → Tells files (Piece words) stored a
     by_piece a (Proved tree) said told stored = inl (same_status a _ said, told)
     by_piece a (Better g) said told stored = inl (same_status a _ said, told)
     by_piece a (Wider g) said told stored = inl (same_status a _ said, told)
-    by_piece a (Open split) said told stored = inr (inr (same_status a _ said, inl told))
+    by_piece a (Open part) said told stored = inr (inr (same_status a _ said, inl told))
 
     module _ (stored : List NamedFile) (a : Answered) (low : a.status ≤ 3) (v : ProblemValue) (problem : IsProblemOfFiles files words.board.problem v)
         (target : Grouping) (round : Round) (first : IsFirstRoundOfFiles files words.board v target round)
         (events : List Event) (events_are : AreEventsOfFile files words.board v words.events events) where
-      answer_tells : (piece : Option PieceAnswer) → IsAnswered (problem_of v) (depth_of words.board.round) round events words.number piece → a ≡ piece_said words.round words.number piece
+      answer_tells : (answer : Option PieceAnswer) → IsAnswered (problem_of v) (depth_of words.board.round) round events words.number answer → a ≡ piece_said words.round words.number answer
           → Tells files (Piece words) stored a
       answer_tells None answered said = absurd (not_refused a low (inl (same_status a no_such_piece said)))
-      answer_tells (Some piece) answered said = by_piece a piece said (record {
+      answer_tells (Some answer) answered said = by_piece a answer said (record {
         v = v;
         replies = answered.replies;
         last = answered.last;
         board = record { problem = problem; target = target; round = round; first = first; events = events; events_are = events_are; taken = answered.taken };
-        piece = piece;
-        piece_is = answered.answer_is;
+        piece_answer = answer;
+        piece_answer_is = answered.answer_is;
         answer = said;
       }) stored
 

@@ -321,9 +321,9 @@ pub record PieceTells (files : Files) (words : PieceWords) (a : Answered) : Type
   pub replies : List Reply
   pub last : Content
   pub board : TookEvents files words.board words.events piece_budget v replies last
-  pub piece : PieceAnswer
-  pub piece_is : IsAnswerAt (problem_of v) last words.number (Some piece)
-  pub answer : a ≡ piece_said words.round words.number (Some piece)
+  pub piece_answer : PieceAnswer
+  pub piece_answer_is : IsAnswerAt (problem_of v) last words.number (Some piece_answer)
+  pub answer : a ≡ piece_said words.round words.number (Some piece_answer)
 
 -- ---- board and desk
 

@@ -25,13 +25,13 @@ abbrev pub piece_status : PieceAnswer → ℕ
 piece_status (Proved tree) = 0
 piece_status (Better g) = 0
 piece_status (Wider g) = 0
-piece_status (Open split) = 3
+piece_status (Open part) = 3
 
--- What is said of the piece of a number: what a solver answers of it, with the round of the words, or that there is
+-- What is said of the piece of a number: what a solver answers to it, with the round of the words, or that there is
 -- none.
 abbrev pub piece_said : ℕ → ℕ → Option PieceAnswer → Answered
 piece_said round number None = no_such_piece
-piece_said round number (Some piece) = record { text = piece_text_of round number piece; status = piece_status piece }
+piece_said round number (Some answer) = record { text = piece_text_of round number answer; status = piece_status answer }
 
 -- the step in which a solver proves a piece
 abbrev pub piece_step : ProblemValue → Grouping → PieceWords → List Event → Steps (Option PieceAnswer)
@@ -43,7 +43,7 @@ piece_step v g words events =
 -- the step in which a solver proves a piece, and what is said of the piece
 abbrev pub said_step : ProblemValue → Grouping → PieceWords → List Event → Steps Answered
 said_step v g words events =
-    piece_step v g words events >>= λ piece. value_step (λ a. a ≡ piece_said words.round words.number piece)
+    piece_step v g words events >>= λ answer. value_step (λ a. a ≡ piece_said words.round words.number answer)
 
 -- `piece`: all files are read before the board is opened
 abbrev pub piece_steps : Option Files → PieceWords → Steps Answered

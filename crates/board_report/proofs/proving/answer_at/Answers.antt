@@ -6,7 +6,7 @@ use Rattle.certificate_data.specs.RoundValue.{round_of}
 use Rattle.certificate_laws.specs.State.{IsState, empty_state}
 use Rattle.state_groups.specs.PlacedValues.{state_at, IsPlaced}
 use Rattle.board_laws.specs.Standing.{StandsAt}
-use Rattle.branch_bound.specs.Pieces.{IsPiece}
+use Rattle.branch_bound.specs.Pieces.{IsPieceAnswer}
 use Rattle.board_report.specs.PieceAnswers.{IsStateHeld}
 use Rattle.board_report.specs.PieceText.{HasText}
 use Rattle.board_report.proofs.PieceEvents.{has_text}
@@ -48,12 +48,12 @@ returns-clause-answer g c = λ b is.
     let state = c.in-Some.state in
     let p = problem_of c.args.problem.now in
     let held = subst (IsStateHeld test board b c.args.number) c.in-Some.is (c.in_ok-state.ensures b is) in
-    let piece = subst (λ z. IsPiece p (round_of c.proof_round.result.now) (state_at z test state) c.in_ok-piece.piece) c.proof_round.ensures.same_order c.in_ok-piece.ensures.piece in (
+    let answer = subst (λ z. IsPieceAnswer p (round_of c.proof_round.result.now) (state_at z test state) c.in_ok-answer.answer) c.proof_round.ensures.same_order c.in_ok-answer.ensures.piece in (
       held.0,
       (
         state_at board.round.order test state,
         subst (λ z. StandsAt b.skeleton b.round (empty_state (problem_of z)) c.args.number (state_at board.round.order test state)) c.requires.problem held.2,
-        subst (λ z. IsPiece p z (state_at board.round.order test state) c.in_ok-piece.piece) (c.proof_round.ensures.round b is) piece,
+        subst (λ z. IsPieceAnswer p z (state_at board.round.order test state) c.in_ok-answer.answer) (c.proof_round.ensures.round b is) answer,
       ),
     )
 
@@ -70,6 +70,6 @@ returns-clause-text g c =
     let stands = subst (λ z. StandsAt b.skeleton b.round (empty_state (problem_of board.problem)) c.args.number (state_at z test c.in-Some.state)) (sym c.proof_round.ensures.same_order) held.2 in
     let order = subst (λ z. IsOrder (problem_of z) round.order) c.requires.problem (c.proof_round.ensures.order b is) in
     let state = subst (λ z. IsState (problem_of z) (round_of round) s) c.requires.problem (c.proof_round.ensures.states b c.args.number s is stands) in
-    let text = has_text p (round_of round) s c.args.number c.in_ok-piece.piece order state (c.proof_round.ensures.small b is) (omega (arith, c.ranges.number)) c.in_ok-piece.ensures.piece in
-    subst (λ z. HasText z (length board.round.order) c.args.number c.in_ok-piece.piece) (ap (λ (z : Round). z.format) (c.proof_round.ensures.round b is ∙ sym is.round))
-    (subst (λ z. HasText (round_of round).format (length z) c.args.number c.in_ok-piece.piece) c.proof_round.ensures.same_order text)
+    let text = has_text p (round_of round) s c.args.number c.in_ok-answer.answer order state (c.proof_round.ensures.small b is) (omega (arith, c.ranges.number)) c.in_ok-answer.ensures.piece in
+    subst (λ z. HasText z (length board.round.order) c.args.number c.in_ok-answer.answer) (ap (λ (z : Round). z.format) (c.proof_round.ensures.round b is ∙ sym is.round))
+    (subst (λ z. HasText (round_of round).format (length z) c.args.number c.in_ok-answer.answer) c.proof_round.ensures.same_order text)

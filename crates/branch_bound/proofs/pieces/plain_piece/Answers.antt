@@ -1,17 +1,17 @@
 use Rattle.std.proofs.Common.{subst}
 use Rattle.branch_bound.specs.Searching.{search_problem, search_round, search_state}
-use Rattle.branch_bound.specs.Pieces.{IsPiece}
+use Rattle.branch_bound.specs.Pieces.{IsPieceAnswer}
 use Rattle.branch_bound.proofs.pieces.plain_piece.Goals as goal
 
 pub returns-clause-piece : goal.returns-clause-piece
 returns-clause-piece g c =
     let test = g.C.CountySet.test in
     let input = c.args.input.now in
-    subst (λ z. IsPiece (search_problem input) (search_round input) z c.piece_of.result) c.in_ok-copy.ensures.value
-    (c.piece_of.ensures.piece (search_problem input) (search_state input test c.in_ok-copy.copy) c.in_ok-outcome.ensures.outcome)
+    subst (λ z. IsPieceAnswer (search_problem input) (search_round input) z c.answer_for.result) c.in_ok-copy.ensures.value
+    (c.answer_for.ensures.piece (search_problem input) (search_state input test c.in_ok-copy.copy) c.in_ok-outcome.ensures.outcome)
 
 pub returns-clause-counted : goal.returns-clause-counted
-returns-clause-counted g c = λ closed. c.in_ok-outcome.ensures.counted (λ stopped. closed (c.piece_of.ensures.open.1 stopped))
+returns-clause-counted g c = λ closed. c.in_ok-outcome.ensures.counted (λ stopped. closed (c.answer_for.ensures.open.1 stopped))
 
 pub returns-clause-open : goal.returns-clause-open
-returns-clause-open g c = λ is. c.in_ok-outcome.ensures.stopped (c.piece_of.ensures.open.0 is)
+returns-clause-open g c = λ is. c.in_ok-outcome.ensures.stopped (c.answer_for.ensures.open.0 is)
