@@ -1,11 +1,7 @@
 """Runs a command, as the gate, and prints the processor seconds of all that it ran, those of each
-crate's checks, and the figure of docs/gate.md: all of them divided by the unit.
+crate's checks, and the figure of docs/gate.md: all of them divided by those of `place_sets`.
 
 python3 bench/gate_seconds.py .ci/run
-
-The unit is the processor seconds in which `rt check --jobs 1` proves `place_sets`, from nothing and
-before the command begins. It takes two minutes, and the figure holds for a machine that does
-nothing else meanwhile.
 
 A check is known by the words `--crate-name NAME` of its process, which is looked at five times a
 second: the last fifth of a second of each check is left out of the crates' seconds, and stands in
@@ -15,14 +11,11 @@ from __future__ import annotations
 
 import os
 import resource
-import shutil
 import subprocess
 import sys
-import tempfile
 import time
 from typing import Optional
 
-UNIT = "place_sets"
 TICKS = os.sysconf("SC_CLK_TCK")
 # The seconds of a check, by its process, the start of that process, and the crate.
 Found = dict[tuple[str, bytes, str], float]
@@ -96,48 +89,26 @@ def by_crate(found: Found) -> dict[str, float]:
     return crates
 
 
-def children_seconds() -> float:
-    """Returns the processor seconds of all children that have ended, and of theirs."""
-    used = resource.getrusage(resource.RUSAGE_CHILDREN)
-    return used.ru_utime + used.ru_stime
-
-
-def unit_seconds() -> float:
-    """Returns the processor seconds of one check of the unit's crate, or ends if it isn't proved."""
-    top = os.path.dirname(os.path.dirname(os.path.abspath(__file__)))
-    with tempfile.TemporaryDirectory() as room:
-        crate = os.path.join(room, "crates", UNIT)
-        shutil.copytree(os.path.join(top, "crates", UNIT), crate)
-        shutil.copy(os.path.join(top, "HANDLES"), room)
-        with open(os.path.join(room, "crates.txt"), "w", encoding="utf-8") as file:
-            file.write(f"{UNIT}:\n")
-        before = children_seconds()
-        checked = subprocess.run(["rt", "check", "--jobs", "1"], cwd=crate, capture_output=True)
-        if checked.returncode != 0:
-            sys.exit(f"gate_seconds.py: {UNIT} isn't proved:\n{checked.stdout.decode()[-2000:]}")
-        return children_seconds() - before
-
-
 def main() -> int:
     """Runs the command, prints the seconds, and returns the command's status."""
     if len(sys.argv) < 2:
         sys.exit(__doc__)
-    unit = unit_seconds()
-    before, began = children_seconds(), time.time()
+    began = time.time()
     running = subprocess.Popen(sys.argv[1:])
     found: Found = {}
     while running.poll() is None:
         look(found, str(os.getpid()))
         time.sleep(0.2)
-    every = children_seconds() - before
+    used = resource.getrusage(resource.RUSAGE_CHILDREN)
+    every = used.ru_utime + used.ru_stime
     crates = by_crate(found)
     for crate, seconds in sorted(crates.items(), key=lambda it: -it[1]):
         print(f"{seconds:8.0f} {crate}")
     minutes, status = (time.time() - began) / 60, running.returncode
     told = f"{minutes:.0f} minutes by the clock, status {status}"
-    print(f"{sum(crates.values()):8.0f} processor seconds of crates")
     print(f"{every:8.0f} processor seconds in all, {told}")
-    print(f"{unit:8.0f} processor seconds of the unit, figure: {every / unit:.0f}")
+    if crates.get("place_sets"):
+        print(f"figure: {every / crates['place_sets']:.0f}")
     return status
 
 
