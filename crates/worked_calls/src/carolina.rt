@@ -1,9 +1,10 @@
 //! The counties of North Carolina 2020: the adjacent pairs, and the numbers of lawful groups of at most four counties
 //! for the Senate and the House. The groups, and the connected sets among which they are found, are counted with each
-//! form of sets.
+//! form of sets. All best groupings of both chambers come last.
 
 ghost use Rattle.std.specs.Prelude.{◌≤◌};
 
+use crate::lists::show_solved;
 use crate::room::room_for;
 use adjacency_reader::read_pairs;
 use anyhow::{Error, Result};
@@ -155,12 +156,21 @@ fn show_pairs(rt: &HostRuntime, state: &State) -> Result<()> {
     Ok(())
 }
 
-/// Prints the pairs of adjacent counties, and the counts by each form of sets.
+/// Prints all best groupings of the Senate and of the House.
+fn show_lists(rt: &HostRuntime, state: &State) -> Result<()> {
+    println!(rt; "-- carolina, all best groupings")?;
+    for chamber in [50, 120] {
+        show_solved(rt, &state.problem(rt.alloc(), chamber)?)?;
+    }
+    Ok(())
+}
+
+/// Prints the pairs of adjacent counties, the counts by each form of sets, and all best groupings.
 pub(crate) fn show(rt: &HostRuntime) -> Result<()> {
     let state = State::load(rt)?;
     show_pairs(rt, &state)?;
     for form in ["lists", "masks", "wide"] {
         show_in(rt, &state, LIMIT, form)?;
     }
-    Ok(())
+    show_lists(rt, &state)
 }

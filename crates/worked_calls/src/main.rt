@@ -1,10 +1,12 @@
 //! Worked calls: what public calls below the command answer where no case of the command reaches them. Lines, numbers,
-//! sources, links, texts and file stores come first. Small problems follow, whose answers are known.
+//! sources, links, texts and file stores come first. Small problems follow, whose answers are known. Then come readers,
+//! the table of a small state, the records of two runs, and all best groupings of small problems.
 //!
-//! With the word `carolina` the adjacent pairs and the lawful groups of North Carolina 2020 follow. With the words
-//! LIMIT and FORM (`lists`, `masks` or `wide`) it only counts the lawful groups of at most LIMIT counties, by sets of
-//! that form. The gate runs it with the word `carolina`. It compares what is printed with `stdout`, which was written
-//! by hand from the rules or by other programs.
+//! With the word `carolina` the adjacent pairs, the lawful groups and all best groupings of North Carolina 2020 follow.
+//! With the words LIMIT and FORM (`lists`, `masks` or `wide`) it only counts the lawful groups of at most LIMIT
+//! counties, by sets of that form. The gate runs it with the word `carolina`. It compares what is printed with
+//! `stdout`, which was written by hand from the rules or by other programs: `bench/adjacency_pairs.sh` wrote the pairs,
+//! and `bench/best_list.py` the best groupings of the state.
 #![tactic(auto)]
 
 ghost use Rattle.std.specs.Prelude.{◌≤◌};
@@ -15,15 +17,19 @@ mod file_store;
 mod groups;
 mod lines;
 mod links;
+mod lists;
 mod numbers;
 mod orders;
 mod problems;
+mod readers;
+mod records;
 mod regions;
 mod room;
 mod sets;
 mod sketch;
 mod sources;
 mod states;
+mod tables;
 mod texts;
 
 use anyhow::Result;
@@ -58,15 +64,24 @@ fn show_files(rt: &HostRuntime) -> Result<()> {
     file_store::show(rt)
 }
 
-/// Prints all that needs no file.
-fn show_all(rt: &HostRuntime) -> Result<()> {
-    show_files(rt)?;
+/// Prints what calls on problems, orders, sets and states answer.
+fn show_problems(rt: &HostRuntime) -> Result<()> {
     problems::show(rt)?;
     compared_counts::show(rt)?;
     orders::show(rt)?;
     show_forms(rt)?;
     sets::show_ends(rt)?;
     states::show_rounds(rt)
+}
+
+/// Prints all that needs no file.
+fn show_all(rt: &HostRuntime) -> Result<()> {
+    show_files(rt)?;
+    show_problems(rt)?;
+    readers::show(rt)?;
+    tables::show(rt)?;
+    records::show(rt)?;
+    lists::show(rt)
 }
 
 fn main(rt: HostRuntime) -> Result<()> {

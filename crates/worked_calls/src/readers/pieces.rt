@@ -1,9 +1,9 @@
 //! Pieces of texts that are pulled from sources.
 
-use crate::answers::{Answers, CALLS, shown};
-use crate::calls::{Call, show_failing, show_parts};
-use crate::script::{Manner, source_of};
-use crate::texts::{FAILING, TEXTS, long_text};
+use crate::readers::answers::{Answers, CALLS, shown};
+use crate::readers::calls::{Call, show_failing, show_parts};
+use crate::readers::script::{Manner, source_of};
+use crate::readers::texts::{FAILING, TEXTS, long_text};
 use anyhow::{Error, Result};
 use field_lines::{LineFault, PiecesFrom, RawLines, RawReader, TextPiece};
 use std::alloc::Global;

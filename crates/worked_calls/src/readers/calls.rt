@@ -1,6 +1,6 @@
 //! Calls that read from sources, whose bytes come a few at a time, or whose pulls fail.
 
-use crate::script::Manner;
+use crate::readers::script::Manner;
 use anyhow::Result;
 use std::alloc::Global;
 

@@ -1,7 +1,7 @@
 //! Counties and blocks of a state whose two files are pulled from sources.
 
-use crate::calls::{Call, show_failing, show_parts};
-use crate::script::{Manner, source_of};
+use crate::readers::calls::{Call, show_failing, show_parts};
+use crate::readers::script::{Manner, source_of};
 use anyhow::{Error, Result};
 use county_codes::County;
 use pl94_counties::{

@@ -1,11 +1,6 @@
-//! Worked lists: all best groupings of small problems and of North Carolina 2020, by the certificates that the solver
-//! writes. The gate runs this program and compares what it prints with `stdout`. For the small problems, `stdout` was
-//! written by hand from the rules. For North Carolina, `bench/best_list.py` wrote it.
-#![tactic(auto)]
+//! All best groupings of small problems, by the certificates that the solver writes.
 
-mod carolina;
-mod small_problems;
-
+use crate::sketch::{RING_OF_FOUR, STRANDING_PATH, Sketch, THIRTY_NINE_SEATS};
 use anyhow::Result;
 use branch_bound::{Answer, solve};
 use certificate_text::write;
@@ -13,6 +8,27 @@ use county_codes::Grouping;
 use county_problem::Problem;
 use list_groupings::{Listing, all_best};
 use list_report::listing;
+
+/// One county, which is withdrawn.
+const ALL_WITHDRAWN: Sketch = Sketch {
+    people: &[(1, 100)],
+    pairs: &[],
+    withdrawn: &[(1, &[1])],
+    chamber: 1,
+};
+
+/// A county that suits no number of seats.
+const NO_SEAT_COUNT: Sketch = Sketch {
+    people: &[(1, 150), (3, 50)],
+    pairs: &[],
+    withdrawn: &[],
+    chamber: 2,
+};
+
+/// A certificate of the stranding path that consists of the wide leaf alone. The leaf comes to the target's counts with
+/// three counties left.
+const LONE_LEAF: &[u8] =
+    b"county-groups wide certificate 1\norder 37001 37003 37005\nlimit 3\ntarget 1\ngroup 2 37001 37003 37005\nbound 3\nweigh 1\nweigh 1\nroom\nend\n";
 
 /// More steps than the solver takes here, and a greater budget than its certificates cost.
 const ENOUGH: u64 = 10_000_000;
@@ -29,7 +45,7 @@ fn show_list(rt: &HostRuntime, problem: &Problem, list: &[Grouping]) -> Result<(
 }
 
 /// Prints all best groupings by the `text` of a certificate, or what else is answered.
-pub(crate) fn show_listed(rt: &HostRuntime, problem: &Problem, text: &[u8]) -> Result<()> {
+fn show_listed(rt: &HostRuntime, problem: &Problem, text: &[u8]) -> Result<()> {
     match all_best(rt.alloc(), problem, text, ENOUGH)? {
         Listing::All(list) => show_list(rt, problem, &list),
         Listing::Open(gap, line) => {
@@ -69,7 +85,16 @@ pub(crate) fn show_solved(rt: &HostRuntime, problem: &Problem) -> Result<()> {
     }
 }
 
-fn main(rt: HostRuntime) -> Result<()> {
-    small_problems::show(&rt)?;
-    carolina::show(&rt)
+/// Prints all best groupings of each small problem, and what is answered of a certificate that isn't complete.
+pub(crate) fn show(rt: &HostRuntime) -> Result<()> {
+    for sketch in [
+        STRANDING_PATH,
+        RING_OF_FOUR,
+        THIRTY_NINE_SEATS,
+        ALL_WITHDRAWN,
+        NO_SEAT_COUNT,
+    ] {
+        show_solved(rt, &sketch.problem(rt.alloc())?)?;
+    }
+    show_listed(rt, &STRANDING_PATH.problem(rt.alloc())?, LONE_LEAF)
 }
