@@ -2,16 +2,17 @@
 //! sources, links, texts and file stores come first. Small problems follow, whose answers are known. Then come readers,
 //! the table of a small state, the records of two runs, and all best groupings of small problems.
 //!
-//! With the word `carolina` the adjacent pairs, the lawful groups and all best groupings of North Carolina 2020 follow.
-//! With the words LIMIT and FORM (`lists`, `masks` or `wide`) it only counts the lawful groups of at most LIMIT
-//! counties, by sets of that form. The gate runs it with the word `carolina`. It compares what is printed with
-//! `stdout`, which was written by hand from the rules or by other programs: `bench/adjacency_pairs.sh` wrote the pairs,
-//! and `bench/best_list.py` the best groupings of the state.
+//! With the word `files` what needs files follows: trees, leaves and texts of certificates, and then the adjacent pairs,
+//! the lawful groups and all best groupings of North Carolina 2020. With the words LIMIT and FORM (`lists`, `masks` or
+//! `wide`) it only counts the state's lawful groups of at most LIMIT counties, by sets of that form. The gate runs it
+//! with the word `files`. It compares what is printed with `stdout`, which was written by hand from the rules or by
+//! other programs: `bench/adjacency_pairs.sh` wrote the pairs, and `bench/best_list.py` the best groupings of the state.
 #![tactic(auto)]
 
 ghost use Rattle.std.specs.Prelude.{◌≤◌};
 
 mod carolina;
+mod certificates;
 mod compared_counts;
 mod file_store;
 mod groups;
@@ -92,6 +93,7 @@ fn main(rt: HostRuntime) -> Result<()> {
     }
     show_all(&rt)?;
     if words.len() > 1 {
+        certificates::show(&rt)?;
         carolina::show(&rt)?;
     }
     Ok(())

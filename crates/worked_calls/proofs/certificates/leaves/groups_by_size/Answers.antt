@@ -3,8 +3,8 @@ use Rattle.std.specs.Vec.{vec_items}
 use Rattle.county_problem.specs.ProblemValue.{problem_of}
 use Rattle.certificate_data.specs.RoundValue.{round_of}
 use Rattle.state_groups.specs.PlacedValues.{state_at}
-use Rattle.worked_certificates.proofs.GroupLists.{pushed_list}
-use Rattle.worked_certificates.proofs.leaves.groups_by_size.Goals as goal
+use Rattle.worked_calls.proofs.GroupLists.{pushed_list}
+use Rattle.worked_calls.proofs.certificates.leaves.groups_by_size.Goals as goal
 
 pub loop-below-preserved : goal.loop-below-preserved
 loop-below-preserved g c =

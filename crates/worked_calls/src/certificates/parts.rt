@@ -6,7 +6,7 @@ ghost use Rattle.county_problem.specs.ProblemValue.{problem_of};
 ghost use Rattle.certificate_data.specs.RoundValue.{target_of};
 ghost use Rattle.checker_laws.specs.Verdict.{IsLawfulTarget};
 
-use crate::problems::two_numbers;
+use crate::certificates::problems::two_numbers;
 use anyhow::{Context, Error, Result};
 use certificate_data::{Format, Round};
 use connected_sets::CountyGraph;

@@ -9,7 +9,6 @@
 //! the leaf that is found, with the grouping of the case as the target. `part BUDGET COUNTY LIMIT` asks for the verdict
 //! on a part of one branch, whose leaves are all open, with a take for each line of the case. `check` asks for the
 //! verdicts on the bytes of the case, and `cut` for those on the bytes without the last LF.
-#![tactic(auto)]
 
 mod cases;
 mod generated_trees;
@@ -21,14 +20,14 @@ mod readings;
 mod script;
 mod unspelled_values;
 
-use crate::cases::{Case, cases_of};
-use crate::generated_trees::round_trips;
-use crate::leaves::leaf_said;
-use crate::parts::part_said;
-use crate::problems::problem_in;
-use crate::pulled_texts::show_check;
-use crate::readings::reading;
-use crate::unspelled_values::without_spelling;
+use crate::certificates::cases::{Case, cases_of};
+use crate::certificates::generated_trees::round_trips;
+use crate::certificates::leaves::leaf_said;
+use crate::certificates::parts::part_said;
+use crate::certificates::problems::problem_in;
+use crate::certificates::pulled_texts::show_check;
+use crate::certificates::readings::reading;
+use crate::certificates::unspelled_values::without_spelling;
 use anyhow::{Context, Result};
 use county_problem::Problem;
 use std::fs;
@@ -112,11 +111,14 @@ fn show_checks(rt: &HostRuntime) -> Result<()> {
     Ok(())
 }
 
-fn main(rt: HostRuntime) -> Result<()> {
-    show_cases(&rt)?;
-    show_unspelled(&rt)?;
+/// Prints what is read of the cases of all three files, what is said of values without a spelling, and how many trees
+/// read back as they were written.
+pub(crate) fn show(rt: &HostRuntime) -> Result<()> {
+    println!(rt; "-- certificates")?;
+    show_cases(rt)?;
+    show_unspelled(rt)?;
     let back = round_trips(rt.alloc(), TREES)?;
     println!(rt; "{back} of {TREES} trees read back as they were written")?;
-    show_leaves(&rt)?;
-    show_checks(&rt)
+    show_leaves(rt)?;
+    show_checks(rt)
 }

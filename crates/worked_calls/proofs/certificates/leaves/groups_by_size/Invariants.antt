@@ -4,7 +4,7 @@ use Rattle.county_problem.specs.ProblemValue.{problem_of}
 use Rattle.certificate_data.specs.RoundValue.{round_of}
 use Rattle.state_groups.specs.PlacedValues.{state_at}
 use Rattle.bound_proofs.specs.CountLeaves.{AreListsFrom}
-use Rattle.worked_certificates.proofs.leaves.groups_by_size.Given as goal
+use Rattle.worked_calls.proofs.certificates.leaves.groups_by_size.Given as goal
 
 abbrev pub invariant-loop-below : goal.invariant-loop-below
 invariant-loop-below g l = record {

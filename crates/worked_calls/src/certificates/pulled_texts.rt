@@ -1,6 +1,6 @@
 //! Verdicts on texts in memory, and on texts that are pulled from a source a few bytes at a time or fail.
 
-use crate::script::source_of;
+use crate::certificates::script::source_of;
 use anyhow::{Error, Result};
 use certificate_checker::{CheckStop, Verdict, check, check_from};
 use county_codes::{Group, Grouping};

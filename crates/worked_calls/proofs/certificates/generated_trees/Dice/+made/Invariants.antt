@@ -1,5 +1,5 @@
 use Rattle.std.proofs.Common.{◌+◌, ◌*◌, ◌≤◌}
-use Rattle.worked_certificates.proofs.generated_trees.Dice.+made.Given as goal
+use Rattle.worked_calls.proofs.certificates.generated_trees.Dice.+made.Given as goal
 
 abbrev pub decreases-branch : goal.decreases-branch
 decreases-branch l = 2 * l.levels + 1
