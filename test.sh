@@ -217,7 +217,7 @@ take_programs() { # FOLDER
     done
 }
 
-# Refuses allocations and calls of the proved program and of the programs of worked calls.
+# Refuses allocations and calls of the proved program and of the program of worked calls.
 sweep() { # [OPTION ..]
     local swept
     mapfile -t swept < <(find cases -mindepth 1 -maxdepth 1 -type d \
