@@ -40,8 +40,9 @@ CHAMBERS = [("senate", "Senate", 50), ("house", "House", 120)]
 ENACTED_YEAR = 2023
 SOURCES = (
     "Counts: 2020 census, P.L. 94-171, table P1. Borders: <code>county_borders.txt</code> "
-    "of this project, the counties that share a line in the outlines, with the pairs over "
-    "the sounds and rivers of the coast added; it isn’t the Census Bureau’s adjacency file. "
+    "of this project, the counties that share a line in the outlines, with thirteen pairs over "
+    "the sounds and rivers of the coast added, and four that meet in a point of the outlines; "
+    "it isn’t the Census Bureau’s adjacency file. "
     "Outlines: Census Bureau, generalized, for pictures only. The rule: <i>Stephenson v. "
     "Bartlett</i>, 355 N.C. 354 (2002) and 357 N.C. 301 (2003). What the program says is "
     "proved, by a proved build, for exactly the files it read; the counts, the borders and "
