@@ -130,9 +130,8 @@ function byBars(lines) {
     return known("adjacency");
   }
   if (/^0[2-9]$/.test(first[3])) {
-    return refused(`This is segment ${Number(first[3])} of the counts. The people are in segment `
-      + `1, `
-      + "whose name has 00001.");
+    return refused(`This is segment ${Number(first[3])} of the counts. `
+      + "The people are in segment 1, whose name has 00001.");
   }
   const isSegment = first.length >= 6 && /^\d+$/.test(first[4]) && /^\d+$/.test(first[5]);
   if (isSegment) return known("segment");

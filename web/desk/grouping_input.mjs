@@ -60,9 +60,8 @@ export function readGivenGrouping(geography, text, chamber) {
 function groupOfLine(geography, line, at) {
   const parts = line.match(/^(\d{1,3})[\s|:,;]+(.*)$/);
   if (!parts) {
-    throw new Error(`Line ${at + 1} says “${line.slice(0, 60)}”. A line begins with the seats of `
-      + `its `
-      + "group, then its counties.");
+    throw new Error(`Line ${at + 1} says “${line.slice(0, 60)}”. `
+      + "A line begins with the seats of its group, then its counties.");
   }
   const words = parts[2].split(/[,|;]/).map((word) => word.trim()).filter(Boolean);
   const isCodes = words.length === 1 && /^\d{5}(\s+\d{5})*$/.test(words[0]);

@@ -1,7 +1,6 @@
 // Draws a map into the page, in one sheet or cut into west and east on a phone, and follows
 // pointer, finger and keyboard on it.
 
-import { leadersOf } from "./answer_parts.mjs";
 import { find, findAll } from "./dom.mjs";
 import { groupSentence } from "./group_words.mjs";
 import { mapSvg } from "./map_svg.mjs";
@@ -313,14 +312,6 @@ function nearestStop(stops, at, way) {
     [least, best] = [ahead + aside * 2.2, stop];
   }
   return best;
-}
-
-/**
- * Returns the counties that lead small groups, for maps of other groups than an answer's.
- * @param {{groups: {counties: number[]}[]}} answer
- */
-export function leadersIn(answer) {
-  return leadersOf(/** @type {any} */ (answer));
 }
 
 /**

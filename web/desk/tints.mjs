@@ -42,8 +42,8 @@ export function tintsFor(geography, answer) {
     other !== group && may(group.id, other.id)
     && other.counties.some((county) => near[group.id].has(county))
     && !other.counties.some((county) => group.counties.includes(county)))).map((one) => one.id));
-  const wishes = answer.groups.map((group) => kinOf(geography, answer, group));
-  const tints = searched(apart, wishes) ?? greedy(apart, wishes);
+  const overlaps = answer.groups.map((group) => overlapsOf(geography, answer, group));
+  const tints = searched(apart, overlaps) ?? greedy(apart, overlaps);
   answer.groups.forEach((group) => {
     group.tint = tints[group.id];
   });
@@ -76,29 +76,29 @@ function mayMeet(answer) {
  * @param {Answer} answer
  * @param {KnownGroup} group
  */
-function kinOf(geography, answer, group) {
+function overlapsOf(geography, answer, group) {
   const shared = answer.groups.map((other) => ({
     id: other.id,
     people: peopleOf(geography, other.counties.filter((one) => group.counties.includes(one))),
   }));
-  const kin = shared.filter((one) => one.people > 0 && one.id !== group.id);
-  return kin.sort((one, other) => other.people - one.people).map((one) => one.id);
+  const others = shared.filter((one) => one.people > 0 && one.id !== group.id);
+  return others.sort((one, other) => other.people - one.people).map((one) => one.id);
 }
 
 /**
  * Returns tints by a bounded search, or null if it finds none: the group with the fewest tints left
- * comes first, and a group tries the tint of its kin before others.
+ * comes first, and a group tries the tints of those that it overlaps before others.
  * @param {number[][]} apart
- * @param {number[][]} wishes
+ * @param {number[][]} overlaps
  */
-function searched(apart, wishes) {
+function searched(apart, overlaps) {
   const tints = apart.map(() => -1);
   let steps = 0;
   /** @type {() => boolean} */
   const place = () => {
     const next = hardest(apart, tints);
     if (next < 0) return true;
-    for (const tint of triedTints(next, apart, wishes, tints)) {
+    for (const tint of triedTints(next, apart, overlaps, tints)) {
       steps += 1;
       if (steps > MOST_STEPS) return false;
       tints[next] = tint;
@@ -127,28 +127,29 @@ function hardest(apart, tints) {
 }
 
 /**
- * Returns the tints that a group may have: those of its kin first, then others in turn.
+ * Returns the tints that a group may have: first those of the groups that it overlaps, then others
+ * in turn.
  * @param {number} id
  * @param {number[][]} apart
- * @param {number[][]} wishes
+ * @param {number[][]} overlaps
  * @param {number[]} tints
  */
-function triedTints(id, apart, wishes, tints) {
+function triedTints(id, apart, overlaps, tints) {
   const taken = new Set(apart[id].map((one) => tints[one]));
   const turn = Array.from({ length: TINTS }, (_, step) => (id + step) % TINTS);
-  const wished = wishes[id].map((one) => tints[one]).filter((tint) => tint >= 0);
-  return [...new Set([...wished, ...turn])].filter((tint) => !taken.has(tint));
+  const preferred = overlaps[id].map((one) => tints[one]).filter((tint) => tint >= 0);
+  return [...new Set([...preferred, ...turn])].filter((tint) => !taken.has(tint));
 }
 
 /**
  * Returns tints that may repeat where five aren't enough.
  * @param {number[][]} apart
- * @param {number[][]} wishes
+ * @param {number[][]} overlaps
  */
-function greedy(apart, wishes) {
+function greedy(apart, overlaps) {
   const tints = apart.map(() => -1);
   apart.forEach((_, id) => {
-    tints[id] = triedTints(id, apart, wishes, tints)[0] ?? id % TINTS;
+    tints[id] = triedTints(id, apart, overlaps, tints)[0] ?? id % TINTS;
   });
   return tints;
 }
