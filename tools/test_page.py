@@ -17,6 +17,7 @@ from page_samples import GROUPS, OUTLINES, SIX_WITHDRAWN, TWO, TWO_LISTED, WITHD
 from page_samples import PageRoom, file_line, record_of, small_table, written
 from sample_listings import SIX
 
+import desk_page
 import page as county_page
 from county_table import HEADER
 
@@ -299,6 +300,13 @@ class Made(PageRoom):
         line = file_line("stored", "table", table.encode(), "six.csv") + "\nstatus 0"
         record = record_of(6).replace("status 0", line)
         self.assertEqual(self.made(table, SIX, record, self.squares)[0], 0)
+
+    def test_borders_by_both_line_ends(self) -> None:
+        lines = ("Name|GEOID|Name|GEOID", "A|37001|B|37003", "B|37003|A|37001", "B|37003|C|37005")
+        for end in ("\n", "\r\n"):
+            text = "".join(line + end for line in lines)
+            pairs = desk_page.border_lines(text, {"37001", "37003"})
+            self.assertEqual(pairs, "37001 37003")
 
     def test_several_numbers_of_seats(self) -> None:
         self.assertEqual(self.made(written(TWO), TWO_LISTED, record_of(39), self.squares)[0], 0)

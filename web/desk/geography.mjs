@@ -49,7 +49,7 @@ export function bordersOf(geography, text) {
   /** @type {Map<string, [number, number]>} */
   const found = new Map();
   for (const line of text.split("\n")) {
-    const fields = line.split("|");
+    const fields = line.replace(/\r$/, "").split("|");
     const one = geography.placeOf.get(fields[1]);
     const other = geography.placeOf.get(fields[3]);
     if (one === undefined || other === undefined || one === other) continue;

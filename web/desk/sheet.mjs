@@ -66,14 +66,25 @@ export function outlinesOf(geography, geojson) {
 }
 
 /**
+ * Returns the least and the greatest value of an axis of points.
+ * @param {Point[]} points
+ * @param {0 | 1} axis
+ */
+function rangeOf(points, axis) {
+  let [least, most] = [Infinity, -Infinity];
+  for (const point of points) {
+    least = Math.min(least, point[axis]);
+    most = Math.max(most, point[axis]);
+  }
+  return [least, most];
+}
+
+/**
  * Returns the projection that fits points in degrees to the sheet, and the size of the sheet.
  * @param {Point[]} points
  */
 function projectionFor(points) {
-  const range = (/** @type {number} */ axis) => points.reduce(
-    ([least, most], point) => [Math.min(least, point[axis]), Math.max(most, point[axis])],
-    [Infinity, -Infinity]);
-  const [[west, east], [south, north]] = [range(0), range(1)];
+  const [[west, east], [south, north]] = [rangeOf(points, 0), rangeOf(points, 1)];
   const parallels = [south + (north - south) / 6, north - (north - south) / 6];
   const [lower, upper] = parallels.map((latitude) => latitude * DEGREE);
   const steep = (/** @type {number} */ angle) => Math.tan(Math.PI / 4 + angle / 2);
@@ -84,9 +95,7 @@ function projectionFor(points) {
   /** @type {Projection} */
   const plain = { cone, factor, middle, left: 0, top: 0, scale: 1 };
   const placed = points.map((point) => projected(plain, point));
-  const [xs, ys] = [placed.map((at) => at[0]), placed.map((at) => at[1])];
-  const [left, right] = [Math.min(...xs), Math.max(...xs)];
-  const [top, bottom] = [Math.min(...ys), Math.max(...ys)];
+  const [[left, right], [top, bottom]] = [rangeOf(placed, 0), rangeOf(placed, 1)];
   const scale = Math.min((SHEET_WIDTH - 2 * EDGE_X) / (right - left), MOST_HEIGHT / (bottom - top));
   const projection = { ...plain, scale, left: left * scale - EDGE_X, top: top * scale - EDGE_TOP };
   const width = Math.round((right - left) * scale + 2 * EDGE_X);
@@ -163,7 +172,7 @@ function ringPoints(ring, lines) {
   const points = [];
   for (const number of ring) {
     const line = number < 0 ? [...lines[~number]].reverse() : lines[number];
-    points.push(...(points.length ? line.slice(1) : line));
+    for (const point of points.length ? line.slice(1) : line) points.push(point);
   }
   return points;
 }
@@ -174,9 +183,9 @@ function ringPoints(ring, lines) {
  * @returns {Box}
  */
 function boxAround(rings) {
-  const [xs, ys] = [rings.flat().map((at) => at[0]), rings.flat().map((at) => at[1])];
-  const [left, top] = [Math.min(...xs), Math.min(...ys)];
-  return [left, top, Math.max(...xs) - left, Math.max(...ys) - top];
+  const points = rings.flat();
+  const [[left, right], [top, bottom]] = [rangeOf(points, 0), rangeOf(points, 1)];
+  return [left, top, right - left, bottom - top];
 }
 
 /**
