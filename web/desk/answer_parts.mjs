@@ -10,7 +10,7 @@ import {
 import { mapSvg } from "./map_svg.mjs";
 import { boxOfCounties } from "./sheet.mjs";
 import {
-  andList, capital, counted, countedInWords, deviationWords, escapeHtml, LETTERS, nounFor,
+  andList, capital, choiceLetters, counted, countedInWords, deviationWords, escapeHtml, nounFor,
   numberText, numberWord, signedPercent,
 } from "./words.mjs";
 
@@ -197,7 +197,7 @@ export function factsHtml(geography, answer, groups, group) {
     `<div><b>${number}</b><span>${words}</span></div>`);
   const count = optionsWith(answer, group);
   const where = group.area < 0 ? "" : `: ${answer.areas[group.area].name}, choice `
-    + `${LETTERS[group.choice]}`;
+    + choiceLetters(group.choice);
   const options = answer.number === 1 ? "In the one best grouping"
     : group.area < 0 ? `In all ${numberText(answer.number)} best groupings`
       : `In ${count ?? "some"} of the ${numberText(answer.number)} best groupings`;
@@ -255,7 +255,7 @@ export function cardsHtml(desk, answer, choices) {
     const pictures = ways.map((way, choice) => (
       choiceHtml(desk, answer, at, choice, way, moved, choices[at] === choice)));
     const items = ways.slice(1).map((way, more) => (
-      differenceItems(geography, ways[0], way, ["A", LETTERS[more + 1]]).join("")));
+      differenceItems(geography, ways[0], way, ["A", choiceLetters(more + 1)]).join("")));
     const size = `${counted(area.counties.length, "county", "counties")}, `
       + `${counted(seatsOfArea(answer, area), "seat")}`;
     return `<fieldset class="card"><legend>${escapeHtml(area.name)} <span>${size}</span></legend>`
@@ -279,7 +279,7 @@ function choiceHtml(desk, answer, area, choice, groups, moved, isChosen) {
   const { name, counties } = answer.areas[area];
   const isEnacted = answer.enacted > 0 && choicesOf(answer, answer.enacted)[area] === choice;
   const plan = `${data.enactedYear} plan`;
-  const label = `${name} ${LETTERS[choice]}${isEnacted ? `, ${plan}` : ""}`;
+  const label = `${name} ${choiceLetters(choice)}${isEnacted ? `, ${plan}` : ""}`;
   const map = geography.sheet ? mapSvg(geography, {
     groups, moved, only: counties, box: cardBox(geography, counties), width: 150, labels: "badge",
     isMini: true,
@@ -287,7 +287,7 @@ function choiceHtml(desk, answer, area, choice, groups, moved, isChosen) {
     namesOf(geography, group.counties).join(", "))).join("; "))}</span>`;
   return '<label class="choice">'
     + `<input type="radio" name="area${area}" value="${choice}"${isChosen ? " checked" : ""} `
-    + `aria-label="${escapeHtml(label)}"><span class="caption"><i></i>${LETTERS[choice]}`
+    + `aria-label="${escapeHtml(label)}"><span class="caption"><i></i>${choiceLetters(choice)}`
     + `${isEnacted ? `<span class="tag">${plan}</span>` : ""}</span>`
     + `${map}${rangeSvg(geography, answer, groups)}</label>`;
 }

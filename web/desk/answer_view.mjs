@@ -4,13 +4,13 @@ import {
   cardsHtml, cardsIntro, deckHtml, factsHtml, groupTableHtml, headline, keyHtml, ladderSvg,
   optionDrawing, optionNoteHtml, takenHtml, whyWords, windowTitle,
 } from "./answer_parts.mjs";
-import { choicesOf, groupsOf, movedCounties, optionNumber, turned } from "./answers.mjs";
+import { groupsOf, isOption, movedCounties, optionNumber, turned } from "./answers.mjs";
 import { answerFor } from "./desk.mjs";
 import { chamberButtons, find, findAll, findInput, showToast, speak } from "./dom.mjs";
 import { groupSentence, moveSentences, namesOf } from "./group_words.mjs";
 import { focusSwitch, pin, point, showMap } from "./map_host.mjs";
-import { shownOption } from "./view_state.mjs";
-import { escapeHtml, LETTERS } from "./words.mjs";
+import { shownChoices, shownOption } from "./view_state.mjs";
+import { choiceLetters, escapeHtml } from "./words.mjs";
 
 /** @typedef {import("./desk.mjs").Desk} Desk */
 /** @typedef {import("./answers.mjs").Answer} Answer */
@@ -28,8 +28,7 @@ const sorting = { key: "west", isUp: true };
 export function current(desk, state) {
   const answer = answerFor(desk, state.chamber);
   const option = shownOption(state, answer.key);
-  const free = state.free.get(answer.key) ?? answer.first;
-  const choices = answer.options ? choicesOf(answer, option) : free;
+  const choices = shownChoices(state, answer);
   return { answer, option, choices, groups: groupsOf(answer, choices) };
 }
 
@@ -103,8 +102,8 @@ function paintChoices(desk, state) {
   find("#switches").innerHTML = answer.areas.map((area, at) => {
     const letters = area.choices.map((_, choice) => (
       `<button type="button" data-area="${at}" data-choice="${choice}" `
-      + `aria-label="${escapeHtml(area.name)} ${LETTERS[choice]}" `
-      + `aria-pressed="${choices[at] === choice}">${LETTERS[choice]}</button>`));
+      + `aria-label="${escapeHtml(area.name)} ${choiceLetters(choice)}" `
+      + `aria-pressed="${choices[at] === choice}">${choiceLetters(choice)}</button>`));
     return `<div class="switch-row"><span>${escapeHtml(area.name)}</span>`
       + `<span class="seg">${letters.join("")}</span></div>`;
   }).join("");
@@ -151,7 +150,7 @@ function turnArea(desk, state, area, choice) {
  */
 export function showOption(desk, state, option) {
   const before = current(desk, state);
-  if (option < 1 || option === before.option) return;
+  if (!isOption(before.answer, option) || option === before.option) return;
   state.option.set(before.answer.key, option);
   history.replaceState(null, "", `#${before.answer.key}/${option}`);
   showChange(desk, state, before);
@@ -192,7 +191,8 @@ function refocus(name) {
 function tellChange(desk, state, before, moved) {
   const { answer, option, choices, groups } = current(desk, state);
   const turnedAreas = answer.areas.map((area, at) => (
-    before[at] === choices[at] ? "" : `${area.name}: ${LETTERS[choices[at]]}`)).filter(Boolean);
+    before[at] === choices[at] ? "" : `${area.name}: ${choiceLetters(choices[at])}`
+  )).filter(Boolean);
   const sentences = moveSentences(desk.geography, groups, moved);
   const place = find("#told");
   place.classList.remove("has-group");

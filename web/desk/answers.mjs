@@ -219,6 +219,15 @@ export function choicesOf(answer, number) {
 }
 
 /**
+ * Returns whether an answer has an option of this number.
+ * @param {Answer} answer
+ * @param {number} number
+ */
+export function isOption(answer, number) {
+  return answer.options?.[number - 1] !== undefined;
+}
+
+/**
  * Returns the number of the option with these choices, or 0.
  * @param {Answer} answer
  * @param {number[]} choices
@@ -308,9 +317,9 @@ export function movedCounties(geography, before, after) {
   const moved = new Set();
   const keys = new Set(after.map((group) => setKey(group.counties)));
   for (const group of before.filter((one) => !keys.has(setKey(one.counties)))) {
-    const heir = mostInCommon(geography, group, after).group;
+    const later = mostInCommon(geography, group, after).group;
     for (const county of group.counties) {
-      if (!heir || !heir.counties.includes(county)) moved.add(county);
+      if (!later || !later.counties.includes(county)) moved.add(county);
     }
   }
   return moved;

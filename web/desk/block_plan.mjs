@@ -6,8 +6,10 @@ import { columnOf, decodedText, rowsOf, separatorOf } from "./tables.mjs";
 import { counted, nounFor, numberText } from "./words.mjs";
 
 /**
- * A block assignment file as a table. `header` is made up if the file has none.
- * @typedef {{header: string[], rows: string[][], block: number, district: number}} PlanTable
+ * A block assignment file as a table. `header` is made up if the file has none. `firstLine` is the
+ * line of the first row, from 1.
+ * @typedef {{header: string[], rows: string[][], block: number, district: number,
+ *   firstLine: number}} PlanTable
  */
 /** @typedef {{lines: string, blocks: number, districts: Map<string, number>, note: string}} Plan */
 
@@ -28,7 +30,7 @@ export async function planTable(file) {
   const body = hasHeader ? rows.slice(1) : rows;
   const block = blockColumn(header, body);
   const district = districtColumn(header, block);
-  return { header, rows: body, block, district };
+  return { header, rows: body, block, district, firstLine: hasHeader ? 2 : 1 };
 }
 
 /**
@@ -61,7 +63,8 @@ function districtColumn(header, block) {
  * @param {string} state  the state's two digits
  * @returns {Plan}
  */
-export function planOf({ rows, block, district, header }, state) {
+export function planOf(table, state) {
+  const { rows, block, district, firstLine } = table;
   if (district < 0) {
     throw new Error("The file has one column: it needs blocks and their districts.");
   }
@@ -74,45 +77,40 @@ export function planOf({ rows, block, district, header }, state) {
       code = `0${code}`;
       padded += 1;
     }
-    if (!/^\d{15}$/.test(code)) throw new Error(codeProblem(rows, block, header, at, code));
+    if (!/^\d{15}$/.test(code)) throw new Error(codeProblem(table, firstLine + at, code));
     const label = (row[district] ?? "").replace(/\.0$/, "");
-    checkLabel(label, at);
+    checkLabel(label, firstLine + at);
     districts.set(label, (districts.get(label) ?? 0) + 1);
     return `${code}|${label}\n`;
   });
-  const note = padded ? `${numberText(padded)} codes had lost the zero at their beginning, and `
-    + `have it `
-    + "again." : "";
+  const note = padded
+    ? `${numberText(padded)} codes had lost the zero at their beginning, and have it again.` : "";
   return { lines: lines.join(""), blocks: rows.length, districts, note };
 }
 
 /**
  * Throws if a label can't be one.
  * @param {string} label
- * @param {number} at
+ * @param {number} line
  */
-function checkLabel(label, at) {
+function checkLabel(label, line) {
   if (label.length <= LONGEST_LABEL && /^[\x20-\x7b\x7d\x7e]*$/.test(label)) return;
-  throw new Error(`Line ${at + 2}: a district is called “${label.slice(0, 40)}”. A name has at `
-    + `most 32 `
-    + "plain letters, digits and signs.");
+  throw new Error(`Line ${line}: a district is called “${label.slice(0, 40)}”. `
+    + "A name has at most 32 plain letters, digits and signs.");
 }
 
 /**
  * Returns in a sentence what a column has that should have the codes of blocks.
- * @param {string[][]} rows
- * @param {number} block
- * @param {string[]} header
- * @param {number} at
+ * @param {PlanTable} table
+ * @param {number} line
  * @param {string} code
  */
-function codeProblem(rows, block, header, at, code) {
-  const where = `The column “${header[block]}”, line ${at + 2}, has “${code.slice(0, 40)}”. `;
+function codeProblem({ rows, block, header }, line, code) {
+  const where = `The column “${header[block]}”, line ${line}, has “${code.slice(0, 40)}”. `;
   const wanted = "The code of a block has 15 digits, such as 371830501001000.";
   if (/^\d(\.\d+)?E\+\d+$/i.test(code)) {
-    return `${where}Excel wrote the codes as numbers, and their last digits are lost. Export the `
-      + `file `
-      + "again, and don’t save it by Excel, or make the column text before.";
+    return `${where}Excel wrote the codes as numbers, and their last digits are lost. `
+      + "Export the file again, and don’t save it by Excel, or make the column text before.";
   }
   if (/^\d{14}$/.test(code)) {
     const lost = rows.filter((row) => /^\d{14}$/.test(row[block] ?? "")).length;

@@ -4,9 +4,9 @@ import { mapSvg } from "./map_svg.mjs";
 import { optionDrawing } from "./answer_parts.mjs";
 import { groupingText, inOrder } from "./answers.mjs";
 import { current } from "./answer_view.mjs";
-import { find, findAll, saveFile } from "./dom.mjs";
+import { find, findAll, saveFile, showToast } from "./dom.mjs";
 import { codesOf, peopleOf } from "./geography.mjs";
-import { storedFile } from "./program.mjs";
+import { carriedFiles, storedFile } from "./program.mjs";
 import { readTable } from "./program_texts.mjs";
 import { unprojected } from "./sheet.mjs";
 import { csvField } from "./tables.mjs";
@@ -197,7 +197,7 @@ async function pngPicture(desk, state) {
 async function download(desk, state, kind) {
   const { answer, option, groups } = current(desk, state);
   const texts = desk.data.chambers.find((one) => one.key === answer.key);
-  const name = `${answer.key}-option-${option}`;
+  const name = answer.options ? `${answer.key}-option-${option}` : answer.key;
   if (kind === "csv") {
     saveFile(`${name}.csv`, tableText(desk, texts?.table ?? "", groups), "text/csv");
   }
@@ -217,16 +217,33 @@ async function download(desk, state, kind) {
 }
 
 /**
- * Follows the menu of downloads.
+ * Stores what a button of the menu offers, or says why it can't.
+ * @param {Desk} desk
+ * @param {ViewState} state
+ * @param {string} kind
+ */
+async function downloadOrSay(desk, state, kind) {
+  try {
+    await download(desk, state, kind);
+  } catch (fault) {
+    showToast(`It can’t be stored. ${fault instanceof Error ? fault.message : fault}`);
+  }
+}
+
+/**
+ * Follows the menu of downloads. It has a certificate only if the page carries those of all
+ * chambers.
  * @param {Desk} desk
  * @param {ViewState} state
  */
 export function followDownloads(desk, state) {
   const menu = /** @type {HTMLDetailsElement} */ (find("#downloads"));
+  const isCarried = desk.answers.every(({ key }) => `${key}.certificate` in carriedFiles());
+  find("[data-download=certificate]", menu).hidden = !isCarried;
   for (const button of findAll("[data-download]", menu)) {
     button.addEventListener("click", () => {
       menu.open = false;
-      download(desk, state, button.dataset.download ?? "");
+      downloadOrSay(desk, state, button.dataset.download ?? "");
     });
   }
   document.addEventListener("click", (event) => {

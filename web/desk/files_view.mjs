@@ -119,6 +119,17 @@ async function takeFile(desk, state, kind, file) {
 }
 
 /**
+ * Lets go of the file of a slot.
+ * @param {FileKind} kind
+ */
+function emptySlot(kind) {
+  given.delete(kind);
+  const zone = find(`.drop-zone[data-kind="${kind}"]`);
+  zone.classList.remove("has-file");
+  find("small", zone).textContent = SLOTS.find((slot) => slot[0] === kind)?.[2] ?? "";
+}
+
+/**
  * Chooses the state that a geographic header is of.
  * @param {File} file
  */
@@ -141,7 +152,7 @@ async function useOwnFiles(desk, state) {
     const file = new File([await storedFile(kind)], carriedFiles()[kind].name);
     await takeFile(desk, state, kind, file);
   }
-  given.delete("outlines");
+  emptySlot("outlines");
   find("#dropped").textContent = whyNoProgram() ?? "";
 }
 

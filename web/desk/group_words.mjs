@@ -5,7 +5,8 @@ import {
 } from "./geography.mjs";
 import { mostInCommon } from "./answers.mjs";
 import {
-  andList, countedInWords, deviationWords, escapeHtml, LETTERS, nounFor, numberText, numberWord,
+  andList, choiceLetters, countedInWords, deviationWords, escapeHtml, nounFor, numberText,
+  numberWord,
 } from "./words.mjs";
 
 /** @typedef {import('./geography.mjs').Geography} Geography */
@@ -135,5 +136,5 @@ export function moveSentences(geography, groups, moved) {
  */
 export function optionWords(answer, group) {
   if (group.area < 0) return answer.number === 1 ? "the only one" : `all ${answer.number}`;
-  return `${answer.areas[group.area].name} ${LETTERS[group.choice]}`;
+  return `${answer.areas[group.area].name} ${choiceLetters(group.choice)}`;
 }

@@ -130,7 +130,7 @@ function showGroups(desk, answer, groups, outlined) {
 }
 
 /**
- * Says that a grouping is best, and which option it is.
+ * Says that a grouping is best, and which option it is if the options are numbered.
  * @param {Desk} desk
  * @param {Answer} answer
  * @param {GivenGrouping} given
@@ -138,6 +138,12 @@ function showGroups(desk, answer, groups, outlined) {
 function showBest(desk, answer, given) {
   const sets = given.groups.map((group) => codesOf(desk.geography, group.counties));
   const option = optionOfSets(desk.geography, answer, sets);
+  if (!option) {
+    find("#judge-result").innerHTML = verdictHtml(
+      true, "Lawful, and best.", "It is one of the best groupings.");
+    showGroups(desk, answer, mapGroups(desk, answer, given), []);
+    return;
+  }
   const choices = choicesOf(answer, option);
   const enacted = answer.enacted ? choicesOf(answer, answer.enacted) : choices;
   const other = answer.areas.filter((_, area) => choices[area] !== enacted[area]);
@@ -146,9 +152,8 @@ function showBest(desk, answer, given) {
     : !answer.enacted ? "." : `. It differs from the ${year} plan in the `
       + `${escapeHtml(andList(other.map((area) => area.name)))}.`;
   const link = `<a href="#${answer.key}/${option}">See it on the map</a>`;
-  find("#judge-result").innerHTML = verdictHtml(true, "Lawful, and best.", option
-    ? `It is option ${option} of ${answer.number}${differs} ${link}`
-    : "It is one of the best groupings.");
+  find("#judge-result").innerHTML = verdictHtml(true, "Lawful, and best.",
+    `It is option ${option} of ${answer.number}${differs} ${link}`);
   const groups = groupsOf(answer, choices);
   showMap(find("#judged-map"), {
     geography: desk.geography, chamber: answer.seats,

@@ -1,6 +1,7 @@
 // The page's script: reads the page's data, and shows the view that the address names.
 
 import { followAnswer, paintAnswer, showOption } from "./answer_view.mjs";
+import { isOption } from "./answers.mjs";
 import { answerFor, deskOf } from "./desk.mjs";
 import { find, findAll } from "./dom.mjs";
 import { followDownloads } from "./downloads.mjs";
@@ -20,7 +21,8 @@ import { followWhatIf, openWhatIf } from "./what_if_view.mjs";
 const VIEWS = ["answer", "proof", "whatif", "files"];
 
 /**
- * Shows the view, the chamber and the option that the address names.
+ * Shows the view, the chamber and the option that the address names. The first option is shown in
+ * the place of one that isn't there, and the address then names it.
  * @param {Desk} desk
  * @param {ViewState} state
  */
@@ -31,19 +33,17 @@ function route(desk, state) {
   state.view = view;
   const key = view === "answer" ? head : second;
   if (desk.answers.some((answer) => answer.key === key)) state.chamber = key;
-  const option = view === "answer" ? Number(second) : 0;
-  const isSame = before.view === "answer" && view === "answer" && before.chamber === state.chamber
+  const answer = answerFor(desk, state.chamber);
+  const isNamed = answer.key === head && Boolean(second);
+  const option = isOption(answer, Number(second)) ? Number(second) : 1;
+  const isSame = before.view === "answer" && before.chamber === state.chamber
     && document.body.classList.contains("drawn");
-  if (isSame && option) {
-    showOption(desk, state, option);
-    return;
-  }
-  const { number } = answerFor(desk, state.chamber);
-  if (option >= 1 && option <= number) state.option.set(state.chamber, option);
-  if (desk.answers.some((answer) => answer.key === head)) {
+  if (isNamed && isSame) showOption(desk, state, option);
+  else if (isNamed) state.option.set(head, option);
+  if (answer.key === head) {
     history.replaceState(null, "", `#${head}/${shownOption(state, head)}`);
   }
-  showView(desk, state, query ?? "");
+  if (!isNamed || !isSame) showView(desk, state, query ?? "");
 }
 
 /**
@@ -102,6 +102,14 @@ function followWindow(desk, state) {
   });
 }
 
+/** Has the link to the main part move the focus alone, since a mark of the address names a view. */
+function followSkip() {
+  find(".skip").addEventListener("click", (event) => {
+    event.preventDefault();
+    find("#main").focus();
+  });
+}
+
 /** Begins: reads the data and follows every control. */
 function begin() {
   const data = JSON.parse(find("#data").textContent ?? "{}");
@@ -114,6 +122,7 @@ function begin() {
   find("#figure").hidden = !desk.geography.sheet;
   find(".brand span").textContent = desk.geography.name;
   for (const link of findAll("nav .needs-program")) link.hidden = !hasProgram();
+  followSkip();
   followAnswer(desk, state);
   followDownloads(desk, state);
   followProof(desk, state);

@@ -7,7 +7,7 @@ import { countyName } from "./geography.mjs";
 import { groupName } from "./group_words.mjs";
 import { textWidth } from "./letters.mjs";
 import { cellPoint } from "./sheet.mjs";
-import { escapeHtml, LETTERS, nounFor } from "./words.mjs";
+import { choiceLetters, escapeHtml, nounFor } from "./words.mjs";
 
 /** @typedef {import('./geography.mjs').Geography} Geography */
 /** @typedef {import('./geography.mjs').Group} Group */
@@ -370,11 +370,11 @@ function switchParts({ sheet, drawing, box, scale, px }, names, placed) {
       const isOn = choice === area.choice;
       return `<g class="letter${isOn ? " on" : ""}" role="button" tabindex="-1" `
         + `data-area="${one.area}" data-choice="${choice}" aria-pressed="${isOn}" `
-        + `aria-label="${escapeHtml(area.name)} ${LETTERS[choice]}"><rect x="${short(x)}" `
+        + `aria-label="${escapeHtml(area.name)} ${choiceLetters(choice)}"><rect x="${short(x)}" `
         + `y="${short(top)}" width="${short(one.letterWidth)}" height="${short(one.h)}" `
         + `rx="${px(choice === area.choices - 1 ? 4 : 0)}" ${stroke}/>`
         + `<text x="${short(x + one.letterWidth / 2)}" y="${textY}" ${size}>`
-        + `${LETTERS[choice]}</text></g>`;
+        + `${choiceLetters(choice)}</text></g>`;
     });
     return `${line}<g class="switch"><rect x="${short(left)}" y="${short(top)}" `
       + `width="${short(one.w)}" height="${short(one.h)}" rx="${px(4)}" ${stroke}/>`

@@ -1,22 +1,26 @@
 // The third part of the files: a reader's plan, audited against a grouping.
 
 import { stripSvg } from "./answer_parts.mjs";
-import { choicesOf, groupingText, groupsOf } from "./answers.mjs";
+import { groupingText, groupsOf } from "./answers.mjs";
 import { planOf, planTable } from "./block_plan.mjs";
 import { find, findInput, stepList, verdictHtml } from "./dom.mjs";
 import { districtFaults, findingKinds, setsOfDistrict } from "./findings_words.mjs";
 import { placesOf } from "./geography.mjs";
 import { groupName } from "./group_words.mjs";
 import { givenGroupingText } from "./grouping_view.mjs";
-import { PROBLEM_FILES, startProgram, wasStopped, whyNoProgram, withFile } from "./program.mjs";
+import { problemWords } from "./problem.mjs";
+import {
+  carriedProblem, startProgram, wasStopped, whyNoProgram, withFile,
+} from "./program.mjs";
 import { readDistricts, readFindings, readGrouping } from "./program_texts.mjs";
 import { lastSolved } from "./solve_files.mjs";
-import { shownOption } from "./view_state.mjs";
+import { shownChoices, shownOption } from "./view_state.mjs";
 import {
   capital, counted, countedInWords, escapeHtml, numberText, signedPercent,
 } from "./words.mjs";
 
 /** @typedef {import("./desk.mjs").Desk} Desk */
+/** @typedef {import("./answers.mjs").Answer} Answer */
 /** @typedef {import("./view_state.mjs").ViewState} ViewState */
 /** @typedef {import("./given_files.mjs").Given} Given */
 /** @typedef {import("./block_plan.mjs").PlanTable} PlanTable */
@@ -27,9 +31,9 @@ import {
 /** @typedef {import("./program_texts.mjs").District} District */
 /** @typedef {{findings: Finding[], districts: District[]}} Audited */
 /**
- * A grouping that a plan can be compared with.
- * @typedef {{key: string, words: string, text: string, seats: number, geography: Geography,
- *   tolerance: [number, number]}} Choice
+ * A grouping that a plan can be compared with. `problem` has the program's words of its problem.
+ * @typedef {{key: string, words: string, text: string, problem: string[], seats: number,
+ *   geography: Geography, tolerance: [number, number]}} Choice
  */
 
 const MANY_DISTRICTS = 1000;
@@ -38,35 +42,47 @@ const MANY_DISTRICTS = 1000;
 let table = null;
 
 /**
+ * Returns a grouping of a chamber of the page, judged with the links and sets that it carries.
+ * @param {Desk} desk
+ * @param {Answer} answer
+ * @param {{key: string, words: string, text: string}} named
+ * @returns {Choice}
+ */
+function choiceOf(desk, answer, named) {
+  const { seats, tolerance } = answer;
+  const problem = problemWords(desk, answer);
+  return { ...named, problem, seats, tolerance, geography: desk.geography };
+}
+
+/**
  * Returns the groupings that a plan can be compared with.
  * @param {Desk} desk
  * @param {ViewState} state
  * @returns {Choice[]}
  */
 function choicesFor(desk, state) {
-  const { geography } = desk;
   const choices = desk.answers.map((answer) => {
-    const option = shownOption(state, answer.key);
-    const text = groupingText(geography, groupsOf(answer, choicesOf(answer, option)));
-    const words = `${answer.name}, option ${option}`;
-    const { seats, tolerance } = answer;
-    return { key: answer.key, words, text, seats, geography, tolerance };
+    const { key, name } = answer;
+    const option = answer.options ? `option ${shownOption(state, key)}` : "as it is shown";
+    const text = groupingText(desk.geography, groupsOf(answer, shownChoices(state, answer)));
+    return choiceOf(desk, answer, { key, words: `${name}, ${option}`, text });
   });
   for (const answer of desk.answers) {
     const text = givenGroupingText(desk, answer.seats);
-    const { seats, tolerance } = answer;
-    const words = `Your grouping above, of ${seats} seats`;
+    const words = `Your grouping above, of ${counted(answer.seatsLeft, "seat")}`;
     const total = text ? readGrouping(text).reduce((sum, one) => sum + one.seats, 0) : 0;
-    const key = `own-${seats}`;
-    if (text && total === seats) choices.push({ key, words, text, seats, geography, tolerance });
+    const key = `own-${answer.seats}`;
+    if (text && total === answer.seatsLeft) {
+      choices.push(choiceOf(desk, answer, { key, words, text }));
+    }
   }
   const solved = lastSolved();
   if (solved) {
-    const { answer } = solved;
-    const text = groupingText(solved.geography, groupsOf(answer, answer.first));
-    const words = `${solved.geography.name}, solved above`;
+    const { answer, geography, words: problem } = solved;
+    const text = groupingText(geography, groupsOf(answer, answer.first));
+    const words = `${geography.name}, solved above`;
     const { seats, tolerance } = answer;
-    choices.push({ key: "solved", words, text, seats, geography: solved.geography, tolerance });
+    choices.push({ key: "solved", words, text, problem, seats, geography, tolerance });
   }
   return choices;
 }
@@ -88,9 +104,9 @@ export function paintPlan(desk, state, given) {
   const missing = /** @type {const} */ (["geo", "segment", "adjacency"]).filter(
     (kind) => !given.has(kind));
   if (!table || !missing.length) return;
-  find("#audit-result").innerHTML = '<p class="note">Drop the state’s whole Census files above, '
-    + 'too: '
-    + "the geographic header and the counts with their blocks, and the file of borders.</p>";
+  const words = "Drop the state’s whole Census files above, too: "
+    + "the geographic header and the counts with their blocks, and the file of borders.";
+  find("#audit-result").innerHTML = `<p class="note">${words}</p>`;
 }
 
 /**
@@ -178,6 +194,7 @@ async function audited(given, choice, steps) {
 
 /**
  * Returns the findings and the districts of the program. Throws a sentence if it refuses a file.
+ * The given files stand in the place of those of the page, whose links and sets stay.
  * @param {{geo: File, segment: File, adjacency: File}} census
  * @param {Choice} choice
  * @param {Plan} plan
@@ -186,16 +203,11 @@ async function audited(given, choice, steps) {
  */
 async function runAudit(census, choice, plan, step) {
   /** @type {Map<string, Blob>} */
-  let files = new Map(Object.entries(census));
+  let files = new Map([...await carriedProblem(), ...Object.entries(census)]);
   files = withFile(files, "grouping", choice.text);
   files = withFile(files, "plan", plan.lines);
-  const words = ["audit", ...PROBLEM_FILES, "--chamber", String(choice.seats), "--state",
-    String(Number(choice.geography.code)), "--grouping", "grouping", "--assignments", "plan",
+  const words = ["audit", ...choice.problem, "--grouping", "grouping", "--assignments", "plan",
     "--districts", "districts"];
-  const [numerator, denominator] = choice.tolerance;
-  if (numerator !== 1 || denominator !== 20) {
-    words.push("--part", String(numerator), "--of", String(denominator));
-  }
   const { result, stop } = await startProgram(words, files, (line) => step.tell(line));
   const button = find("#stop-audit");
   button.hidden = false;
@@ -273,7 +285,7 @@ function districtTable(choice, against, districts) {
   return `<details class="fold" open><summary>All ${counted(districts.length, "district")}`
     + '</summary><div class="scrolls"><table class="groups districts"><thead><tr><th '
     + 'class="number">District</th><th>Group</th><th class="number">People</th><th '
-    + 'class="number">From the ideal (percent)</th><th></th><th>Counties</th>'
+    + 'class="number">From the ideal (percent)</th><td></td><th>Counties</th>'
     + `<th>Finding</th></tr></thead><tbody>${rows.join("")}</tbody></table></div></details>`;
 }
 

@@ -1,7 +1,9 @@
 // What the page shows now: the view, the chamber, and the option of each chamber.
 
+import { choicesOf } from "./answers.mjs";
 import { firstOption } from "./desk.mjs";
 
+/** @typedef {import("./answers.mjs").Answer} Answer */
 /** @typedef {"answer" | "proof" | "whatif" | "files"} ViewName */
 /**
  * What the page shows. `free` has the choices of an answer whose options aren't numbered.
@@ -28,4 +30,14 @@ export function firstState(desk) {
  */
 export function shownOption(state, key) {
   return state.option.get(key) ?? 1;
+}
+
+/**
+ * Returns the choices that an answer shows, also where its options aren't numbered.
+ * @param {ViewState} state
+ * @param {Answer} answer
+ */
+export function shownChoices(state, answer) {
+  if (answer.options) return choicesOf(answer, shownOption(state, answer.key));
+  return state.free.get(answer.key) ?? answer.first;
 }

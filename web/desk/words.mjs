@@ -5,8 +5,18 @@ const SMALL_NUMBERS = [
 ];
 const HTML_SIGNS = new Map([["&", "&amp;"], ["<", "&lt;"], [">", "&gt;"], ['"', "&quot;"]]);
 
-/** The letters of the choices in an area. */
-export const LETTERS = "ABCDEFGHIJKLMNOPQRSTUVWXYZ";
+const LETTERS = "ABCDEFGHIJKLMNOPQRSTUVWXYZ";
+
+/**
+ * Returns the letters of a choice in an area: A to Z, then AA, AB and so on.
+ * @param {number} choice  from 0
+ * @returns {string}
+ */
+export function choiceLetters(choice) {
+  const last = LETTERS[choice % LETTERS.length];
+  const before = Math.floor(choice / LETTERS.length) - 1;
+  return before < 0 ? last : choiceLetters(before) + last;
+}
 
 /**
  * Returns `value` rounded, with commas between thousands.

@@ -39,6 +39,19 @@ class Options(InDesk):
         self.assertIn("Used for the plan enacted in 2023", self.text("#option-note"))
         self.check_quiet()
 
+    def test_options_that_are_not_there(self) -> None:
+        for number in ("99", "1.5", "0", "-1", "last"):
+            with self.subTest(number):
+                self.open(f"#senate/{number}")
+                self.assertEqual(self.text("#option"), "Option 1 of 16")
+                self.go("#senate/3")
+                self.assertEqual(self.text("#option"), "Option 3 of 16")
+                for _ in range(2):
+                    self.go(f"#senate/{number}")
+                    self.assertEqual(self.text("#option"), "Option 1 of 16")
+                    self.assertEqual(self.value("location.hash"), "#senate/1")
+        self.check_quiet()
+
     def test_each_option_by_click(self) -> None:
         for key, count in COUNTS.items():
             self.open(f"#{key}")

@@ -71,9 +71,13 @@ class State(Files):
 
     def test_the_files_of_the_page(self) -> None:
         self.open("#files")
+        self.give(ANY, DATA / "county_outlines.geojson")
+        self.wait_words("#dropped", "county_outlines.geojson is outlines")
         self.press_button("#use-own")
         told = self.solved(120)
         self.assertIn("8 best groupings", told)
+        filled = "[...document.querySelectorAll('.has-file')].map((one) => one.dataset.kind)"
+        self.assertEqual(self.value(filled), ["geo", "segment", "adjacency"])
         self.assertEqual(self.value("document.querySelectorAll('#solved-map .badge').length"), 40)
 
     def test_a_state_with_outlines(self) -> None:
@@ -408,16 +412,3 @@ class Plan(Files):
         self.given(self.write("house.csv", "\n".join(["GEOID20,District", *rows])))
         self.wait("!document.querySelector('#audit').disabled")
         self.assertEqual(self.value("document.querySelector('#plan-against').value"), "house")
-
-    def test_a_lost_zero_is_mended(self) -> None:
-        script = (DATA.parent.parent / "web" / "desk" / "block_plan.mjs").as_uri()
-        words = (
-            f'import {{ planOf }} from "{script}"; '
-            'const rows = [["10010201001000", "1"]]; '
-            'const table = { header: ["a", "b"], block: 0, district: 1, rows }; '
-            'console.log(planOf(table, "01").lines)'
-        )
-        done = subprocess.run(
-            ["node", "--input-type=module", "-e", words], capture_output=True, check=True
-        )
-        self.assertEqual(done.stdout.decode().strip(), "010010201001000|1")

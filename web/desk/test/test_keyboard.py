@@ -28,6 +28,17 @@ class Keyboard(InDesk):
         self.tab_to(selector)
         self.browser.press(key)
 
+    def test_the_head_is_skipped(self) -> None:
+        for mark in ("#house/3", "#proof/house"):
+            self.open(mark, height=1000)
+            self.press_on(".skip")
+            self.assertEqual(self.value("document.activeElement.id"), "main")
+            self.assertEqual(self.value("location.hash"), mark)
+        self.assertFalse(self.value("document.querySelector('#proof').hidden"))
+        self.browser.press("Tab")
+        self.assertTrue(self.value("document.activeElement.closest('#proof') !== null"))
+        self.check_quiet()
+
     def test_the_map(self) -> None:
         self.tab_to("#map .badge")
         seen = set()

@@ -1,9 +1,12 @@
 """Pages that tools/page.py makes of a few squares, opened in a browser."""
+import itertools
 from pathlib import Path
 from unittest import mock
 
+import desk_page
 import page as county_page
 from desk_setting import SETTING, STATES, InDesk, native, run
+from native_texts import GROUP_OF
 from page_samples import GROUPS, PEOPLE, SIX_WITHDRAWN, TWO, TWO_LISTED, WITHDRAWN, PageRoom
 from page_samples import record_of, small_table, squares, written
 
@@ -36,9 +39,11 @@ class Small(InDesk, PageRoom):
             self.stored("grouping"), b"1|37005\n1|37011\n2|37001|37003\n2|37007|37009\n"
         )
         self.assertEqual(self.text("nav").split("\n")[:2], ["The answer", "The proof"])
-        self.assertFalse(
-            self.value("document.querySelector('[data-view=whatif]').getClientRects().length")
-        )
+        hidden = ("[data-view=whatif]", "[data-download=certificate]")
+        self.value("document.querySelector('#downloads').open = true; null")
+        for selector in hidden:
+            script = f"document.querySelector('{selector}').getClientRects().length"
+            self.assertFalse(self.value(script), selector)
         self.check_quiet()
 
     def test_names_with_signs(self) -> None:
@@ -122,26 +127,33 @@ class Small(InDesk, PageRoom):
         self.check_quiet()
 
 
+def census_of(people: dict[str, int]) -> tuple[str, str]:
+    """Returns geographic header and segment 1 of counties and blocks with people by their codes."""
+    geo, segment = "", ""
+    for record, (code, count) in enumerate(people.items(), 1):
+        fields = [""] * 97
+        fields[2], fields[4] = "050" if len(code) == 5 else "750", "00"
+        fields[7], fields[9], fields[12], fields[14] = str(record), code, "37", code[2:5]
+        geo += "|".join(fields) + "\n"
+        segment += f"PLST|NC|000|01|{record}|{count}\n"
+    return geo, segment
+
+
 class Carried(InDesk, PageRoom):
-    """A page of another state that carries its files and the program."""
+    """Pages that carry their files and the program."""
 
     def setUp(self) -> None:
         InDesk.setUp(self)
         PageRoom.setUp(self)
 
-    def made_of_alabama(self) -> Path:
-        """Returns a page of Alabama's Senate, on a board of squares."""
+    def made_of(self, words: list[str]) -> Path:
+        """Returns a page of the problem that these words name, on a board of squares."""
         native()
         if not SETTING.wasm.is_file():
             raise NotThere("there is no program for browsers (--wasm)")
-        words = [
-            part
-            for kind in ("geo", "segment", "adjacency")
-            for part in (f"--{kind}", str(STATES / f"alabama.{kind}"))
-        ]
         kinds = ("certificate", "table", "record")
         stored = {kind: str(Path(self.folder) / kind) for kind in kinds}
-        words += ["--chamber", "35", "--state", "1", "--certificate", stored["certificate"]]
+        words = [*words, "--certificate", stored["certificate"]]
         run("solve", *words, "--table", stored["table"], "--record", stored["record"])
         table = Path(stored["table"]).read_text(encoding="utf-8")
         codes = [line[:5] for line in table.split("\n")[1:] if line]
@@ -154,9 +166,22 @@ class Carried(InDesk, PageRoom):
         self.assertEqual((status, said), (0, ""))
         return Path(out)
 
+    def made_of_census(
+        self, people: dict[str, int], borders: list[tuple[str, str]], *words: str
+    ) -> Path:
+        """Returns a page of these counties, blocks and borders, with more words of its problem."""
+        texts = dict(zip(("geo", "segment"), census_of(people)))
+        texts["adjacency"] = "".join(f"A|{one}|B|{other}\r\n" for one, other in borders)
+        files = [part for it, text in texts.items() for part in (f"--{it}", self.file(it, text))]
+        return self.made_of([*files, *words])
+
     def test_the_proof_and_a_what_if(self) -> None:
-        path = self.made_of_alabama()
-        self.open("#proof", path)
+        words = [
+            part
+            for kind in ("geo", "segment", "adjacency")
+            for part in (f"--{kind}", str(STATES / f"alabama.{kind}"))
+        ]
+        self.open("#proof", self.made_of([*words, "--chamber", "35", "--state", "1"]))
         self.press_button("#check")
         self.wait("document.querySelector('#check-verdict .verdict') !== null")
         self.assertIn("better than the 14 on this page", self.text("#check-verdict"))
@@ -166,4 +191,59 @@ class Carried(InDesk, PageRoom):
         self.go("#files")
         self.press_button("#use-own")
         self.wait("!document.querySelector('#solve-files').disabled")
+        self.check_quiet()
+
+    def audited(self, against: str) -> str:
+        """Returns what the page says of the plan when it is compared with a grouping."""
+        for selector in ("#grouping-text", "#plan-against"):
+            self.value(f"document.querySelector('{selector}').focus(); null")
+        self.value(f"document.querySelector('#plan-against').value = '{against}'; null")
+        self.press_button("#audit")
+        self.wait("!document.querySelector('#audit').disabled")
+        return self.text("#audit-result")
+
+    def test_a_plan_where_a_set_is_withdrawn_and_a_link_added(self) -> None:
+        # 37001 and 37003 suit three seats together, and only the link joins them.
+        district = {f"37001000000000{at}": "112"[at - 1] for at in (1, 2, 3)}
+        district.update({f"37003000000000{at}": "233"[at - 1] for at in (1, 2, 3)})
+        blocks = {block: 50 for block in district}
+        district["370050000000001"] = "4"
+        people = {"37001": 150, "37003": 150, "37005": 100, **blocks, "370050000000001": 100}
+        words = ["--chamber", "4", "--links", self.file("links", "+|37001|37003\n")]
+        words += ["--withdrawn", self.file("sets", "1|37005\n")]
+        self.open("#files", self.made_of_census(people, [("37001", "37005")], *words))
+        self.press_button("#use-own")
+        self.wait("!document.querySelector('#solve-files').disabled")
+        plan = "".join(f"{block},{label}\n" for block, label in district.items())
+        self.give("#plan-file", Path(self.file("plan.csv", f"GEOID20,District\n{plan}")))
+        self.wait("!document.querySelector('#audit').disabled")
+        self.assertIn("Nothing was found.", self.audited("chamber"))
+        self.assertIn("the set 1 taken out", self.text("#audit-result"))
+        self.value("document.querySelector('#grouping-text').value = '3|37001|37003'; null")
+        self.assertIn("Your grouping above, of 3 seats", self.audited("own-4"))
+        self.assertIn("Nothing was found.", self.text("#audit-result"))
+        self.check_quiet()
+
+    def test_a_grouping_where_options_are_not_numbered(self) -> None:
+        # In each of two rows of three counties, the one between goes with either of the others.
+        codes = ["37001", "37003", "37005", "37007", "37009", "37011"]
+        rows = [codes[:3], codes[3:]]
+        people = {code: 5 if code == row[1] else 100 for row in rows for code in row}
+        borders = [pair for row in rows for pair in zip(row, row[1:])]
+        script = desk_page.script_text().replace("MOST_NUMBERED = 20000", "MOST_NUMBERED = 3")
+        with mock.patch.object(desk_page, "script_text", return_value=script):
+            self.open("#files", self.made_of_census(people, borders, "--chamber", "4"))
+        for sides in itertools.product((0, 2), repeat=2):
+            both = [f"1|{row[side]}|{row[1]}" for row, side in zip(rows, sides)]
+            alone = [f"1|{row[2 - side]}" for row, side in zip(rows, sides)]
+            text = "\n".join(both + alone)
+            self.value(f"document.querySelector('#grouping-text').value = {text!r}; null")
+            self.press_button("#judge")
+            self.wait("document.querySelector('#judged-map svg') !== null")
+            told = self.text("#judge-result")
+            self.assertIn("It is one of the best groupings.", told)
+            shown = self.value(GROUP_OF.replace("#map", "#judged-map"))
+            group_of = {codes[int(at)]: group for at, (group, _) in shown.items()}
+            for row, side in zip(rows, sides):
+                self.assertEqual(group_of[row[1]], group_of[row[side]])
         self.check_quiet()
