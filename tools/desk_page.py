@@ -85,7 +85,8 @@ def slim(value: Any) -> Any:
 
 def border_lines(adjacency: str, geoids: set[str]) -> str:
     """Returns each pair of listed neighbors of an adjacency file once, a line of two codes each."""
-    rows = [line.removesuffix("\r").split("|") for line in adjacency.split("\n")]
+    found = (line[:-1] if line.endswith("\r") else line for line in adjacency.split("\n"))
+    rows = [line.split("|") for line in found]
     pairs = {tuple(sorted((row[1], row[3]))) for row in rows if len(row) >= 4}
     lines = [
         f"{one} {other}"
