@@ -12,7 +12,7 @@ dist/. It takes some 15 seconds.
 - the plain part, with the standard library alone, by `python3`;
 - tables, shapes and graphs, and the documents' examples, by the first of `python3` and
   /usr/bin/python3 that has geopandas, networkx and matplotlib;
-- types by mypy, and the layout of lines by black.
+- types by mypy, and the layout of lines by black of release 23.
 
 What isn't there is said with the command that installs it, and what needs it is passed over.
 --install: installs what isn't there by apt-get first. It needs Debian and its root.
@@ -24,6 +24,11 @@ TEXT
 refuse() {
     echo "python/test.sh: $1" >&2
     exit 2
+}
+
+fail() {
+    echo "python/test.sh: $1" >&2
+    exit 1
 }
 
 plain=(tests.test_input tests.test_answers tests.test_progress)
@@ -63,6 +68,17 @@ pass_over() { # WHAT PACKAGE ..
     echo "not run: $1; on Debian \`apt-get install ${*:2}\` or \`python/test.sh --install\`"
 }
 
+# Returns whether this is the release of black by which the files are laid out. If not, says so.
+is_known_black() {
+    case $(black --version) in
+        "black, 23."*) ;;
+        *)
+            echo "not run: the test of the layout of lines, which is that of black 23"
+            return 1
+            ;;
+    esac
+}
+
 if [ "$is_installing" = yes ] && ! is_complete; then
     command -v apt-get >/dev/null || refuse "there is no \`apt-get\`, so nothing can be installed"
     apt-get update -qq
@@ -88,8 +104,8 @@ if command -v mypy >/dev/null; then
 else
     pass_over "the test of types" mypy
 fi
-if command -v black >/dev/null; then
-    black --quiet --check . || refuse "\`black .\` in python/ would change a file"
-else
+if ! command -v black >/dev/null; then
     pass_over "the test of the layout of lines" black
+elif is_known_black; then
+    black --quiet --check . || fail "\`black .\` in python/ would change a file"
 fi

@@ -109,7 +109,8 @@ class Answer:
         if self.certificate is not None:
             (place / files.CERTIFICATE).write_text(self.certificate, "ascii", newline="\n")
             lines += ["In this folder the certificate is checked by:", ""]
-            lines += [f"countygroups check {words} --certificate {files.CERTIFICATE}"]
+            told = f"--certificate {files.CERTIFICATE} --budget {UNBOUNDED}"
+            lines += [f"countygroups check {words} {told}"]
         files.write(place, README, lines)
 
     def _summary(self) -> list[str]:

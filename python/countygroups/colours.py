@@ -28,6 +28,7 @@ def colours_of(groups: Sequence[Group], neighbours: Mapping[Label, set[Label]]) 
     chosen: dict[int, int] = {}
 
     def taken(place: int) -> set[int]:
+        """Returns the colours of the groups beside that of a place, as far as they have one."""
         return {chosen[other] for other in near[place] if other in chosen}
 
     while len(chosen) < len(groups):

@@ -54,6 +54,7 @@ def write_adjacency(folder: Path, adjacency: Adjacency, codes: Codes) -> None:
     """Writes the adjacency file, and the links if pairs were added or cut."""
 
     def coded(pairs: Iterable[Pair]) -> list[tuple[str, str]]:
+        """Returns the codes of pairs of labels, in the order of the codes."""
         return sorted((codes.code_of[one], codes.code_of[other]) for one, other in pairs)
 
     write(folder, ADJACENCY, [f"|{one}||{other}" for one, other in coded(adjacency.listed)])

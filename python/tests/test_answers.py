@@ -9,6 +9,7 @@ from typing import Any
 
 import countygroups
 from countygroups import CertificateError, InputError, NoBestGrouping, ProgramError
+from countygroups.best_groupings import UNBOUNDED
 from tests import setting
 from tests.setting import needs_program, sets_of, solved_path
 
@@ -144,6 +145,7 @@ class SmallProblems(unittest.TestCase):
             done = subprocess.run(command, cwd=folder, capture_output=True, check=True, text=True)
             labels = (folder / "labels.csv").read_text().splitlines()
             grouping = (folder / "grouping.txt").read_text()
+        self.assertEqual(words[-2:], ["--budget", UNBOUNDED])
         self.assertIn("answer best\ncounts 1 1\n", done.stdout)
         self.assertEqual(labels[:2], ["CODE,LABEL,NAME", "99001,A,A"])
         self.assertEqual(grouping, "1|99003\n1|99001|99002\n")

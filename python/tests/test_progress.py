@@ -62,6 +62,7 @@ class Runs(unittest.TestCase):
 
     def test_stopped_by_the_callback(self) -> None:
         def stop(_: Progress) -> None:
+            """Raises `Stopped` at the first line that is shown."""
             raise Stopped
 
         begun = time.monotonic()

@@ -75,7 +75,7 @@ pairs_of_file <- function(path, labels) {
     stop_input("An adjacency file takes GEOIDs as labels, and a county has another.")
   }
   if (!file.exists(path)) stop_input("The adjacency file ", path, " can't be read.")
-  rows <- strsplit(readLines(path, warn = FALSE, encoding = "UTF-8"), "|", fixed = TRUE)
+  rows <- fields_of(path)
   rows <- rows[lengths(rows) >= 4]
   words <- cbind(
     vapply(rows, function(row) row[2], ""),

@@ -39,8 +39,8 @@ check_certificate <- function(answer, certificate = answer$certificate) {
   if (is.null(certificate)) {
     stop_with("countygroups_no_grouping", "The steps ran out, so there is no certificate.")
   }
-  words <- c("--certificate", "certificate.txt", "--budget", unbounded)
-  answer_of(answer$problem, run_program(answer$problem, "check", words, certificate), certificate)
+  run <- run_program(answer$problem, "check", certificate_words, certificate)
+  answer_of(answer$problem, run, certificate)
 }
 
 best_groupings <- function(answer) {
@@ -70,8 +70,7 @@ run_list <- function(answer, words = character()) {
     told <- paste0("The outcome is ", answer$outcome, ", so no grouping is known as best.")
     stop_with("countygroups_no_grouping", told)
   }
-  first <- c("--certificate", "certificate.txt", "--budget", unbounded)
-  run_program(answer$problem, "list", c(first, words), answer$certificate)
+  run_program(answer$problem, "list", c(certificate_words, words), answer$certificate)
 }
 
 print.county_groups <- function(x, ...) {

@@ -22,10 +22,16 @@ read_census <- function(geo, segment) {
   data.frame(GEOID = geoid, NAME = ifelse(is.na(name) | name == "", geoid, name), people = found)
 }
 
-# Returns the fields of each line of a file.
+# Returns the fields at pipes of each line of a file in UTF-8. Stops if there is no file.
+#
+# Each byte that isn't UTF-8 becomes the sign U+FFFD: `strsplit` would lose such a line.
 fields_of <- function(path) {
   if (!file.exists(path)) stop_input("The file ", path, " can't be read.")
-  strsplit(readLines(path, warn = FALSE, encoding = "UTF-8"), "|", fixed = TRUE)
+  sign <- "\ufffd"
+  # (as a native text it isn't translated, whatever the locale)
+  Encoding(sign) <- "unknown"
+  lines <- readLines(path, warn = FALSE, encoding = "UTF-8")
+  strsplit(iconv(lines, "UTF-8", "UTF-8", sub = sign), "|", fixed = TRUE)
 }
 
 save_groups <- function(answer, folder) {
@@ -40,7 +46,7 @@ save_groups <- function(answer, folder) {
   if (nrow(answer$groups) > 0) write_lines(grouping_lines(answer), folder, "grouping.txt")
   if (!is.null(answer$certificate)) {
     write_lines(answer$certificate, folder, "certificate.txt")
-    words <- c("countygroups check", problem_words(problem), "--certificate certificate.txt")
+    words <- c("countygroups check", problem_words(problem), certificate_words)
     told <- "In this folder the certificate is checked by:"
     lines <- c(lines, told, "", paste(words, collapse = " "))
   }

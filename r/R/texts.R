@@ -4,6 +4,9 @@
 # The checker counts its steps. A certificate bounds them, so that this number stops nobody.
 unbounded <- "18446744073709551615"
 
+# The words by which `check` and `list` read the certificate of the working folder.
+certificate_words <- c("--certificate", "certificate.txt", "--budget", unbounded)
+
 # Returns what stands behind `word` in the first line that begins with it, or "".
 behind <- function(lines, word) {
   found <- lines[startsWith(lines, paste0(word, " "))]

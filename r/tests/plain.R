@@ -59,6 +59,29 @@ test("adjacency", {
   refused(structure(list(0L), class = "nb"), "has 1 counties, not 4")
 })
 
+test("files that aren't UTF-8", {
+  # (a `~` becomes the byte f1, an n with a tilde in Latin-1)
+  write_latin <- function(lines) {
+    path <- tempfile()
+    bytes <- charToRaw(paste0(lines, "\n", collapse = ""))
+    bytes[bytes == charToRaw("~")] <- as.raw(0xf1)
+    writeBin(bytes, path)
+    path
+  }
+  geo <- matrix("", 2, 88)
+  geo[, c(3, 5, 8, 13)] <- rep(c("050", "00", "7", "35"), each = 2)
+  geo[, 15] <- c("013", "015")
+  geo[, 88] <- c("Do~a Ana County", "Eddy County")
+  segment <- write_latin("||||7|219561|~")
+  census <- read_census(write_latin(apply(geo, 1, paste, collapse = "|")), segment)
+  expect_equal(census$GEOID, c("35013", "35015"))
+  expect_equal(census$people, c(219561, 219561))
+  expect_equal(utf8ToInt(census$NAME[1])[1:4], c(utf8ToInt("Do"), 0xfffd, utf8ToInt("a")))
+  borders <- write_latin(c("Do~a Ana County|35013|Eddy County|35015", "x|35013|y|35017"))
+  found <- input$adjacency_of(borders, census, input$read_counties(census))
+  expect_equal(found$listed, cbind(1, 2))
+})
+
 test("tolerance, seats and withdrawn sets", {
   expect_equal(input$tolerance_of(NULL), c(1, 20))
   expect_equal(input$tolerance_of(0.05), c(1, 20))
@@ -152,6 +175,7 @@ if (has_program) {
     printed <- system2(program[1], c(program[-1], words), stdout = TRUE)
     grouping <- readLines("grouping.txt")
     setwd(here)
+    expect_equal(tail(words, 2), c("--budget", input$unbounded))
     expect_equal("answer best" %in% printed, TRUE)
     expect_equal(grouping, c("1|99003", "1|99001|99002"))
   })
