@@ -46,6 +46,8 @@ from ring_processes import FedProcess, Inbox, Process, Said, board_texts
 from script_words import ScriptWords
 
 BUDGET = 1_000_000_000
+# The greatest budget of `check`. A certificate bounds its steps, so that this number stops nobody.
+MOST_CHECKED = 2**64 - 1
 SHOWN_EACH = 10.0
 # Replies behind which a piece no longer waits.
 SETTLED = (b"accepted", b"split into ", b"already ", b"old round", b"no such piece", b"new round ")
@@ -288,10 +290,9 @@ class Ring:
             return status
         path = self.folder.file("certificate")
         tell(f"joined: the certificate is {path}")
-        words = without_limit(self.folder.words)
-        tell(
-            f"test it with: {shlex.join(['countygroups', 'check', *words, '--certificate', path])}"
-        )
+        check = ["countygroups", "check", *without_limit(self.folder.words)]
+        check += ["--certificate", path, "--budget", str(MOST_CHECKED)]
+        tell(f"test it with: {shlex.join(check)}")
         return 0
 
     def stop(self) -> None:
@@ -362,6 +363,9 @@ def main() -> int:
         return 3
     except Refused as why:
         tell(str(why))
+        return 2
+    except OSError as fault:
+        tell(f"it can't go on: {fault}")
         return 2
     finally:
         if ring:

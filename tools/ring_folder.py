@@ -11,6 +11,7 @@
 """
 from __future__ import annotations
 
+import contextlib
 import fcntl
 import os
 import re
@@ -34,8 +35,11 @@ class Named(NamedTuple):
 
 
 def tell(what: str) -> None:
-    """Writes a line for a person to standard error."""
-    print(f"ring.py: {what}", file=sys.stderr, flush=True)
+    """Writes a line for a person to standard error, if that can be written."""
+    line = f"ring.py: {what}\n".encode(errors="backslashreplace")
+    # (a line that waited in a buffer would change the status in the end)
+    with contextlib.suppress(OSError):
+        os.write(sys.stderr.fileno(), line)
 
 
 def read(path: str) -> bytes:

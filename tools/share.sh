@@ -4,15 +4,19 @@ set -euo pipefail
 
 usage() {
     cat <<'TEXT'
-usage: tools/share.sh --folder FOLDER [--grouping FILE] [--events FILE] [--jobs N] [--steps N] [--sshlogin LOGIN].. [-- WORDS OF THE PROBLEM]
+usage: tools/share.sh --folder FOLDER [--grouping FILE] [--events FILE] [--jobs N] [--steps N]
+                      [--sshlogin LOGIN].. [-- WORDS OF THE PROBLEM]
 
-Begins the folder of a shared proof, and runs `tools/ring.py` over it until the certificate is FOLDER/certificate. It may be stopped at any moment. If it
-is started again with the folder, it goes on where it was.
+Begins the folder of a shared proof, and runs `tools/ring.py` over it until the certificate is
+FOLDER/certificate. It may be stopped at any moment. If it is started again with the folder, it goes
+on where it was.
 
   --folder FOLDER   the folder for its files; it is made if it isn't there
-  --grouping FILE   the grouping that is to be proved best, as `solve --out` stores it; a later start may leave it out
+  --grouping FILE   the grouping that is to be proved best, as `solve --out` stores it; a later
+                    start may leave it out
   --events FILE     events that come first, as `solve --events` stores them; a later start has them
-  -- WORDS          --geo, --segment, --chamber, --adjacency and the others that say what the problem is; a later start may leave them out
+  -- WORDS          --geo, --segment, --chamber, --adjacency and the others that say what the
+                    problem is; a later start may leave them out
   --prepare         only begins the folder, as for `tools/share.slurm`
   --jobs, --steps, --sshlogin, --srun: as `tools/ring.py --help` has them
 
@@ -39,8 +43,13 @@ read_words() { # WORD..
             --) shift; problem=("$@"); return ;;
             --prepare) is_prepared=yes; shift; continue ;;
             --srun) ring+=(--srun); shift; continue ;;
-            --folder | --grouping | --events | --jobs | --steps | --sshlogin) [ $# -gt 1 ] || refuse "$1 needs a word" ;;
-            *) usage >&2; refuse "it takes no word \`$1\`: the words of the problem stand behind \`--\`" ;;
+            --folder | --grouping | --events | --jobs | --steps | --sshlogin)
+                [ $# -gt 1 ] || refuse "$1 needs a word"
+                ;;
+            *)
+                usage >&2
+                refuse "it takes no word \`$1\`: the words of the problem stand behind \`--\`"
+                ;;
         esac
         case $1 in
             --folder) folder=$2 ;;
@@ -55,24 +64,31 @@ read_words() { # WORD..
 
 # The words of the problem, with whole paths, one a line.
 whole_words() {
-    local word before=''
+    local word before='' told="\`tools/ring.py\` gives what \`board\` and \`desk\` need besides"
     for word in "${problem[@]}"; do
         case $word in
-            --budget* | --depth* | --events* | --certificate* | --grouping* | --round* | --number* | --steps* | --record*)
-                refuse "\`$word\` is no word of the problem: \`tools/ring.py\` gives what \`board\` and \`desk\` need besides" ;;
+            --budget* | --depth* | --events* | --certificate* | --grouping* | --round* | \
+                --number* | --steps* | --record*)
+                refuse "\`$word\` is no word of the problem: $told"
+                ;;
         esac
         case $before in
-            --geo | --segment | --adjacency | --links | --withdrawn) word=$(realpath -ms -- "$word") ;;
+            --geo | --segment | --adjacency | --links | --withdrawn)
+                word=$(realpath -ms -- "$word")
+                ;;
         esac
         case $word in
-            --geo=* | --segment=* | --adjacency=* | --links=* | --withdrawn=*) word=${word%%=*}=$(realpath -ms -- "${word#*=}") ;;
+            --geo=* | --segment=* | --adjacency=* | --links=* | --withdrawn=*)
+                word=${word%%=*}=$(realpath -ms -- "${word#*=}")
+                ;;
         esac
         printf '%s\n' "$word"
         before=$word
     done
 }
 
-# Keeps what stands on standard input as a file of the folder. If the file is there, it has to be the same.
+# Keeps what stands on standard input as a file of the folder. If the file is there, it has to be
+# the same.
 keep() { # NAME
     cat >"$folder/$1.part"
     if [ -f "$folder/$1" ] && ! cmp -s "$folder/$1" "$folder/$1.part"; then

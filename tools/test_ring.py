@@ -16,6 +16,7 @@ from __future__ import annotations
 
 import os
 import queue
+import shlex
 import signal
 import subprocess
 import sys
@@ -262,10 +263,13 @@ class Rings(InARoom):
         return os.path.getsize(path) if os.path.exists(path) else 0
 
     def expect_best(self, done: subprocess.CompletedProcess[str]) -> None:
-        """Expects that the ring has joined a certificate, and that `check` says best."""
+        """Expects that the ring has joined a certificate, and that its `check` says best."""
         self.assertEqual(done.returncode, 0, done.stderr)
-        words = [*PROBLEM, "--certificate", f"{self.room}/work/certificate"]
-        checked = subprocess.run([TESTED.program, "check", *words], capture_output=True, text=True)
+        told = done.stderr.rsplit("test it with: ", 1)[1]
+        words = shlex.split(told)[1:]
+        self.assertEqual(words[0], "check")
+        self.assertEqual(words[-2:], ["--budget", str(2**64 - 1)])
+        checked = subprocess.run([TESTED.program, *words], capture_output=True, text=True)
         self.assertIn("\nanswer best\n", checked.stdout)
 
     def expect_both_kinds(self) -> None:
@@ -373,6 +377,22 @@ class Rings(InARoom):
         done = self.run_ring("--srun")
         self.assertEqual(done.returncode, 2)
         self.assertIn("no desk is left", done.stderr)
+
+    def test_a_full_disk(self) -> None:
+        """If the journal can't be written, the ring ends with 2, even if it can't say so."""
+        self.assertEqual(self.run_ring("--prepare").returncode, 0)
+        script = os.path.join(os.path.dirname(SHARE), "ring.py")
+        # (a limit of 1024 bytes for each file stands in for the disk)
+        command = ["bash", "-c", 'ulimit -f 1 && exec "$@"', "bash", sys.executable, script]
+        command += [f"{self.room}/work", "--jobs", "2", "--steps", str(FEW_STEPS)]
+        ring = subprocess.run(command, env=self.setting(), stderr=subprocess.PIPE, text=True)
+        self.assertEqual(ring.returncode, 2, ring.stderr)
+        last = ring.stderr.splitlines()[-1]
+        self.assertEqual(last, "ring.py: it can't go on: [Errno 27] File too large")
+        self.assertNotIn("Traceback", ring.stderr)
+        with open("/dev/full", "wb") as full:
+            ring = subprocess.run(command, env=self.setting(), stderr=full, text=True)
+        self.assertEqual(ring.returncode, 2)
 
     def test_no_program(self) -> None:
         """Without the program the ring doesn't begin."""
