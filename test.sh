@@ -152,6 +152,8 @@ test_programs() { # PROGRAM ..
     python3 tools/test_guides.py --program "$1"
     python3 tools/test_manual_page.py --program "$1"
     python3 tools/test_completions.py --program "$1"
+    heading "borders in dispute"
+    python3 tools/test_what_if_table.py --program "$1"
     heading "the program at a terminal"
     python3 tools/test_terminal.py --program "$1"
     heading "the ring of a board and desks"

@@ -35,6 +35,7 @@ import sys
 from dataclasses import dataclass, field
 from typing import Collection, Dict, List, Optional
 
+from number_words import counted
 from refusal import Refused
 from script_words import ScriptWords
 from storing import put
@@ -181,11 +182,6 @@ def assignment_text(plan: Plan) -> str:
     """Returns the block assignment file of a plan, with a header and pipes."""
     lines = [f"{block.zfill(BLOCK_DIGITS)}|{label}\n" for block, label in plan.districts.items()]
     return "".join(["BLOCKID|DISTRICT\n", *lines])
-
-
-def counted(number: int, noun: str) -> str:
-    """Returns a number with a noun, which has an s behind it unless the number is 1."""
-    return f"{number:,} {noun}" if number == 1 else f"{number:,} {noun}s"
 
 
 def notes_on(table: Table, plan: Plan) -> List[str]:

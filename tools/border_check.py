@@ -34,6 +34,7 @@ from dataclasses import dataclass
 from typing import Dict, Iterator, List, NamedTuple, Set, Tuple
 
 from county_outlines import Outlines, Ring, Spot, read_rings
+from number_words import counted
 from refusal import Refused
 from script_words import ScriptWords
 
@@ -232,21 +233,16 @@ def reason_findings(
     return found
 
 
-def counted(number: int, word: str) -> str:
-    """Returns a number with a word, which has an s behind it unless the number is 1."""
-    return f"{number} {word}" if number == 1 else f"{number} {word}s"
-
-
 def summary(borders: Borders, contacts: Contacts, reasons: Dict[Pair, str], findings: int) -> str:
     """Returns the last line: the numbers of pairs by how they meet, and of findings."""
     pairs, bare = borders.pairs, borders.pairs - contacts.edges.keys()
     kinds = [reasons.get(pair) for pair in bare]
     by_length = len(bare & borders.points - reasons.keys())
     parts = [
-        f"{counted(len(pairs), 'pair')}: {len(pairs) - len(bare)} with a common edge",
-        f"{kinds.count(OVER_WATER)} over water",
-        f"{kinds.count(AT_A_POINT)} at a point in the outlines",
-        *([f"{by_length} of length 0"] if by_length else []),
+        f"{counted(len(pairs), 'pair')}: {len(pairs) - len(bare):,} with a common edge",
+        f"{kinds.count(OVER_WATER):,} over water",
+        f"{kinds.count(AT_A_POINT):,} at a point in the outlines",
+        *([f"{by_length:,} of length 0"] if by_length else []),
     ]
     return f"{', '.join(parts)}; {counted(findings, 'finding')}"
 

@@ -51,10 +51,15 @@ WITHOUT_SCRIPTS = (
 
 
 def file_of(line: FileLine) -> bytes | None:
-    """Returns the bytes of a file of the record, if it is there with its sum and isn't large."""
+    """Returns the bytes of a file of the record, if it is there with its sum and isn't large.
+
+    A pipe isn't read, since it may never end.
+    """
     try:
         path = Path(line.name)
-        content = path.read_bytes() if path.stat().st_size <= MOST_BYTES else b""
+        if not path.is_file() or path.stat().st_size > MOST_BYTES:
+            return None
+        content = path.read_bytes()
     except (OSError, ValueError):
         return None
     return content if hashlib.sha256(content).hexdigest() == line.total else None

@@ -9,6 +9,7 @@ import re
 from fractions import Fraction
 
 from county_table import Group
+from number_words import counted
 from page_inputs import ListedGroup, Listing, Record
 from refusal import Refused
 
@@ -25,11 +26,6 @@ PROBLEM_OPTIONS = [
     "--withdrawn",
 ]
 WITHOUT_WORD = {"--state": "37", "--part": "1", "--of": "20"}
-
-
-def counted(number: int, noun: str) -> str:
-    """Returns a number with its noun."""
-    return f"{number:,} {noun}" if number == 1 else f"{number:,} {noun}s"
 
 
 def in_order(groups: list[ListedGroup]) -> list[ListedGroup]:

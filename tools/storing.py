@@ -13,9 +13,13 @@ from refusal import Refused
 def store(path: str, text: str) -> None:
     """Stores `text` in UTF-8 under `path` whole, or leaves the file that stood there as it was.
 
-    Raises `Refused` if the file can't be stored.
+    Of a link the file that it names is stored. Raises `Refused` if the file can't be stored, or if
+    a folder, a device or a pipe stands there.
     """
-    folder = os.path.dirname(path) or "."
+    if os.path.exists(path) and not os.path.isfile(path):
+        raise Refused(f"{path} can't be stored: something that is no file stands there.")
+    stored = os.path.realpath(path) if os.path.islink(path) else path
+    folder = os.path.dirname(stored) or "."
     name = ""
     try:
         with tempfile.NamedTemporaryFile(
@@ -24,7 +28,7 @@ def store(path: str, text: str) -> None:
             name = file.name
             file.write(text)
         os.chmod(name, 0o644)
-        os.replace(name, path)
+        os.replace(name, stored)
     except OSError as fault:
         with contextlib.suppress(OSError):
             os.remove(name)

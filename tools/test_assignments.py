@@ -10,6 +10,7 @@ import contextlib
 import gzip
 import io
 import os
+import stat
 import subprocess
 import sys
 import zipfile
@@ -332,6 +333,26 @@ class Refusals(Made):
         out = os.path.join(none, "out")
         told = "none/out can't be stored: No such file or directory."
         self.assertEqual(self.made(text_of(","), "--out", out), Ran(1, "", [told]))
+
+    def test_an_output_that_is_no_file(self) -> None:
+        """A pipe, a folder and a link to either stay. Of a link to a file the file is stored."""
+        pipe, folder = os.path.join(self.room, "pipe"), os.path.join(self.room, "folder")
+        os.mkfifo(pipe)
+        os.mkdir(folder)
+        for name, target in (("to_pipe", pipe), ("to_folder", folder)):
+            os.symlink(target, os.path.join(self.room, name))
+        for name in ("pipe", "folder", "to_pipe", "to_folder"):
+            told = f"{name} can't be stored: something that is no file stands there."
+            made = self.made(text_of(","), "--out", os.path.join(self.room, name))
+            self.assertEqual(made, Ran(1, "", [told]))
+        self.assertTrue(stat.S_ISFIFO(os.stat(pipe).st_mode))
+        target, link = os.path.join(self.room, "file"), os.path.join(self.room, "to_file")
+        os.symlink("file", link)
+        for _ in range(2):
+            self.assertEqual(self.made(text_of(","), "--out", link).status, 0)
+            self.assertTrue(os.path.islink(link))
+            with open(target, encoding="utf-8") as file:
+                self.assertEqual(file.read(), WANTED)
 
     def test_an_output_that_is_full(self) -> None:
         if not os.path.exists("/dev/full"):

@@ -87,7 +87,9 @@ class Runs:
             if given[name] is not None
             for part in (f"--{name}", str(given[name]))
         ]
-        self.links = Path(words.links).read_text(encoding="utf-8") if words.links else ""
+        self.links = Path(words.links).read_bytes() if words.links else b""
+        if self.links and not self.links.endswith(b"\n"):
+            self.links += b"\n"
 
     def run(self, command: str, words: list[str]) -> tuple[int, str]:
         """Returns the status and the text of one run."""
@@ -97,11 +99,11 @@ class Runs:
             raise Refused(f"The program ended with status {run.returncode}: {told}")
         return run.returncode, run.stdout.decode()
 
-    def answer(self, link: str) -> Answer:
-        """Returns the answer with one more line of links."""
+    def answer(self, link: bytes) -> Answer:
+        """Returns the answer with one more line of links, or with none more if `link` is empty."""
         with tempfile.TemporaryDirectory() as room:
             links, certificate = os.path.join(room, "links"), os.path.join(room, "certificate")
-            Path(links).write_text(self.links + link, encoding="utf-8")
+            Path(links).write_bytes(self.links + link)
             problem = [*self.problem, *(["--links", links] if self.links + link else [])]
             status, report = self.run("solve", [*problem, "--certificate", certificate])
             if status != 0:
@@ -128,7 +130,7 @@ def main(words: list[str]) -> int:
     given = arguments(words)
     try:
         borders, runs = read_borders(given.borders), Runs(given)
-        links = [""] + [f"{'|'.join(border)}\n" for border in borders]
+        links = [b"", *("|".join(border).encode() + b"\n" for border in borders)]
         answers: list[Answer] = []
         with ThreadPoolExecutor(max(1, given.jobs)) as pool:
             for answer in pool.map(runs.answer, links):

@@ -1,0 +1,72 @@
+#!/usr/bin/env python3
+"""Tests of the table of `what_if.py`, which tells which borders in dispute change an answer.
+
+usage: python3 tools/test_what_if_table.py [--program FILE]
+
+--program FILE: a build of the program; by default that of `dist/`.
+"""
+from __future__ import annotations
+
+import os
+import subprocess
+import sys
+import tempfile
+import unittest
+
+import what_if
+from tested_program import TESTED, run_tests
+
+# Four counties of equal people in a row, for two seats. A link from the last to the first closes a
+# ring, which has two best groupings. A ring that is cut is a row again, with one.
+FILES = {
+    "geo": "".join(f"||050||00|||{i}||x|||37||00{2 * i + 1}\n" for i in range(4)),
+    "segment": "".join(f"||||{i}|50\n" for i in range(4)),
+    "adjacency": "x|37001|y|37003\nx|37003|y|37005\nx|37005|y|37007\n",
+    "borders": "-|37001|37003\n",
+}
+CLOSING = b"+|37007|37001"
+HEADER = ",".join(what_if.HEADER)
+TABLE = [HEADER, ",,,2,0,0 2,nothing"]
+TABLE += ["-,37001,37003,1,2,0 2,best groupings; shared groups; groups"]
+
+
+class Tables(unittest.TestCase):
+    """Tests of the table of a border in dispute, with links."""
+
+    def setUp(self) -> None:
+        room = tempfile.TemporaryDirectory()
+        self.addCleanup(room.cleanup)
+        self.room = room.name
+        for name, text in FILES.items():
+            self.store(name, text.encode())
+
+    def store(self, name: str, held: bytes) -> None:
+        """Stores a file in the room."""
+        with open(os.path.join(self.room, name), "wb") as file:
+            file.write(held)
+
+    def run_with(self, links: bytes) -> subprocess.CompletedProcess[str]:
+        """Runs the tool with a file of these links."""
+        self.store("links", links)
+        words = ["--program", TESTED.program, "--chamber", "2", "--jobs", "1"]
+        for name in ("geo", "segment", "adjacency", "borders", "links"):
+            words += [f"--{name}", os.path.join(self.room, name)]
+        command = [sys.executable, what_if.__file__, *words]
+        return subprocess.run(command, capture_output=True, text=True, check=False)
+
+    def test_links_with_and_without_a_last_line_feed(self) -> None:
+        """A border stands on a line of its own behind the links."""
+        for links in (CLOSING + b"\n", CLOSING):
+            done = self.run_with(links)
+            self.assertEqual((done.returncode, done.stdout.splitlines()), (0, TABLE), done.stderr)
+
+    def test_links_that_are_no_text(self) -> None:
+        """Links that aren't UTF-8 are refused by the program, in one line."""
+        done = self.run_with(b"\xff\n")
+        self.assertEqual((done.returncode, done.stdout), (1, ""))
+        self.assertTrue(done.stderr.startswith("what_if.py: The program ended with status 4: "))
+        self.assertNotIn("Traceback", done.stderr)
+
+
+if __name__ == "__main__":
+    run_tests(__doc__)
