@@ -19,8 +19,8 @@ these) too. Both checkers check them, and each of them with one line changed at 
 program answers best within its default steps. Both checkers check them as they are, and a line has
 the seconds of processor time of each. The second checker takes minutes for the longest.
 
-Statuses: 0 all agree, 1 some differ, 2 these words can't be run. The last line is
-`N agree, M differ`.
+Statuses: 0 all agree, 1 some differ or nothing was compared, 2 these words can't be run. The last
+line is `N agree, M differ`.
 """
 from __future__ import annotations
 
@@ -293,8 +293,10 @@ def main() -> int:
             compare_chamber(os.path.realpath(asked.program), chamber, asked, tally)
     if asked.states:
         compare_states(os.path.realpath(asked.program), tally)
+    if not tally.agree + tally.differ:
+        print("nothing was compared: no run of `check` was found")
     print(f"{tally.agree} agree, {tally.differ} differ")
-    return 1 if tally.differ else 0
+    return 0 if tally.agree and not tally.differ else 1
 
 
 if __name__ == "__main__":

@@ -176,7 +176,9 @@ class TestShells(OverHelp):
         lines = list(wanted)
         for shell, ask in SHELLS.items():
             if shutil.which(shell):
-                for line, offered in zip(lines, ask(self.room, lines)):
+                answers = ask(self.room, lines)
+                self.assertEqual(len(answers), len(lines), shell)
+                for line, offered in zip(lines, answers):
                     with self.subTest(shell=shell, line=line):
                         # (fish offers `--geo=FILE` whole)
                         words = {word.removeprefix("--geo=") for word in offered}

@@ -13,7 +13,7 @@ usage: python3 tools/test_desk.py [--page FILE] [--program FILE] [--wasm FILE] [
 --jobs N           how many classes of tests run at once, each with its own browser; without it 2
 
 If a Chromium or a Firefox isn't installed, its tests don't run, and a line says so. Statuses: 0 all
-is as wanted, 1 something isn't, 2 these words can't be run.
+is as wanted, 1 something isn't or no test has the word, 2 these words can't be run.
 """
 import contextlib
 import sys
@@ -52,7 +52,8 @@ def main() -> int:
         page()
     ran = run_tests(TESTS, word, SETTING.jobs)
     ROOM.cleanup()
-    return 1 if ran.failed else 0
+    # (where a browser is missing, none may have run)
+    return 0 if (ran.count or ran.missing) and not ran.failed else 1
 
 
 if __name__ == "__main__":

@@ -6,6 +6,7 @@ import http.server
 import re
 import sys
 import threading
+import unittest
 import urllib.request
 
 from desk_setting import CONTRAST, SETTING, SIDEWAYS, TINTED, TOP, InDesk, page
@@ -56,8 +57,8 @@ class Counting(http.server.BaseHTTPRequestHandler):
         """Says nothing."""
 
 
-class Page(InDesk):
-    """What holds of the whole page."""
+class Text(unittest.TestCase):
+    """The text of the page, for which no browser is needed."""
 
     def test_it_is_made_of_these_sources(self) -> None:
         sys.path.insert(0, str(TOP / "tools"))
@@ -68,6 +69,10 @@ class Page(InDesk):
         self.assertTrue(wanted in text, "the script is another: tools/make_desk.py makes the page")
         style = (desk_page.DESK / "page.css").read_text(encoding="utf-8")
         self.assertTrue(f"<style>{style}</style>" in text, "the style is another")
+
+
+class Page(InDesk):
+    """What holds of the whole page."""
 
     def test_size_and_first_paint(self) -> None:
         size = page().stat().st_size
