@@ -6,12 +6,15 @@ usage() {
     cat <<'TEXT'
 usage: tools/module.sh MODULE.bc RT-WORD..
 
-Runs `rt RT-WORD..` in the current folder, a crate's, and stores the LLVM module of which it built the program as MODULE.bc. With `run` the
-program is proved, as ever; with `try` it is not. The last module that is compiled counts. If `rt run` finds its program built already, it
-compiles none: then remove out/NAME.stamp first.
+Runs `rt RT-WORD..` in the current folder, a crate's, and stores the LLVM module of which it built
+the program as MODULE.bc. With `run` the program is proved, as ever; with `try` it is not. The last
+module that is compiled counts. If `rt run` finds its program built already, it compiles none: then
+remove out/NAME.stamp first.
 
-The toolchain is the kit's own, but for a script in the place of its clang, which keeps a copy of each module and then calls the kit's.
-Statuses: 0 the module is stored, 1 `rt` compiled no module or didn't end with 0, 2 these words can't be run.
+The toolchain is the kit's own, but for a script in the place of its clang, which keeps a copy of
+each module and then calls the kit's.
+Statuses: 0 the module is stored, 1 `rt` compiled no module or didn't end with 0, 2 these words
+can't be run.
 TEXT
 }
 
@@ -46,5 +49,6 @@ SCRIPT
 
 python3 "$room/kit/bin/rt" "$@" || refuse 1 "\`rt $*\` ended with status $?"
 last=$(find "$room/modules" -name '*.bc' | sort | tail -n 1)
-[ -n "$last" ] || refuse 1 "\`rt $*\` compiled no module: if the program is built already, remove out/NAME.stamp"
+told="if the program is built already, remove out/NAME.stamp"
+[ -n "$last" ] || refuse 1 "\`rt $*\` compiled no module: $told"
 cp "$last" "$module"

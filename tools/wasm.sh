@@ -6,9 +6,11 @@ usage() {
     cat <<'TEXT'
 usage: tools/wasm.sh MODULE.bc OUT.wasm [REFUSING.wasm]
 
-Compiles the LLVM module of the program, which tools/module.sh keeps, and web/heap.c for 64-bit WebAssembly, and links both, by the clang
-and the linker of the kit alone (some two minutes on one core). What is still missing then has to be a host call of web/host/calls.txt.
-REFUSING.wasm is the same program over web/test/refusing_heap.c, which refuses the request that a test names.
+Compiles the LLVM module of the program, which tools/module.sh keeps, and web/heap.c for 64-bit
+WebAssembly, and links both, by the clang and the linker of the kit alone (some two minutes on one
+core). What is still missing then has to be a host call of web/host/calls.txt.
+REFUSING.wasm is the same program over web/test/refusing_heap.c, which refuses the request that a
+test names.
 Statuses: 0 all is stored, 1 it can't be compiled or linked, 2 these words can't be run.
 TEXT
 }
@@ -39,16 +41,19 @@ for_heap=(-O1 -fno-builtin -nostdlib)
 link() { # HEAP.o OUT.wasm LINKER-WORD..
     local heap=$1 out=$2
     shift 2
-    "$room/wasm-ld" -mwasm64 --no-entry --export=main --allow-undefined-file="$web/host/calls.txt" --gc-sections --strip-all \
+    "$room/wasm-ld" -mwasm64 --no-entry --export=main \
+        --allow-undefined-file="$web/host/calls.txt" --gc-sections --strip-all \
         -z stack-size=16777216 "$@" -o "$room/linked.wasm" "$room/program.o" "$heap" || exit 1
     mv "$room/linked.wasm" "$out"
 }
 
-"$clang" "${target[@]}" -Os -fintegrated-cc1 -Wno-override-module -ffunction-sections -fdata-sections -c -x ir "$1" \
+"$clang" "${target[@]}" -Os -fintegrated-cc1 -Wno-override-module \
+    -ffunction-sections -fdata-sections -c -x ir "$1" \
     -o "$room/program.o" 2>"$room/said" || { cat "$room/said" >&2; exit 1; }
 "$clang" "${target[@]}" "${for_heap[@]}" -c "$web/heap.c" -o "$room/heap.o" || exit 1
 link "$room/heap.o" "$2"
 if [ $# = 3 ]; then
-    "$clang" "${target[@]}" "${for_heap[@]}" -c "$web/test/refusing_heap.c" -o "$room/refusing_heap.o" || exit 1
+    "$clang" "${target[@]}" "${for_heap[@]}" -c "$web/test/refusing_heap.c" \
+        -o "$room/refusing_heap.o" || exit 1
     link "$room/refusing_heap.o" "$3" --export=refuse_request --export=count_requests
 fi
