@@ -48,8 +48,8 @@ export async function comparedFiles(desk, key) {
 async function compareTable(desk, key, sum) {
   const table = desk.data.chambers.find((one) => one.key === key)?.table ?? "";
   if (sum && await sumOf(new TextEncoder().encode(table)) !== sum) {
-    throw new Refusal("The page’s table of counties isn’t the one that it was made with: its sum "
-      + "is another.");
+    throw new Refusal("The page’s table of counties isn’t the one that it was made with: "
+      + "its sum is another.");
   }
 }
 

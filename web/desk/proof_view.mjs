@@ -22,6 +22,12 @@ const PAUSE = 60;
 const SHOWN_LINES = 400;
 const LONGEST_LINE = 150;
 
+// Another object each time that the view is drawn. What began before writes nothing more.
+let drawn = {};
+
+/** A reason to end a check: the view was drawn anew. */
+class DrawnAnew extends Error {}
+
 /** Lets the page draw a step before the next one begins. */
 function pause() {
   return new Promise((resolve) => setTimeout(resolve, PAUSE));
@@ -41,7 +47,8 @@ function spoiled(bytes) {
 }
 
 /**
- * Checks a chamber's certificate step by step, and writes the verdict.
+ * Checks a chamber's certificate step by step, and writes the verdict. Ends early and writes none
+ * if the view is drawn anew meanwhile.
  * @param {Desk} desk
  * @param {ViewState} state
  * @param {boolean} isSpoiled
@@ -49,18 +56,27 @@ function spoiled(bytes) {
 async function check(desk, state, isSpoiled) {
   const answer = answerFor(desk, state.chamber);
   const steps = stepList(find("#check-steps"));
-  const verdict = find("#check-verdict");
-  verdict.innerHTML = "";
+  const before = drawn;
+  const begin = (/** @type {string} */ text) => {
+    if (drawn !== before) throw new DrawnAnew();
+    return steps.begin(text);
+  };
+  find("#check-verdict").innerHTML = "";
   for (const id of ["#check", "#spoil"]) findInput(id).disabled = true;
-  try {
-    verdict.innerHTML = await checked(desk, answer, steps, isSpoiled);
-  } catch (fault) {
-    const reason = whyNoProgram();
-    if (fault instanceof Refusal) verdict.innerHTML = verdictHtml(false, "No.", fault.message);
-    else verdict.innerHTML = verdictHtml(
-      false, "The check could not run.", escapeHtml(reason ?? String(fault)));
-  }
+  const verdict = await checked(desk, answer, { begin }, isSpoiled).catch(faultVerdict);
+  if (drawn !== before) return;
+  find("#check-verdict").innerHTML = verdict;
   for (const id of ["#check", "#spoil"]) findInput(id).disabled = whyNoProgram() !== null;
+}
+
+/**
+ * Returns the verdict on a check that a fault ended.
+ * @param {unknown} fault
+ */
+function faultVerdict(fault) {
+  if (fault instanceof Refusal) return verdictHtml(false, "No.", escapeHtml(fault.message));
+  const reason = whyNoProgram() ?? String(fault);
+  return verdictHtml(false, "The check could not run.", escapeHtml(reason));
 }
 
 /**
@@ -145,13 +161,14 @@ async function runChecks(desk, answer, steps, files, certificate, isSpoiled) {
     ? `The page shows the same ${numberText(answer.number)} groupings that the program lists`
     : "The page shows other groupings than the program lists");
   if (!isSame) {
-    return verdictHtml(false, "No.", "The certificate is good, and the page’s map shows other "
-      + "groupings than it proves: the page was changed.");
+    return verdictHtml(false, "No.", "The certificate is good, "
+      + "and the page’s map shows other groupings than it proves: the page was changed.");
   }
   const best = answer.number === 1 ? "the one" : `the ${numberText(answer.number)}`;
-  return verdictHtml(true, "The certificate proves it.", `By these files, no lawful grouping of `
-    + `${chamberWords(answer)} is better than ${best} on this page, and no other is as good. `
-    + `Checked in this browser in ${seconds} seconds.`);
+  const chamber = escapeHtml(chamberWords(answer));
+  return verdictHtml(true, "The certificate proves it.", "By these files, "
+    + `no lawful grouping of ${chamber} is better than ${best} on this page, `
+    + `and no other is as good. Checked in this browser in ${seconds} seconds.`);
 }
 
 /**
@@ -193,6 +210,7 @@ function showsTheSame(desk, answer, text) {
  * @param {ViewState} state
  */
 export async function paintProof(desk, state) {
+  drawn = {};
   const answer = answerFor(desk, state.chamber);
   document.title = `Check the proof: county groups of ${desk.geography.name}`;
   const buttons = find("#proof-chambers");
@@ -223,8 +241,8 @@ function whatIsChecked(desk, answer) {
   const all = answer.number === 1 ? "The grouping here is the only one."
     : `The ${numberText(answer.number)} groupings here are all there are.`;
   return [
-    `Each of the ${counties} counties is in one group, each group is connected, and its people `
-      + "suit its seats.",
+    `Each of the ${counties} counties is in one group, each group is connected, `
+      + "and its people suit its seats.",
     `The seats add up to ${answer.seatsLeft}.`,
     "No lawful grouping has more groups of one county; or as many, and more of two; and so on.",
     all,
@@ -240,20 +258,20 @@ function byWhat(desk) {
   const proved = isProved === null
     ? "If its build was proved, it says “best” only of a grouping that is best." : isProved
     ? "It is proved itself: it says “best” only of a grouping that is best."
-    : "<b>This copy was built without proof.</b> A proved build says “best” only of a grouping "
-      + "that is best.";
+    : "<b>This copy was built without proof.</b> "
+      + "A proved build says “best” only of a grouping that is best.";
   const sum = carriedFiles().program?.sum;
   const copy = sum
-    ? `The copy in this page has the sum <code>${sum}</code>. `
-      + "Compare it with the line of <code>countygroups.wasm</code> in "
-      + "<code>dist/SHA256SUMS</code>. "
+    ? `The copy in this page has the sum <code>${escapeHtml(sum)}</code>. `
+      + "Compare it with the line of <code>countygroups.wasm</code> "
+      + "in <code>dist/SHA256SUMS</code>. "
     : "";
   return [
-    "By <code>countygroups check</code>, which trusts nothing of the program that found the "
-      + `grouping. ${proved}`,
+    "By <code>countygroups check</code>, "
+      + `which trusts nothing of the program that found the grouping. ${proved}`,
     `${copy}It was compiled for browsers, and that step is no part of the proof.`,
-    "If you’d rather not trust it: <code>tools/check.py</code> is one file of plain Python that "
-      + "shares no line with it.",
+    "If you’d rather not trust it: <code>tools/check.py</code> is one file of plain Python "
+      + "that shares no line with it.",
   ].map((item) => `<li>${item}</li>`).join("");
 }
 
@@ -261,7 +279,7 @@ function byWhat(desk) {
 function sumsTable() {
   const rows = Object.values(carriedFiles()).map(({ name, bytes, sum }) => (
     `<tr><td>${escapeHtml(name)}</td><td class="number">${numberText(bytes)}</td>`
-    + `<td><code>${sum}</code></td></tr>`));
+    + `<td><code>${escapeHtml(sum)}</code></td></tr>`));
   return '<table><thead><tr><th>File</th><th class="number">Bytes</th><th>SHA-256</th></tr></thead>'
     + `<tbody>${rows.join("")}</tbody></table>`;
 }
@@ -331,12 +349,13 @@ function runHtml(desk, answer) {
   const words = ["countygroups", ...record.words].map(quoted).join(" ");
   const files = [...record.read, ...record.stored].map((file) => (
     `<tr><td>${escapeHtml(file.option)}</td><td><code>${escapeHtml(file.name)}</code></td>`
-    + `<td class="number">${numberText(file.bytes)}</td><td><code>${file.sum}</code></td></tr>`));
+    + `<td class="number">${numberText(file.bytes)}</td>`
+    + `<td><code>${escapeHtml(file.sum)}</code></td></tr>`));
   const { text } = desk.data.build;
   const build = text ? `<p>The build of the program:</p><pre>${escapeHtml(text)}</pre>` : "";
-  return `${build}<pre>${escapeHtml(words)}</pre><p>Its answer is `
-    + `<code>${escapeHtml(record.answer)}</code>. This build said so: <code>countygroups `
-    + `${escapeHtml(record.version)}</code>.</p>`
+  return `${build}<pre>${escapeHtml(words)}</pre>`
+    + `<p>Its answer is <code>${escapeHtml(record.answer)}</code>. `
+    + `This build said so: <code>countygroups ${escapeHtml(record.version)}</code>.</p>`
     + '<table><thead><tr><th>File</th><th>Name</th><th class="number">Bytes</th><th>SHA-256</th>'
     + `</tr></thead><tbody>${files.join("")}</tbody></table>`
     + '<p class="note">Compare the files that you have with these by <code>sha256sum FILE</code>. '
@@ -351,22 +370,23 @@ async function paintCertificate(answer) {
   const key = `${answer.key}.certificate`;
   find("#certificate-fold").hidden = !(key in carriedFiles());
   if (!(key in carriedFiles())) return;
+  const before = drawn;
   const bytes = await storedFile(key).catch(() => null);
+  if (drawn !== before) return;
   const lines = bytes ? new TextDecoder().decode(bytes).split("\n") : [];
   const targets = lines.filter((line) => /^group \d+ \d/.test(line)).length;
-  find("#certificate-note").textContent = `${numberText(lines.length - 1)} lines. After the order `
-    + `of the counties come the ${targets} groups that are to be proved best. Then the tree: each `
-    + `branch `
-    + "takes one county and goes through every group it could be in; each leaf says why nothing "
-    + "better can come of it.";
-  const shown = lines.slice(0, SHOWN_LINES).map((line, at) => {
+  find("#certificate-note").textContent = `${numberText(lines.length - 1)} lines. `
+    + `After the order of the counties come the ${targets} groups that are to be proved best. `
+    + "Then the tree: each branch takes one county and goes through every group it could be in; "
+    + "each leaf says why nothing better can come of it.";
+  const first = lines.slice(0, SHOWN_LINES).map((line, at) => {
     const text = line.length > LONGEST_LINE ? `${line.slice(0, LONGEST_LINE)} …` : line;
     return `${String(at + 1).padStart(5)}  ${text}`;
   });
   const more = lines.length - SHOWN_LINES - 1;
   const rest = more > 0
     ? `\n    …  ${numberText(more)} more lines; “Download, Certificate” has them all` : "";
-  find("#certificate-lines").textContent = shown.join("\n") + rest;
+  find("#certificate-lines").textContent = first.join("\n") + rest;
 }
 
 /**

@@ -2,6 +2,7 @@
 from __future__ import annotations
 
 import json
+import re
 import subprocess
 import sys
 import tempfile
@@ -17,6 +18,7 @@ CENSUS = {"geo": "nc2020geo.pl", "segment": "nc000012020.pl", "adjacency": "coun
 PROBLEM = [part for word, name in CENSUS.items() for part in (f"--{word}", str(DATA / name))]
 CHAMBERS = {"senate": 50, "house": 120}
 SECONDS = 60.0
+CARRIED = re.compile(r'(<script type="application/json" id="carried">)(.*?)(</script>)', re.S)
 
 sys.path.insert(0, str(TOP / "tools"))
 
@@ -149,6 +151,21 @@ class InDesk(InBrowser):
         """Opens the page at a mark of its address."""
         how.setdefault("width", 1400)
         self.browser.open(str(path or page()), mark=mark, **how)
+
+    def carried(self) -> tuple[str, Any]:
+        """Returns the page's text and what it carries."""
+        text = page().read_text(encoding="utf-8")
+        found = CARRIED.search(text)
+        assert found
+        return text, json.loads(found[2])
+
+    def page_with(self, text: str, carried: Any) -> Path:
+        """Returns a copy of the page that carries something else."""
+        held = json.dumps(carried)
+        changed = CARRIED.sub(lambda found: found[1] + held + found[3], text)
+        path = self.room / "changed.html"
+        path.write_text(changed, encoding="utf-8")
+        return path
 
     def go(self, mark: str) -> None:
         """Goes to a mark of the page, as a link does."""

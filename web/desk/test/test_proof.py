@@ -15,7 +15,6 @@ from desk_setting import CENSUS, DATA, PROBLEM, SETTING, TOP, InDesk, page, run
 
 OWN_PAGE = TOP / "docs" / "desk.html"
 DIST = TOP / "dist"
-CARRIED = re.compile(r'(<script type="application/json" id="carried">)(.*?)(</script>)', re.S)
 SHOWN = re.compile(r'(<script type="application/json" id="data">)(.*?)(</script>)', re.S)
 
 
@@ -68,21 +67,6 @@ CHANGES: dict[str, Callable[[bytes], bytes]] = {
 class Proof(InDesk):
     """The second view."""
 
-    def carried(self) -> tuple[str, Any]:
-        """Returns the page's text and what it carries."""
-        text = page().read_text(encoding="utf-8")
-        found = CARRIED.search(text)
-        assert found
-        return text, json.loads(found[2])
-
-    def page_with(self, text: str, carried: Any) -> Path:
-        """Returns a copy of the page that carries something else."""
-        held = json.dumps(carried)
-        changed = CARRIED.sub(lambda found: found[1] + held + found[3], text)
-        path = self.room / "changed.html"
-        path.write_text(changed, encoding="utf-8")
-        return path
-
     def verdict(self, key: str) -> str:
         """Returns what the check says."""
         self.press_button("#check")
@@ -97,6 +81,22 @@ class Proof(InDesk):
             self.assertIn(f"better than the {count} on this page", told)
             self.assertIn(f"same {count} groupings", self.text("#check-steps"))
         self.check_quiet()
+
+    def test_another_chamber_while_it_checks(self) -> None:
+        self.open("#proof/senate")
+        self.press_button("#check")
+        self.press_button("#proof-chambers [data-chamber=house]")
+        self.wait_words("#check", "Check the House")
+        self.assertIn("better than the 8 on this page", self.verdict("house"))
+        self.assertEqual(self.value("document.querySelectorAll('#check-steps li').length"), 4)
+        self.check_quiet()
+
+    def test_a_name_with_signs(self) -> None:
+        text, carried = self.carried()
+        geo = {**carried["geo"], "name": "<i>a</i>", "sum": "0" * 64}
+        self.open("#proof/senate", self.page_with(text, {**carried, "geo": geo}))
+        self.assertIn("<i>a</i> isn’t the file", self.verdict("senate"))
+        self.assertEqual(self.value("document.querySelectorAll('#proof i').length"), 1)
 
     def test_the_senate_within_two_seconds(self) -> None:
         times = []
