@@ -97,6 +97,19 @@ async function geographyOfFiles(desk, given, state, sizes) {
 }
 
 /**
+ * Ends a step and the run, and tells why.
+ * @param {ReturnType<ReturnType<typeof stepList>["begin"]>} step
+ * @param {string} head
+ * @param {string} html
+ * @returns {never}
+ */
+function refuse(step, head, html) {
+  step.end(false, head);
+  find("#files-result").innerHTML = verdictHtml(false, head, html);
+  throw new Told();
+}
+
+/**
  * Runs one step of the program, and tells what it says if it has no answer.
  * @param {string[]} words
  * @param {import("./program.mjs").Files} files
@@ -117,9 +130,7 @@ async function runStep(words, files, step, doing) {
   const said = (run.errors || run.output).trim().split("\n").slice(0, 3).join(" ");
   const head = run.status === 1 ? "No grouping is lawful." : run.status === 3
     ? "The steps ran out." : "A file was refused.";
-  step.end(false, head);
-  find("#files-result").innerHTML = verdictHtml(false, head, `<code>${escapeHtml(said)}</code>`);
-  throw new Told();
+  return refuse(step, head, `<code>${escapeHtml(said)}</code>`);
 }
 
 /**
@@ -172,7 +183,11 @@ async function solvedFiles(desk, given, steps) {
   step = steps.begin("Checking the certificate");
   const proof = ["--certificate", "certificate"];
   const checked = await runStep(["check", ...words, ...proof], all, step, "Checking");
-  step.end(checked.output === run.output, "The certificate is checked");
+  if (checked.output !== run.output) {
+    refuse(step, "The check says otherwise.", "It read the certificate of this answer, "
+      + "and its own answer is another one. Nothing is shown.");
+  }
+  step.end(true, "The certificate is checked");
   step = steps.begin("Listing every best grouping");
   const listed = await runProgram(["list", ...words, ...proof], all);
   step.end(listed.status === 0, listed.status === 0 ? "Listed every best grouping"
@@ -212,8 +227,8 @@ function showSolved(desk, { geography, answer, errors }, given) {
     });
   }
   const note = geography.sheet ? "" : given.has("outlines")
-    ? '<p class="note">The outlines don’t have every county of this state, so here is the '
-      + "table.</p>"
+    ? '<p class="note">The outlines don’t have every county of this state, '
+      + "so here is the table.</p>"
     : '<p class="note">No outlines of this state were dropped, so here is the table.</p>';
   find("#files-table").innerHTML = note + groupTableHtml(geography, answer, groups, "west", true)
     .replace(/<\/?button[^>]*>/g, "");
