@@ -2,6 +2,7 @@
 
 import { ProcessError } from "../host/browser_process.mjs";
 import { pairCodes, startWhatIf } from "./what_if.mjs";
+import { carriedProblem } from "./program.mjs";
 import { rowsOf } from "./tables.mjs";
 import { counted } from "./words.mjs";
 
@@ -67,54 +68,66 @@ function factsWords(first, facts) {
 }
 
 /**
- * Tries each disputed border alone, on top of a what-if without changed borders, and tells of each.
+ * Returns what solves what-ifs for their facts, and what stops those at work and all later ones.
  * @param {Desk} desk
  * @param {Answer} base
- * @param {WhatIf} whatIf
- * @param {Disputed[]} disputed
- * @param {import("./program.mjs").Files} files
- * @param {(done: number, trials: Trials) => void} onTrial
- * @returns {{finished: Promise<Trials>, stop: () => void}}
  */
-export function startTrials(desk, base, whatIf, disputed, files, onTrial) {
-  const plain = { ...whatIf, added: new Set(), cut: new Set() };
-  /** @type {Trials} */
-  const trials = new Map();
+function startSolver(desk, base) {
+  const files = carriedProblem();
   /** @type {Set<() => void>} */
   const stops = new Set();
   let isStopped = false;
   const solve = async (/** @type {WhatIf} */ one) => {
-    const { outcome, stop } = await startWhatIf(desk, base, one, files, () => {});
+    const { outcome, stop } = await startWhatIf(desk, base, one, await files, () => {});
     stops.add(stop);
     if (isStopped) stop();
-    return outcome.then(factsOf).finally(() => stops.delete(stop));
-  };
-  const tryOne = async (/** @type {Disputed} */ { pair, kind, link },
-    /** @type {ReturnType<typeof factsOf>} */ first) => {
-    const codes = new Set([pairCodes(desk.geography, pair)]);
-    const changed = kind === "point" ? { ...plain, added: codes } : { ...plain, cut: codes };
-    const facts = await solve(changed);
+    const found = await outcome.finally(() => stops.delete(stop));
     // (one that ended just before the stop isn't told any more)
     if (isStopped) throw new ProcessError("it was stopped", true);
-    trials.set(link, factsWords(first, facts));
-    onTrial(trials.size, trials);
+    return factsOf(found);
   };
-  const all = async () => {
-    const first = await solve(plain);
-    const left = [...disputed];
-    const work = async () => {
-      for (let next = left.shift(); next; next = left.shift()) {
-        await tryOne(next, first);
-      }
-    };
-    await Promise.all(Array.from({ length: WORKERS }, work));
-    return trials;
-  };
-  const stop = () => {
+  const stopAll = () => {
     isStopped = true;
     stops.forEach((one) => one());
   };
-  return { finished: all(), stop };
+  return { solve, stopAll };
+}
+
+/**
+ * Tries each disputed border alone, on top of a what-if without changed borders, and tells of each.
+ * After a fault, as after `stop`, it tells of none.
+ * @param {Desk} desk
+ * @param {Answer} base
+ * @param {WhatIf} whatIf
+ * @param {Disputed[]} disputed
+ * @param {(done: number, trials: Trials) => void} onTrial
+ * @returns {{finished: Promise<Trials>, stop: () => void}}
+ */
+export function startTrials(desk, base, whatIf, disputed, onTrial) {
+  const plain = { ...whatIf, added: new Set(), cut: new Set() };
+  const { solve, stopAll } = startSolver(desk, base);
+  /** @type {Trials} */
+  const trials = new Map();
+  const left = [...disputed];
+  const work = async (/** @type {ReturnType<typeof factsOf>} */ first) => {
+    for (let next = left.shift(); next; next = left.shift()) {
+      const codes = new Set([pairCodes(desk.geography, next.pair)]);
+      const facts = await solve(
+        next.kind === "point" ? { ...plain, added: codes } : { ...plain, cut: codes });
+      trials.set(next.link, factsWords(first, facts));
+      onTrial(trials.size, trials);
+    }
+  };
+  const all = async () => {
+    const first = await solve(plain);
+    await Promise.all(Array.from({ length: WORKERS }, () => work(first)));
+    return trials;
+  };
+  const finished = all().catch((fault) => {
+    stopAll();
+    throw fault;
+  });
+  return { finished, stop: stopAll };
 }
 
 /**

@@ -3,7 +3,7 @@
 
 import { answerOf, groupsOf } from "./answers.mjs";
 import { codesOf, peopleOf, placesOf, setKey } from "./geography.mjs";
-import { runProgram, startProgram, withFile } from "./program.mjs";
+import { startProgram, withFile } from "./program.mjs";
 import { readReport } from "./program_texts.mjs";
 import { plainWords } from "./problem.mjs";
 
@@ -56,15 +56,26 @@ export function likelySeats(geography, counties, chamber) {
   return Math.max(1, Math.round((peopleOf(geography, counties) * chamber) / geography.total));
 }
 
+// The greatest denominator of a tolerance that the program takes.
+const MOST_OF = 1000;
+
+/** Why a percentage is no tolerance. */
+export const NO_TOLERANCE = "The program can’t take this percentage: it takes at most 50, "
+  + "and only fractions with a denominator of at most 1,000, as 6.25 percent is 1/16.";
+
 /**
- * Returns a percentage as a fraction, numerator and denominator.
+ * Returns the fraction that is exactly a percentage, numerator and denominator. Returns null if the
+ * program takes no such tolerance.
  * @param {number} percent
- * @returns {[number, number]}
+ * @returns {[number, number] | null}
  */
 export function fractionOf(percent) {
-  if (percent === 5) return [1, 20];
-  const tenths = Math.round(percent * 10);
-  return [tenths, 1000];
+  if (!(percent >= 0 && percent <= 50)) return null;
+  for (let whole = 1; whole <= MOST_OF; whole += 1) {
+    const part = Math.round((percent * whole) / 100);
+    if ((100 * part) / whole === percent) return [part, whole];
+  }
+  return null;
 }
 
 /**
@@ -79,17 +90,26 @@ export function linksText({ added, cut }) {
 }
 
 /**
- * Returns the words and files of a what-if, behind those of the base problem.
+ * Returns a text whose last line has its end, too.
+ * @param {string} text
+ */
+function withLastEnd(text) {
+  return !text || text.endsWith("\n") ? text : `${text}\n`;
+}
+
+/**
+ * Returns the words and files of a what-if, behind those of the base problem. Throws a sentence if
+ * the program takes no such tolerance.
  * @param {Desk} desk
  * @param {Answer} base
  * @param {WhatIf} whatIf
  * @param {Files} files
  */
 async function problemOf(desk, base, whatIf, files) {
-  const usual = (100 * base.tolerance[0]) / base.tolerance[1];
-  const tolerance = whatIf.percent === usual ? base.tolerance : fractionOf(whatIf.percent);
+  const tolerance = fractionOf(whatIf.percent);
+  if (!tolerance) throw new Error(NO_TOLERANCE);
   const words = plainWords(desk, { ...base, tolerance });
-  const links = (await files.get("links")?.text() ?? "") + linksText(whatIf);
+  const links = withLastEnd(await files.get("links")?.text() ?? "") + linksText(whatIf);
   const sets = whatIf.sets.filter((set) => set.counties.length).map((set) => (
     `${[set.seats, ...codesOf(desk.geography, set.counties)].join("|")}\n`)).join("");
   let all = files;
@@ -105,7 +125,7 @@ async function problemOf(desk, base, whatIf, files) {
 }
 
 /**
- * Starts to solve a what-if and to list its best groupings.
+ * Starts to solve a what-if and to list its best groupings. `stop` ends the run that is at work.
  * @param {Desk} desk
  * @param {Answer} base
  * @param {WhatIf} whatIf
@@ -116,8 +136,9 @@ async function problemOf(desk, base, whatIf, files) {
 export async function startWhatIf(desk, base, whatIf, files, onProgress) {
   const problem = await problemOf(desk, base, whatIf, files);
   const words = [...problem.words, "--certificate", "certificate"];
-  const solving = await startProgram(["solve", ...words], problem.files, onProgress);
-  const outcome = solving.result.then(async (solved) => {
+  let isStopped = false;
+  let atWork = await startProgram(["solve", ...words], problem.files, onProgress);
+  const outcome = atWork.result.then(async (solved) => {
     const report = readReport(solved.output);
     const said = (solved.errors || solved.output).trim();
     const certificate = solved.stored.get("certificate");
@@ -125,14 +146,20 @@ export async function startWhatIf(desk, base, whatIf, files, onProgress) {
     const found = { status: solved.status, report, answer: null, said };
     if (solved.status !== 0 || !certificate) return found;
     const all = withFile(problem.files, "certificate", certificate);
-    const listed = await runProgram(["list", ...words], all);
+    atWork = await startProgram(["list", ...words], all);
+    if (isStopped) atWork.stop();
+    const listed = await atWork.result;
     if (listed.status === 0) {
       const texts = { key: base.key, name: base.name, list: listed.output };
       found.answer = answerOf(desk.geography, texts);
     }
     return found;
   });
-  return { outcome, stop: solving.stop };
+  const stop = () => {
+    isStopped = true;
+    atWork.stop();
+  };
+  return { outcome, stop };
 }
 
 /**
@@ -198,6 +225,41 @@ export function addressOf(geography, base, { sets, added, cut, percent }) {
 }
 
 /**
+ * Returns what tells apart the problems of which borders are tried: chamber, sets and tolerance.
+ * @param {Geography} geography
+ * @param {Answer} base
+ * @param {WhatIf} whatIf
+ */
+export function triedProblem(geography, base, whatIf) {
+  const plain = { ...whatIf, added: new Set(), cut: new Set() };
+  return `${base.key}/${addressOf(geography, base, plain)}`;
+}
+
+/**
+ * Returns a part of an address without its escapes, or as it is if one of them can't be read.
+ * @param {string} text
+ */
+function unescaped(text) {
+  try {
+    return decodeURIComponent(text);
+  } catch {
+    return text;
+  }
+}
+
+/**
+ * Returns the codes of a pair of an address, or null if these aren't two counties of the state.
+ * @param {Geography} geography
+ * @param {string} text
+ */
+function pairOfAddress(geography, text) {
+  const codes = text.split("-");
+  const places = placesOf(geography, codes);
+  const isPair = codes.length === 2 && places.length === 2 && places[0] !== places[1];
+  return isPair ? pairCodes(geography, places) : null;
+}
+
+/**
  * Returns the what-if of an address; what can't be read is left out.
  * @param {Geography} geography
  * @param {Answer} base
@@ -206,14 +268,17 @@ export function addressOf(geography, base, { sets, added, cut, percent }) {
  */
 export function whatIfOf(geography, base, query) {
   const whatIf = { ...nothingChanged(base), sets: /** @type {OutSet[]} */ ([]) };
-  for (const part of decodeURIComponent(query).split("&")) {
+  for (const part of unescaped(query).split("&")) {
     const [name, value = ""] = part.split("=");
     const items = value.split(",").filter(Boolean);
     if (name === "add" || name === "cut") {
       const into = name === "add" ? whatIf.added : whatIf.cut;
-      items.forEach((item) => into.add(item.replace("-", " ")));
+      for (const item of items) {
+        const pair = pairOfAddress(geography, item);
+        if (pair) into.add(pair);
+      }
     }
-    if (name === "percent" && Number(value) >= 0) whatIf.percent = Number(value);
+    if (name === "percent" && value && Number(value) >= 0) whatIf.percent = Number(value);
     for (const item of name === "out" ? items : []) {
       const [codes, seats] = item.split(":");
       const places = codes.split("-").map((code) => geography.placeOf.get(code));

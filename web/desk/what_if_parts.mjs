@@ -32,9 +32,9 @@ const NOTHING = { verdict: "", table: "", groups: null, newCounties: [], isNew: 
  */
 export function outcomeParts(desk, base, shown, outcome) {
   if (outcome.status === 1) {
-    return { ...NOTHING, verdict: verdictHtml(false, "No grouping is lawful.", "With these "
-      + "changes, no way of grouping the counties meets the rule. The program stored a certificate "
-      + "of that, too.") };
+    return { ...NOTHING, verdict: verdictHtml(false, "No grouping is lawful.",
+      "With these changes, no way of grouping the counties meets the rule. "
+      + "The program stored a certificate of that, too.") };
   }
   if (outcome.status !== 0) return { ...NOTHING, verdict: refusalHtml(outcome) };
   const { geography } = desk;
@@ -89,9 +89,8 @@ function answerVerdict(base, { answer, report, said }, groups, fresh) {
   const isSame = answer?.number === base.number && !fresh.length && !isGone && !isMore;
   const size = differingSize(base.counts, report.counts);
   const left = answer ? capital(numberWord(answer.number)) : "Some";
-  const ofBase = `${left} of the ${base.number} best groupings `
-    + `${answer?.number === 1 ? "is" : "are"} `
-    + "left.";
+  const verb = answer?.number === 1 ? "is" : "are";
+  const ofBase = `${left} of the ${base.number} best groupings ${verb} left.`;
   const wider = `${left} best groupings instead of ${numberWord(base.number)}.`;
   const head = isSame ? "Nothing changes."
     : fresh.length ? `${capital(numberWord(fresh.length))} of the ${groups.length} groups `
@@ -124,7 +123,7 @@ function comparison(base, { answer, report }, groups) {
     ? row(`Groups of ${numberWord(at + 1)} ${nounFor(at + 1, "county", "counties")}`, one, other)
     : ""));
   return '<div class="three"><div><h2>Against the base answer</h2><table class="compare">'
-    + "<thead><tr><th></th><th>Base</th><th>What if</th></tr></thead><tbody>"
+    + "<thead><tr><td></td><th>Base</th><th>What if</th></tr></thead><tbody>"
     + row("Best groupings", numberText(base.number), answer ? numberText(answer.number) : "?")
     + row("Groups in all of them", base.shared.length, answer ? answer.shared.length : "?")
     + row("Groups", baseGroups, groups.length)
@@ -140,15 +139,15 @@ function comparison(base, { answer, report }, groups) {
  */
 function newGroupsTable({ geography }, base, fresh) {
   if (!fresh.length) {
-    return '<div><h2>New groups</h2><p class="note">None. Every group is one of the base '
-      + "answer’s.</p></div></div>";
+    return "<div><h2>New groups</h2>"
+      + '<p class="note">None. Every group is one of the base answer’s.</p></div></div>';
   }
   const rows = fresh.map((group) => (
     `<tr><td class="number"><b>${group.seats}</b></td>`
     + `<td>${escapeHtml(namesOf(geography, group.counties).join(", "))}</td>`
     + `<td class="number">${signedPercent(deviationOf(geography, group, base.seats))}</td></tr>`));
-  return '<div><h2>New groups</h2><p class="note">Those of all best '
-    + 'groupings.</p><table><thead><tr><th class="number">Seats</th><th>Counties</th>'
+  return '<div><h2>New groups</h2><p class="note">Those of all best groupings.</p>'
+    + '<table><thead><tr><th class="number">Seats</th><th>Counties</th>'
     + `<th class="number">Per seat</th></tr></thead><tbody>${rows.join("")}</tbody></table>`
     + "</div></div>";
 }

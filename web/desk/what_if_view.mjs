@@ -11,7 +11,8 @@ import { countyName, pairOf, peopleOf, peopleWindow } from "./geography.mjs";
 import { showMap } from "./map_host.mjs";
 import { carriedProblem, wasStopped, whyNoProgram } from "./program.mjs";
 import {
-  addressOf, fractionOf, likelySeats, nothingChanged, pairCodes, startWhatIf, whatIfOf,
+  NO_TOLERANCE, addressOf, fractionOf, likelySeats, nothingChanged, pairCodes, startWhatIf,
+  triedProblem, whatIfOf,
 } from "./what_if.mjs";
 import { outcomeParts } from "./what_if_parts.mjs";
 import { escapeHtml, numberText } from "./words.mjs";
@@ -23,16 +24,22 @@ import { escapeHtml, numberText } from "./words.mjs";
 /** @typedef {import("./border_trials.mjs").Trials} Trials */
 /** @typedef {import("./disputed.mjs").Disputed} Disputed */
 /**
- * The view's own state: the what-if, the set that clicks on the map go to, the outcome shown, what
- * is known of disputed borders, and what stops the work that goes on.
+ * A run on a what-if: how many seconds it has taken, what it told last, and what stops it.
+ * @typedef {{seconds: () => string, told: string, timer: number, stop: () => void}} Solving
+ */
+/**
+ * The view's own state: the what-if, the set that clicks on the map go to, the outcome shown, and
+ * the run at work. `trials` has what is known of disputed borders by their problems, of which
+ * `tried` is the one that is shown.
  * @typedef {{whatIf: WhatIf, set: number, chamber: string, outcome: Outcome | null,
- *   trials: Map<string, Trials>, stop: (() => void) | null, stopTrials: (() => void) | null}} Work
+ *   solving: Solving | null, trials: Map<string, Trials>, tried: string,
+ *   stopTrials: (() => void) | null}} Work
  */
 
 /** @type {Work} */
 const work = {
   whatIf: { sets: [], added: new Set(), cut: new Set(), percent: 5 }, set: 0, chamber: "",
-  outcome: null, trials: new Map(), stop: null, stopTrials: null,
+  outcome: null, solving: null, trials: new Map(), tried: "", stopTrials: null,
 };
 
 const KINDS = /** @type {const} */ ([
@@ -49,7 +56,16 @@ function takenOut() {
 }
 
 /**
- * Opens the view, and solves at once if the address says what to change.
+ * Returns what a fault says, in a sentence.
+ * @param {unknown} fault
+ */
+function faultWords(fault) {
+  return `It could not run. ${fault instanceof Error ? fault.message : fault}`;
+}
+
+/**
+ * Opens the view, and solves at once if the address says what to change. A run on another what-if
+ * is stopped.
  * @param {Desk} desk
  * @param {ViewState} state
  * @param {string} query
@@ -57,7 +73,7 @@ function takenOut() {
 export function openWhatIf(desk, state, query) {
   document.title = `What if: county groups of ${desk.geography.name}`;
   const answer = answerFor(desk, state.chamber);
-  work.outcome = null;
+  if (query || answer.taken.length || work.chamber !== answer.key) dropSolving();
   if (!work.chamber || answer.taken.length) work.whatIf = nothingChanged(answer);
   if (query) work.whatIf = whatIfOf(desk.geography, answer, query);
   work.chamber = answer.key;
@@ -81,9 +97,9 @@ function paintForm(desk, state) {
   find("#whatif-county").innerHTML = names;
   findInput("#percent").value = String(work.whatIf.percent);
   const reason = whyNoProgram();
-  findInput("#solve-again").disabled = reason !== null;
-  findInput("#try-borders").disabled = reason !== null;
-  if (reason) find("#whatif-progress").textContent = reason;
+  findInput("#solve-again").disabled = reason !== null || work.solving !== null;
+  findInput("#try-borders").disabled = reason !== null || work.stopTrials !== null;
+  if (!work.solving) find("#whatif-progress").textContent = reason ?? "";
   paintSets(desk, state);
   paintBorders(desk, state, names);
   paintWindow(desk, state);
@@ -120,13 +136,14 @@ function paintSets(desk, state) {
  * @param {string} [names]  the counties as options of a list
  */
 function paintBorders(desk, state, names) {
+  leaveOtherTrials(desk, state);
   const disputed = tieKinds(desk.geography);
   const trials = trialsFor(desk, state);
-  const isTried = trials.size > 0;
-  const tried = isTried
+  const areTried = disputed.length > 0 && disputed.every(({ link }) => trials.has(link));
+  const tried = areTried
     ? " Each of these pairs was tried alone; only those with a mark change the list." : "";
-  find("#borders-note").textContent = "Whether counties that meet at a point or over water count "
-    + `as neighbors is a question for a court.${tried}`;
+  find("#borders-note").textContent = "Whether counties that meet at a point or over water "
+    + `count as neighbors is a question for a court.${tried}`;
   const openBefore = findAll("#disputed details[open]").map((one) => one.dataset.kind);
   const blocks = KINDS.map(([kind, words]) => {
     const pairs = disputed.filter((one) => one.kind === kind);
@@ -142,19 +159,42 @@ function paintBorders(desk, state, names) {
 }
 
 /**
- * Returns what is known of the disputed borders of the chamber.
+ * Returns the problem of which borders are tried in this form.
+ * @param {Desk} desk
+ * @param {ViewState} state
+ */
+function problemShown(desk, state) {
+  return triedProblem(desk.geography, answerFor(desk, state.chamber), work.whatIf);
+}
+
+/**
+ * Stops the trials of another problem than the one that is shown, and takes away what they told.
+ * @param {Desk} desk
+ * @param {ViewState} state
+ */
+function leaveOtherTrials(desk, state) {
+  const problem = problemShown(desk, state);
+  if (problem === work.tried) return;
+  work.tried = problem;
+  work.stopTrials?.();
+  find("#borders-progress").textContent = "";
+}
+
+/**
+ * Returns what is known of the disputed borders of the problem that is shown. The page itself knows
+ * it of its own problem alone.
  * @param {Desk} desk
  * @param {ViewState} state
  * @returns {Trials}
  */
 function trialsFor(desk, state) {
-  const { key } = answerFor(desk, state.chamber);
-  const known = work.trials.get(key);
+  const base = answerFor(desk, state.chamber);
+  const problem = problemShown(desk, state);
+  const known = work.trials.get(problem);
   if (known) return known;
-  const table = desk.data.chambers.find((one) => one.key === key)?.tried ?? "";
-  const trials = table ? storedTrials(table) : new Map();
-  work.trials.set(key, trials);
-  return trials;
+  const isOwn = problem === triedProblem(desk.geography, base, nothingChanged(base));
+  const table = desk.data.chambers.find((one) => one.key === base.key)?.tried;
+  return isOwn && table ? storedTrials(table) : new Map();
 }
 
 /**
@@ -174,7 +214,7 @@ function pairsHtml(desk, pairs, kind, words, trials, isOpen) {
     const change = trials.get(link);
     const tag = change ? `<span class="tag changed">${escapeHtml(change)}</span>` : "";
     const [one, other] = pair.map((place) => escapeHtml(countyName(geography, place)));
-    return `<li><label><input type="checkbox" data-kind="${kind}" data-pair="${codes}"`
+    return `<li><label><input type="checkbox" data-kind="${kind}" data-pair="${escapeHtml(codes)}"`
       + `${isCounted ? " checked" : ""}>${one}–${other}${tag}</label></li>`;
   };
   const marked = pairs.filter((one) => trials.get(one.link));
@@ -184,8 +224,9 @@ function pairsHtml(desk, pairs, kind, words, trials, isOpen) {
     return work.whatIf.added.has(codes) || work.whatIf.cut.has(codes);
   });
   const doing = kind === "point" ? "counting" : "leaving out";
-  const fold = trials.size ? `${rest.length} ${marked.length ? "more" : "pairs"}: ${doing} one of `
-    + "them alone changes nothing" : `${rest.length} pairs`;
+  const areTried = rest.every((one) => trials.has(one.link));
+  const fold = `${rest.length} ${areTried && marked.length ? "more" : "pairs"}`
+    + (areTried ? `: ${doing} one of them alone changes nothing` : "");
   return `<h3>${words}</h3><ul class="pairs">${marked.map(row).join("")}</ul>`
     + (rest.length ? `<details data-kind="${kind}"${isOpen || isChanged ? " open" : ""}>`
       + `<summary class="note">${fold}</summary><ul class="pairs">${rest.map(row).join("")}</ul>`
@@ -204,7 +245,8 @@ function changedPairs(desk, disputed) {
       const place = desk.geography.placeOf.get(code);
       return place === undefined ? code : countyName(desk.geography, place);
     });
-    return `<li>${escapeHtml(names.join("–"))} ${words} <button type="button" data-undo="${codes}" `
+    return `<li>${escapeHtml(names.join("–"))} ${words} `
+      + `<button type="button" data-undo="${escapeHtml(codes)}" `
       + `aria-label="Undo ${escapeHtml(names.join(" and "))}">×</button></li>`;
   };
   const { added, cut } = work.whatIf;
@@ -213,16 +255,21 @@ function changedPairs(desk, disputed) {
 }
 
 /**
- * Says how many people a district may have.
+ * Says how many people a district may have, or why the percentage is no tolerance.
  * @param {Desk} desk
  * @param {ViewState} state
  */
 function paintWindow(desk, state) {
   const { seats } = answerFor(desk, state.chamber);
-  const [least, most] = peopleWindow(
-    desk.geography.total, seats, 1, fractionOf(work.whatIf.percent));
-  find("#percent-window").textContent = `${numberText(least)} to ${numberText(most)} people per `
-    + "district";
+  const tolerance = fractionOf(work.whatIf.percent);
+  findInput("#percent").setCustomValidity(tolerance ? "" : NO_TOLERANCE);
+  const line = find("#percent-window");
+  if (!tolerance) {
+    line.textContent = NO_TOLERANCE;
+    return;
+  }
+  const [least, most] = peopleWindow(desk.geography.total, seats, 1, tolerance);
+  line.textContent = `${numberText(least)} to ${numberText(most)} people per district`;
 }
 
 /**
@@ -234,8 +281,8 @@ function paintBase(desk, state) {
   const { answer, option, groups } = current(desk, state);
   work.outcome = null;
   const shown = answer.options ? `option ${option} of ` : "";
-  find("#whatif-result").innerHTML = `<p class="note">The map shows `
-    + `${shown}${chamberWords(answer)}. `
+  find("#whatif-result").innerHTML = '<p class="note">'
+    + `The map shows ${shown}${escapeHtml(chamberWords(answer))}. `
     + "Click a county to take it out, change a border, then solve.</p>";
   find("#whatif-table").innerHTML = "";
   showMap(find("#whatif-map"), {
@@ -266,58 +313,96 @@ function toggleCounty(desk, state, county) {
     work.set = sets.indexOf(set);
   }
   paintSets(desk, state);
+  paintBorders(desk, state);
   if (work.outcome) showOutcome(desk, state, work.outcome);
   else paintBase(desk, state);
 }
 
 /**
- * Solves the what-if, with progress, and shows what is different.
+ * Solves the what-if, with progress, and shows what is different. What comes of it isn't shown if
+ * the reader looks at something else by then.
  * @param {Desk} desk
  * @param {ViewState} state
  */
 async function solveAgain(desk, state) {
-  if (work.stop || whyNoProgram()) return;
+  if (work.solving || whyNoProgram()) return;
   const base = answerFor(desk, state.chamber);
-  const progress = find("#whatif-progress");
-  const start = performance.now();
-  const seconds = () => ((performance.now() - start) / 1000).toFixed(1);
-  let last = "";
-  // (until the program has started, there is nothing to stop)
-  work.stop = () => {};
-  setBusy(true);
-  const timer = window.setInterval(() => {
-    progress.textContent = `Solving: ${seconds()} s. ${last}`;
-  }, 100);
+  const asked = structuredClone(work.whatIf);
+  const solving = beginSolving();
+  const isShown = () => (
+    work.solving === solving && state.view === "whatif" && state.chamber === base.key);
   try {
     const files = await carriedProblem();
-    const started = await startWhatIf(desk, base, work.whatIf, files, (line) => {
-      last = line.replace(/^.*?countygroups: /, "").slice(0, 120);
+    const { outcome, stop } = await startWhatIf(desk, base, asked, files, (line) => {
+      solving.told = line.replace(/^.*?countygroups: /, "").slice(0, 120);
     });
-    work.stop = started.stop;
-    find("#stop-solving").hidden = false;
-    work.outcome = await started.outcome;
-    clearInterval(timer);
-    const query = addressOf(desk.geography, base, work.whatIf);
-    history.replaceState(null, "", `#whatif/${base.key}${query ? `/${query}` : ""}`);
-    progress.textContent = `Solved in ${seconds()} seconds, in this page.`;
-    showOutcome(desk, state, work.outcome);
-    if (innerWidth < 1000) find("#whatif-result").scrollIntoView({ behavior: "smooth" });
+    solving.stop = stop;
+    if (work.solving === solving) find("#stop-solving").hidden = false;
+    else stop();
+    const found = await outcome;
+    const words = `Solved in ${solving.seconds()} seconds, in this page.`;
+    const isStillShown = isShown();
+    if (isStillShown) showSolved(desk, state, asked, found);
+    endSolving(solving, isStillShown ? words : "");
   } catch (fault) {
-    clearInterval(timer);
-    progress.textContent = wasStopped(fault) ? `Stopped after ${seconds()} seconds.`
-      : `It could not run. ${fault}`;
+    endSolving(solving, wasStopped(fault) ? `Stopped after ${solving.seconds()} seconds.`
+      : faultWords(fault));
   }
-  work.stop = null;
-  setBusy(false);
 }
 
 /**
- * Shows that the program works, or that it can be started.
- * @param {boolean} isBusy
+ * Shows what came of a what-if, and names it in the address.
+ * @param {Desk} desk
+ * @param {ViewState} state
+ * @param {WhatIf} asked
+ * @param {Outcome} outcome
  */
-function setBusy(isBusy) {
-  findInput("#solve-again").disabled = isBusy;
-  if (!isBusy) find("#stop-solving").hidden = true;
+function showSolved(desk, state, asked, outcome) {
+  const base = answerFor(desk, state.chamber);
+  const query = addressOf(desk.geography, base, asked);
+  history.replaceState(null, "", `#whatif/${base.key}${query ? `/${query}` : ""}`);
+  work.outcome = outcome;
+  showOutcome(desk, state, outcome);
+  if (innerWidth < 1000) find("#whatif-result").scrollIntoView({ behavior: "smooth" });
+}
+
+/** Shows that the program works, and returns its run. Until it has started nothing stops it. */
+function beginSolving() {
+  const start = performance.now();
+  const seconds = () => ((performance.now() - start) / 1000).toFixed(1);
+  /** @type {Solving} */
+  const solving = { seconds, told: "", timer: 0, stop: () => {} };
+  // (these seconds stand beside the line that a screen reader reads out when it changes)
+  solving.timer = window.setInterval(() => {
+    find("#whatif-running").textContent = `${seconds()} s. ${solving.told}`;
+  }, 100);
+  find("#whatif-progress").textContent = "Solving.";
+  findInput("#solve-again").disabled = true;
+  work.solving = solving;
+  return solving;
+}
+
+/**
+ * Shows that a run has ended, and in which words, if no other run is at work.
+ * @param {Solving} solving
+ * @param {string} words
+ */
+function endSolving(solving, words) {
+  clearInterval(solving.timer);
+  if (work.solving !== solving) return;
+  work.solving = null;
+  find("#whatif-progress").textContent = words;
+  find("#whatif-running").textContent = "";
+  findInput("#solve-again").disabled = false;
+  find("#stop-solving").hidden = true;
+}
+
+/** Stops the run at work, whose what-if isn't shown any more. */
+function dropSolving() {
+  const { solving } = work;
+  if (!solving) return;
+  solving.stop();
+  endSolving(solving, "");
 }
 
 /**
@@ -352,25 +437,26 @@ async function tryBorders(desk, state) {
   if (work.stopTrials || whyNoProgram()) return;
   const base = answerFor(desk, state.chamber);
   const disputed = tieKinds(desk.geography);
-  const progress = find("#borders-progress");
-  findInput("#try-borders").disabled = true;
-  work.stopTrials = () => {};
-  progress.textContent = `Trying ${disputed.length} borders, each alone.`;
-  const tell = (/** @type {number} */ done, /** @type {Trials} */ some) => {
-    work.trials.set(base.key, new Map(some));
-    progress.textContent = `Tried ${done} of ${disputed.length} borders.`;
-    if (state.chamber === base.key) paintBorders(desk, state);
+  const problem = problemShown(desk, state);
+  const tell = (/** @type {string} */ words) => {
+    if (work.tried !== problem) return;
+    find("#borders-progress").textContent = words;
+    if (problemShown(desk, state) === problem) paintBorders(desk, state);
   };
+  const { finished, stop } = startTrials(
+    desk, base, structuredClone(work.whatIf), disputed, (done, some) => {
+      work.trials.set(problem, new Map(some));
+      tell(`Tried ${done} of ${disputed.length} borders.`);
+    });
+  work.stopTrials = stop;
+  findInput("#try-borders").disabled = true;
+  find("#stop-borders").hidden = false;
+  tell(`Trying ${disputed.length} borders, each alone.`);
   try {
-    const files = await carriedProblem();
-    const { finished, stop } = startTrials(desk, base, work.whatIf, disputed, files, tell);
-    work.stopTrials = stop;
-    find("#stop-borders").hidden = false;
-    progress.textContent = trialsWords(await finished);
+    tell(trialsWords(await finished));
   } catch (fault) {
-    progress.textContent = wasStopped(fault) ? "Stopped." : `It could not run. ${fault}`;
-    work.trials.delete(base.key);
-    paintBorders(desk, state);
+    work.trials.delete(problem);
+    tell(wasStopped(fault) ? "Stopped." : faultWords(fault));
   }
   work.stopTrials = null;
   findInput("#try-borders").disabled = false;
@@ -403,13 +489,13 @@ export function followWhatIf(desk, state) {
     event.preventDefault();
     solveAgain(desk, state);
   });
-  find("#stop-solving").addEventListener("click", () => work.stop?.());
+  find("#stop-solving").addEventListener("click", () => work.solving?.stop());
   find("#try-borders").addEventListener("click", () => tryBorders(desk, state));
   find("#stop-borders").addEventListener("click", () => work.stopTrials?.());
   find("#start-over").addEventListener("click", () => {
+    dropSolving();
     work.whatIf = nothingChanged(answerFor(desk, state.chamber));
     work.set = 0;
-    find("#whatif-progress").textContent = "";
     history.replaceState(null, "", `#whatif/${state.chamber}`);
     paintForm(desk, state);
     paintBase(desk, state);
@@ -417,6 +503,7 @@ export function followWhatIf(desk, state) {
   findInput("#percent").addEventListener("input", () => {
     work.whatIf.percent = Number(findInput("#percent").value) || 0;
     paintWindow(desk, state);
+    paintBorders(desk, state);
   });
   followSets(desk, state);
   followPairs(desk, state);
@@ -439,12 +526,13 @@ function followSets(desk, state) {
     const county = /** @type {HTMLElement} */ (event.target).dataset.back;
     if (county) toggleCounty(desk, state, Number(county));
   });
-  sets.addEventListener("change", (event) => {
+  sets.addEventListener("input", (event) => {
     const input = /** @type {HTMLInputElement} */ (event.target);
     const set = work.whatIf.sets[Number(input.dataset.seats)];
     if (!set) return;
     set.seats = Math.max(1, Math.round(Number(input.value)) || 1);
     set.isOwn = true;
+    paintBorders(desk, state);
   });
 }
 

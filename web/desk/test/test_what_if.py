@@ -1,19 +1,31 @@
 """What if: published numbers, a set taken out, the marks of borders, stopping, and addresses."""
 from __future__ import annotations
 
+from desk_page import carried_file
 from desk_setting import CHAMBERS, DATA, PROBLEM, InDesk, run
 
 RESULT = "#whatif-result"
 
 
+OWN_ROW = "#whatif-table tbody tr td:nth-child(3)"
+PERCENT = """
+(() => {
+  const input = document.querySelector("#percent");
+  input.value = "VALUE";
+  input.dispatchEvent(new Event("input"));
+  return input.checkValidity();
+})()
+"""
 # Presses Stop as soon as there is such a button, and keeps what the page tells meanwhile.
 STOPPED_AT_ONCE = """
   const stop = document.querySelector("#stop-solving");
   globalThis.stopping = new MutationObserver(() => { if (!stop.hidden) stop.click(); });
   stopping.observe(stop, { attributes: true });
-  globalThis.told = [];
-  const line = document.querySelector("#whatif-progress");
-  new MutationObserver(() => told.push(line.innerText)).observe(line, { childList: true });
+  for (const name of ["progress", "running"]) {
+    const [line, told] = [document.querySelector(`#whatif-${name}`), []];
+    globalThis[name] = told;
+    new MutationObserver(() => told.push(line.innerText)).observe(line, { childList: true });
+  }
 """
 
 
@@ -61,7 +73,7 @@ class WhatIf(InDesk):
         listed = run("list", *words)
         self.solved("#whatif/house/out=37083-37091-37131-37185:1,37047-37155:1")
         number = listed.split("best groupings ")[1].split("\n")[0]
-        self.assertEqual(self.text("#whatif-table tbody tr td:nth-child(3)"), number)
+        self.assertEqual(self.text(OWN_ROW), number)
         left = solved.split("seats left ")[1].split("\n")[0]
         table = self.text("#whatif-table table")
         self.assertRegex(table, rf"Seats left to group\s+120\s+{left}\b")
@@ -139,7 +151,79 @@ class WhatIf(InDesk):
         self.value("stopping.disconnect()")
         self.press_button("#solve-again")
         self.wait_words(RESULT, "Nothing changes.")
-        self.assertTrue(self.value("told.some((one) => /^Solving: \\d/.test(one))"))
+        self.assertTrue(self.value("running.some((one) => /^\\d/.test(one))"))
+        # (a screen reader reads out each of these)
+        first, *others = self.value("[...new Set(progress)]")
+        self.assertEqual((first, len(others)), ("Solving.", 2))
+        self.check_quiet()
+
+    def test_another_chamber_while_it_solves(self) -> None:
+        self.open("#whatif/senate")
+        self.press_button("#solve-again")
+        self.press_button("#whatif-chambers [data-chamber=house]")
+        self.wait_words(RESULT, "of the House")
+        self.press_button("#solve-again")
+        self.wait_words("#whatif-progress", "Solved in")
+        self.assertIn("Nothing changes.", self.text(RESULT))
+        self.assertEqual(self.text(OWN_ROW), "8")
+        self.assertEqual(self.value("location.hash"), "#whatif/house")
+        self.check_quiet()
+
+    def test_another_view_while_it_solves(self) -> None:
+        self.open("#whatif/senate")
+        self.press_button("#solve-again")
+        self.go("#senate/3")
+        self.wait("!document.querySelector('#solve-again').disabled")
+        self.assertEqual(self.value("location.hash"), "#senate/3")
+        self.go("#whatif/senate")
+        self.assertIn("Click a county", self.text(RESULT))
+        self.assertEqual(self.text("#whatif-progress"), "")
+        self.check_quiet()
+
+    def test_an_address_with_signs(self) -> None:
+        told = self.solved("#whatif/senate/add=%22%3E%3Ch2%3EA,37023-99999&cut=37023-37023")
+        self.assertIn("Nothing changes.", told)
+        self.assertEqual(self.text("#changed-pairs"), "")
+        self.assertEqual(self.value("document.querySelectorAll('#whatif-form h2').length"), 3)
+        self.assertEqual(self.value("location.hash"), "#whatif/senate")
+        self.check_quiet()
+
+    def test_an_escape_that_cant_be_read(self) -> None:
+        told = self.solved("#whatif/senate/cut=37109-37023&percent=5%")
+        self.assertIn("Eight of the 16 best groupings are left.", told)
+        self.assertEqual(self.value("location.hash"), "#whatif/senate/cut=37023-37109")
+        self.check_quiet()
+
+    def test_percentages(self) -> None:
+        self.open("#whatif/senate")
+        # (parts of an ideal of 208,787.76)
+        for percent, told in (
+            ("6.25", "195,739 to 221,836 people"),
+            ("33.333333333333336", "139,192 to 278,383 people"),
+            ("50", "104,394 to 313,181 people"),
+        ):
+            self.assertTrue(self.value(PERCENT.replace("VALUE", percent)), percent)
+            self.assertIn(told, self.text("#percent-window"))
+        for percent in ("4.01", "33.33", "50.1", "-1"):
+            self.assertFalse(self.value(PERCENT.replace("VALUE", percent)), percent)
+            self.assertIn("can’t take this percentage", self.text("#percent-window"))
+        self.go("#whatif/senate/percent=4.01")
+        self.wait_words("#whatif-progress", "It could not run. The program can’t take this")
+        self.check_quiet()
+
+    def test_links_without_a_last_line_end(self) -> None:
+        text, carried = self.carried()
+        links = self.room / "some.links"
+        links.write_text("-|37023|37109\n-|37041|37187\n", encoding="ascii")
+        certificate = ["--certificate", str(self.room / "certificate")]
+        words = [*PROBLEM, "--chamber", "50", "--links", str(links), *certificate]
+        run("solve", *words)
+        number = run("list", *words).split("best groupings ")[1].split("\n")[0]
+        file = carried_file("some.links", b"-|37023|37109")
+        path = self.page_with(text, {**carried, "links": file})
+        self.open("#whatif/senate/cut=37041-37187", path)
+        self.wait_words("#whatif-progress", "Solved in")
+        self.assertEqual(self.text(OWN_ROW), number)
         self.check_quiet()
 
 
@@ -178,6 +262,21 @@ class Borders(InDesk):
         self.wait_words("#borders-progress", "Tried ", 60)
         self.wait_words("#borders-progress", "4 matter", 180)
         self.assertEqual(self.marks(), self.wanted["house"])
+        self.check_quiet()
+
+    def test_marks_of_another_problem(self) -> None:
+        self.open("#whatif/senate/out=37119:5")
+        self.wait_words("#whatif-progress", "Solved in")
+        self.assertEqual(self.marks(), {})
+        self.assertNotIn("tried alone", self.text("#borders-note"))
+        self.press_button("#try-borders")
+        self.wait_words("#borders-progress", "Tried ", 60)
+        self.assertNotIn("tried alone", self.text("#borders-note"))
+        self.press_button("#start-over")
+        self.wait("document.querySelector('#stop-borders').hidden")
+        self.assertEqual(self.marks(), self.wanted["senate"])
+        self.assertIn("tried alone", self.text("#borders-note"))
+        self.assertEqual(self.text("#borders-progress"), "")
         self.check_quiet()
 
     def test_trying_is_stopped(self) -> None:
