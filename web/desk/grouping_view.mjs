@@ -183,7 +183,7 @@ function showLesser(desk, answer, given, counts) {
 }
 
 /**
- * Judges the grouping of the box.
+ * Judges the grouping of the box. Nothing is shown if the reader chose another chamber meanwhile.
  * @param {Desk} desk
  * @param {ViewState} state
  */
@@ -203,6 +203,7 @@ async function judge(desk, state) {
     const files = withFile(grouped, "certificate", certificate);
     const words = [...problemWords(desk, answer), "--grouping", "grouping"];
     const run = await runProgram(["judge", ...words, "--certificate", "certificate"], files);
+    if (state.chamber !== answer.key) return;
     showVerdict(desk, answer, given, run);
     if (given.note) result.innerHTML += `<p class="note">${escapeHtml(given.note)}</p>`;
   } catch (fault) {
