@@ -336,7 +336,7 @@ def asked_of() -> Asked:
     words = parser.parse_args()
     found = shutil.which(words.program)
     if not found:
-        raise Refused(f"there is no program `{words.program}`: give its path by --program")
+        raise Refused(f"there is no program `{words.program}`: name its path in COUNTYGROUPS")
     logins = words.sshlogin or [HERE]
     return Asked(words.folder, words.jobs, words.steps, logins, words.srun, os.path.abspath(found))
 
