@@ -7,7 +7,7 @@ ghost use Rattle.connected_sets.specs.{Growths.{problem_in, places_in, size_in, 
 ghost use Rattle.connected_sets.specs.declared.stop.Stop.{Stop};
 
 use crate::growth_test::GrowthTest;
-use crate::input::{Growth, GrowthInput};
+use crate::input::{Growth, GrowthInput, Move};
 use crate::stop::Stop;
 use county_problem::Steps;
 use place_sets::CountySet;
@@ -165,6 +165,7 @@ fn with_place<C: CountySet>(
         people,
         front,
         free,
+        last: Move::Joined(place),
     })
 }
 
@@ -181,6 +182,7 @@ fn without_place<C: CountySet>(growth: Growth<C>, place: u16) -> Growth<C>
         people: growth.people,
         front: growth.front.without(place),
         free: growth.free.without(place),
+        last: Move::LeftOut(place),
     }
 }
 

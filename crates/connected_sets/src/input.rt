@@ -11,6 +11,16 @@ pub struct GrowthInput<'g, 'a, 'b, C> {
     pub limit: u16,
 }
 
+/// The last move of a growth. The test of a growth may look at what the move changed alone, and rests on nothing that
+/// the move says.
+#[derive(Clone, Copy, Debug, PartialEq, Eq)]
+pub enum Move {
+    /// The place joined the set.
+    Joined(u16),
+    /// The place is no longer free.
+    LeftOut(u16),
+}
+
 /// Where a growth stands.
 #[derive(Drop)]
 pub struct Growth<C> {
@@ -22,4 +32,6 @@ pub struct Growth<C> {
     pub front: C,
     /// The places that may still join the set.
     pub free: C,
+    /// The move by which the growth came here. At first that is the one by which the first place joined.
+    pub last: Move,
 }

@@ -21,7 +21,7 @@ mod stop;
 pub use county_graph::CountyGraph;
 pub use growing::grow;
 pub use growth_test::GrowthTest;
-pub use input::{Growth, GrowthInput};
+pub use input::{Growth, GrowthInput, Move};
 pub use lists::place_list;
 pub use part::part_around;
 pub use parts::parts_of;

@@ -5,7 +5,7 @@ ghost use Rattle.connected_laws.specs.Growing.{only, IsFront};
 ghost use Rattle.connected_sets.specs.Graphs.{graph_places, place_problem, IsGraph};
 
 use crate::county_graph::CountyGraph;
-use crate::input::Growth;
+use crate::input::{Growth, Move};
 use place_sets::CountySet;
 use std::alloc::{AllocError, Global};
 
@@ -40,5 +40,6 @@ pub fn start_growth<C: CountySet>(
         people,
         front,
         free,
+        last: Move::Joined(place),
     })
 }

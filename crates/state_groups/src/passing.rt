@@ -12,7 +12,7 @@ ghost use Rattle.certificate_laws.specs.Fitting.{Fits};
 use crate::people::first_people;
 use crate::reach::reached;
 use crate::state_test::StateTest;
-use crate::stuck_parts::strands;
+use crate::stranding::strands;
 use crate::sums::people_in;
 use crate::windows::{may_divide, may_suit};
 use connected_sets::{Growth, GrowthInput};
@@ -151,7 +151,7 @@ pub(crate) fn is_passed_over<C: CountySet>(
         input.graph,
         test.format,
         test.state,
-        &growth.set,
-        &growth.free,
+        growth,
+        test.tables.enough,
     )
 }

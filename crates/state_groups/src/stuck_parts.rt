@@ -6,16 +6,14 @@ ghost use Rattle.place_sets.specs.PlaceSets.{places_of};
 ghost use Rattle.county_problem.specs.OrderedValue.{problem_at};
 ghost use Rattle.connected_sets.specs.Graphs.{graph_places, place_problem, IsGraph};
 ghost use Rattle.state_groups.specs.{StateValue.state_of, Cut.CutOff};
-ghost use Rattle.state_groups.specs.Stranding.{NoneFits, IsTooSmall, IsStranded, StrandedPart};
 ghost use Rattle.certificate_laws.specs.{StuckParts.CannotFill, Fitting.IsLive, Leaves.IsStuck};
 
 use crate::state::State;
 use crate::sums::people_in;
-use certificate_data::Format;
 use connected_sets::{CountyGraph, part_around};
 use county_problem::Ordered;
 use place_sets::CountySet;
-use std::alloc::{AllocError, Global};
+use std::alloc::AllocError;
 
 /// Returns whether some county of the set asks for a group of more than `size` counties.
 pub(crate) fn asks_more<C: CountySet>(state: &State<C>, set: &C, size: u32) -> bool
@@ -85,114 +83,6 @@ pub fn has_stuck_part<C: CountySet>(
         rest = left;
     }
     Ok(false)
-}
-
-/// Returns whether the set `part` is too small for one of its places that isn't `free`. It is if it has fewer people
-/// than one seat asks for, or fewer places than that place asks for. Then nothing of the set around the place can be
-/// filled.
-fn is_too_small<C: CountySet>(
-    alloc: Global,
-    ordered: &Ordered,
-    state: &State<C>,
-    part: &C,
-    free: &C,
-) -> Result<bool, AllocError>
-    requires places { length state.now.least.items ≡ length ordered.now.order }
-    requires below { (x : ℕ) → C.test part.now x ≡ true → x < length ordered.now.order }
-    ensures { IfOk
-        result
-        (λ small. IsTrue small
-        → IsTooSmall (problem_at ordered.now) (state_of C.test state.now) (C.test free.now) (places_of (length ordered.now.order) (C.test part.now))) }
-{
-    let _places = ordered.places();
-    let kept = part.copy(alloc)?.minus(free);
-    let Some(_place) = kept.next(0) else {
-        return Ok(false);
-    };
-    let problem = ordered.problem();
-    if people_in(ordered, part) < problem.district_bounds(1).0 {
-        return Ok(true);
-    }
-    Ok(asks_more(state, &kept, part.size()))
-}
-
-/// Returns whether the set `part` is stranded. A set without a `free` place is stranded if it can't be filled. Any
-/// other set is stranded if it is too small for a place that isn't free.
-fn is_stranded<C: CountySet>(
-    alloc: Global,
-    ordered: &Ordered,
-    state: &State<C>,
-    part: &C,
-    free: &C,
-) -> Result<bool, AllocError>
-    requires places { length state.now.least.items ≡ length ordered.now.order }
-    requires below { (x : ℕ) → C.test part.now x ≡ true → x < length ordered.now.order }
-    ensures { IfOk
-        result
-        (λ found. IsTrue found
-        → IsStranded (problem_at ordered.now) (state_of C.test state.now) (C.test free.now) (places_of (length ordered.now.order) (C.test part.now))) }
-{
-    if !part.meets(free) {
-        return Ok(is_stuck(ordered, state, part));
-    }
-    is_too_small(alloc, ordered, state, part, free)
-}
-
-/// Returns whether some connected part of `region` is stranded at `state`, with these `free` places.
-fn has_stranded_part<C: CountySet>(
-    graph: &CountyGraph<C>,
-    state: &State<C>,
-    region: C,
-    free: &C,
-) -> Result<bool, AllocError>
-    requires graph { IsGraph C.test C.PLACES graph.now }
-    requires places { length state.now.least.items ≡ graph_places graph.now }
-    requires below { (x : ℕ) → C.test region x ≡ true → x < graph_places graph.now }
-    ensures { IfOk result (λ found. IsTrue found
-        → StrandedPart (place_problem graph.now) (state_of C.test state.now) (C.test region) (C.test free.now)) }
-{
-    let mut rest = region;
-    while let Some(place) = rest.next(0) {
-        let (part, left) = part_around(graph, &rest, place)?;
-        let stranded = is_stranded(graph.alloc, graph.ordered, state, &part, free)?;
-        if stranded {
-            return Ok(true);
-        }
-        rest = left;
-    }
-    Ok(false)
-}
-
-/// Returns whether each group that has all of `set`, and otherwise only `free` places, leaves a part behind that can't
-/// be filled. Either no free place can reach that part, or it lies in a part of what the set leaves that is too small
-/// for a place that isn't free. In a plain `format` no group is left out for that.
-///
-/// # Errors
-///
-/// Returns an error if memory was refused.
-pub fn strands<C: CountySet>(
-    graph: &CountyGraph<C>,
-    format: Format,
-    state: &State<C>,
-    set: &C,
-    free: &C,
-) -> Result<bool, AllocError>
-    requires graph { IsGraph C.test C.PLACES graph.now }
-    requires places { length state.now.least.items ≡ graph_places graph.now }
-    requires below { (x : ℕ) → C.test state.now.rest x ≡ true → x < graph_places graph.now }
-    ensures { IfOk
-        result
-        (λ none. IsTrue none
-        → (limit : ℕ)
-        → NoneFits format (place_problem graph.now) (graph_places graph.now) limit (state_of C.test state.now) (C.test set.now) (C.test free.now)) }
-{
-    match format {
-        Format::Plain => Ok(false),
-        Format::Wide => {
-            let left = state.rest.copy(graph.alloc)?.minus(set);
-            has_stranded_part(graph, state, left, free)
-        }
-    }
 }
 
 /// Returns whether a `group` of the rest is live, which means that no connected part of the rest of `state` without it

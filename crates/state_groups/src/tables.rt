@@ -24,6 +24,30 @@ pub(crate) struct Tables {
     pub(crate) windows: Vec<(u64, u64)>,
     /// The people of the rest, if what a group that fits leaves of them has to suit some number of seats.
     pub(crate) rest_people: Option<u64>,
+    /// What a part with a free place needs so that it isn't too small for any of its places.
+    pub(crate) enough: Enough,
+}
+
+/// What a part with a free place needs so that it isn't too small for any of its places. A test that stops early looks
+/// at it, and nothing that a contract says rests on it.
+#[derive(Clone, Copy, Debug)]
+pub(crate) struct Enough {
+    /// The least number of people that suit one seat.
+    pub(crate) people: u64,
+    /// The greatest size, in counties, that a county of the rest asks for.
+    pub(crate) counties: u32,
+}
+
+/// Returns what is enough at `state`, for a part with a free place.
+fn enough_at<C: CountySet>(ordered: &Ordered, state: &State<C>) -> Enough {
+    let mut counties = 0;
+    for size in &state.least {
+        counties = u32::from(*size).max(counties);
+    }
+    Enough {
+        people: ordered.problem().district_bounds(1).0,
+        counties,
+    }
 }
 
 /// Returns the people of the rest if the format is wide and the rest has more than `limit` counties. Otherwise it
@@ -69,5 +93,6 @@ pub(crate) fn make_tables<C: CountySet>(
         by_people: places_by_people(alloc, ordered, region)?,
         windows: seat_windows(alloc, ordered, people_in(ordered, &state.rest))?,
         rest_people: divided_people(ordered, format, state, limit),
+        enough: enough_at(ordered, state),
     })
 }

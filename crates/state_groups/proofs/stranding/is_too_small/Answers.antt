@@ -3,7 +3,7 @@ use Rattle.grouping_laws.specs.SeatWindow.{people_bounds}
 use Rattle.connected_laws.proofs.PlaceLists.{placed}
 use Rattle.county_problem.specs.OrderedValue.{problem_at}
 use Rattle.state_groups.proofs.StrandLemmas.{least_for_one, kept_back}
-use Rattle.state_groups.proofs.stuck_parts.is_too_small.Goals as goal
+use Rattle.state_groups.proofs.stranding.is_too_small.Goals as goal
 
 pub returns-then-people_in-district_bounds : goal.returns-then-people_in-district_bounds
 returns-then-people_in-district_bounds g c = λ e.

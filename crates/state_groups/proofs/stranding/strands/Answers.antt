@@ -6,7 +6,7 @@ use Rattle.state_groups.specs.StateValue.{state_of}
 use Rattle.state_groups.specs.Stranding.{NoneFits, StrandedPart}
 use Rattle.state_groups.proofs.FitLemmas.{if_ok, below_listed}
 use Rattle.state_groups.proofs.StrandLemmas.{stranded}
-use Rattle.state_groups.proofs.stuck_parts.strands.Goals as goal
+use Rattle.state_groups.proofs.stranding.strands.Goals as goal
 
 pub returns-in_ok-copy-in-Wide : goal.returns-in_ok-copy-in-Wide
 returns-in_ok-copy-in-Wide g c =
