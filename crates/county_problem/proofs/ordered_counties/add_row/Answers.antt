@@ -19,5 +19,5 @@ loop-code-preserved c =
     let code = c.code-item.result in
     let pairs = c.deref.ensures.value ∙ ap (λ (v : ProblemValue). v.pairs) c.problem.view_is in
     let same : c.is_one_of.result ≡ f code =
-        c.is_one_of.ensures ∙ (ap (λ (l : List ℕ). contains l code) c.deref-in-loop-code.ensures.value ∙ (c.in_ok-beside.ensures code ∙ ap (λ (l : List (ℕ × ℕ)). names_both l c.args.from code) pairs)) in
+    c.is_one_of.ensures ∙ (ap (λ (l : List ℕ). contains l code) c.deref-in-loop-code.ensures.value ∙ (c.in_ok-beside.ensures code ∙ ap (λ (l : List (ℕ × ℕ)). names_both l c.args.from code) pairs)) in
     one_more f c.loop-code.rows.items c.push.new.self.items _ c.args.order.now c.loop-code.code-index code c.is_one_of.result c.loop-code-test.true c.code-item.is same c.in_ok-push.ensures.items c.loop-code.invariant
