@@ -6,8 +6,7 @@ use Rattle.std.proofs.lemmas.Bool.{false≢true, or_cases, or_parts}
 use Rattle.std.proofs.lemmas.List.{take_more}
 use Rattle.std.proofs.lemmas.List.Elements.{All-append}
 use Rattle.std.proofs.lemmas.List.Folds.{list_any-append}
-use Rattle.grouping_laws.proofs.Elements.{Has, has_all, all_from_has, contains_from_has}
-use Rattle.connected_laws.specs.Listing.{AreBelow}
+use Rattle.grouping_laws.proofs.Elements.{Has, all_from_has, contains_from_has}
 
 any_has : {X : Type 0} (q : X → Bool) (xs : List X) → list_any q xs ≡ true → (x : X) × Has xs x × (q x ≡ true)
 any_has q [] e = absurd (false≢true e)
@@ -19,12 +18,6 @@ none_has q (y ∷ ys) e x (inl k) = ap q (sym k) ∙ (or_parts (q y) (list_any q
 none_has q (y ∷ ys) e x (inr h) = none_has q ys (or_parts (q y) (list_any q ys) e).1 x h
 
 module _ (C : Type 0) (test : C → ℕ → Bool) (groups : List C) (all : ℕ → Bool) (covers : (x : ℕ) → all x ≡ list_any (λ g. test g x) groups) where
-  -- they are below what the groups' places are below
-  pub covered_below : (n : ℕ) → AreBelow n test groups → (x : ℕ) → all x ≡ true → x < n
-  covered_below n below x e =
-      let h = any_has (λ g. test g x) groups (sym (covers x) ∙ e) in
-      has_all (λ g. (y : ℕ) → test g y ≡ true → y < n) groups below h.0 h.1 x h.2
-
   -- each is of some group
   pub covered_group : (x : ℕ) → all x ≡ true → (g : C) × Contains groups g × (test g x ≡ true)
   covered_group x e =

@@ -4,7 +4,7 @@ ghost use Rattle.std.specs.Prelude.{◌≡◌, ℕ, true, false, ◌<◌, ◌≤
 ghost use Rattle.county_codes.specs.Limits.{most_counties};
 ghost use Rattle.connected_laws.specs.Listing.{AreBelow};
 
-use crate::sets::{covered_by, lightest};
+use crate::sets::{covered_by, least_weight};
 use place_sets::CountySet;
 use std::alloc::{AllocError, Global};
 
@@ -77,7 +77,7 @@ pub fn county_of_choice<C: CountySet>(
         return Ok(None);
     }
     let covered = covered_by(alloc, groups)?;
-    let (_, quota) = lightest(weights, groups);
+    let quota = least_weight(weights, groups);
     let heavy = heavy_places(covered.copy(alloc)?, places, weights, quota);
     match fewest_groups(groups, &heavy) {
         Some(place) => Ok(Some(place)),

@@ -13,17 +13,19 @@
 //! those where a group is closed or a county is raised, and `groups_ahead` the groups of one county more. The solver
 //! goes from position to position, and so does the checker of certificates.
 //!
-//! `weights` and `choice` are heuristics. The one gives weights of the counties of some groups, which show that few of
+//! `rounds` and `choice` are heuristics. The one gives weights of the counties of some groups, which show that few of
 //! the groups are disjoint. The other gives the county to branch at. If each group weighs a quota or more, no more
 //! groups are disjoint than the quota goes into the weight of all counties. Any weights would be right, since each
 //! bound leaf is tested where it is written, and so would any county of a group. So the contracts only say that the
-//! weights are small numbers, one for each place, and that the county is one of a group.
+//! weights are small numbers, one for each place, and that the county is one of a group. No contract says that the
+//! sums which `kept_sums` keeps from round to round are those of the weights.
 #![tactic(auto)]
 
 mod choice;
 mod groups_ahead;
 mod input;
 mod kept_groups;
+mod kept_sums;
 mod laws;
 mod moves;
 mod part_lists;

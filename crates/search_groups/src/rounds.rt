@@ -1,13 +1,13 @@
 //! The search for weights which show that few of some groups are disjoint.
 
-ghost use Rattle.std.specs.Prelude.{◌≡◌, ℕ, true, ◌<◌, ◌≤◌, length, All, IfOk};
+ghost use Rattle.std.specs.Prelude.{◌≡◌, ◌<◌, ◌≤◌, length, All, IfOk};
 ghost use Rattle.county_codes.specs.Limits.{most_counties};
 ghost use Rattle.connected_laws.specs.Listing.{AreBelow};
 
-use crate::sets::{covered_by, lightest};
-use crate::weights::{lowered, raise, uniform};
+use crate::kept_sums::KeptSums;
+use crate::sets::{covered_by, having_lists};
+use crate::weights::uniform;
 use place_sets::CountySet;
-use state_groups::weight_in;
 use std::alloc::{AllocError, Global};
 
 /// The number of times that the lightest group is made heavier.
@@ -25,6 +25,7 @@ struct Weighing {
     weights: Vec<u32>,
     quota: u64,
     sum: u64,
+    ghost range: { All (λ w. w ≤ 1000000) weights.items },
 }
 
 impl Weighing {
@@ -37,91 +38,55 @@ impl Weighing {
     fn is_beaten_by(&self, quota: u64, sum: u64) -> bool {
         sum.saturating_mul(self.quota) < self.sum.saturating_mul(quota)
     }
-}
 
-/// Returns the better of the `best` weighing so far and these `weights`, whose lightest group weighs the `quota`.
-fn better<C: CountySet>(
-    alloc: Global,
-    best: Weighing,
-    weights: &[u32],
-    covered: &C,
-    quota: u64,
-) -> Result<Weighing, AllocError>
-    requires few { length weights.now ≤ most_counties }
-    requires within { (x : ℕ) → C.test covered.now x ≡ true → x < length weights.now }
-    requires count { length best.weights.items ≡ length weights.now }
-    requires best_range { All (λ w. w ≤ 1000000) best.weights.items }
-    requires range { All (λ w. w ≤ 1000000) weights.now }
-    ensures count { IfOk result (λ b. length b.weights.items ≡ length weights.now) }
-    ensures range { IfOk result (λ b. All (λ w. w ≤ 1000000) b.weights.items) }
-{
-    let sum = weight_in(weights, covered);
-    if !best.is_beaten_by(quota, sum) {
-        return Ok(best);
+    /// Copies the weights of `kept`, whose lightest group weighs the `quota`, into this weighing if they are better.
+    fn improve(&mut self, kept: &KeptSums, quota: u64)
+        requires count { length self.old.weights.items ≡ length kept.now.weights.items }
+        ensures count { length self.new.weights.items ≡ length self.old.weights.items }
+    {
+        if self.is_beaten_by(quota, kept.total) {
+            self.weights.copy_from_slice(&kept.weights);
+            self.quota = quota;
+            self.sum = kept.total;
+        }
     }
-    let weights = weights.to_vec(alloc)?;
-    Ok(Weighing {
-        weights,
-        quota,
-        sum,
-    })
-}
-
-/// Returns the better of the `best` weighing so far and these `weights`, lowered by what no group needs.
-fn better_lowered<C: CountySet>(
-    alloc: Global,
-    best: Weighing,
-    weights: &[u32],
-    groups: &[C],
-    covered: &C,
-    quota: u64,
-) -> Result<Weighing, AllocError>
-    requires few { length weights.now ≤ most_counties }
-    requires below { AreBelow (length weights.now) C.test groups.now }
-    requires within { (x : ℕ) → C.test covered.now x ≡ true → x < length weights.now }
-    requires count { length best.weights.items ≡ length weights.now }
-    requires best_range { All (λ w. w ≤ 1000000) best.weights.items }
-    requires range { All (λ w. w ≤ 1000000) weights.now }
-    ensures count { IfOk result (λ b. length b.weights.items ≡ length weights.now) }
-    ensures range { IfOk result (λ b. All (λ w. w ≤ 1000000) b.weights.items) }
-{
-    let lower = lowered(alloc, weights, groups, covered, quota)?;
-    better(alloc, best, &lower, covered, quota)
 }
 
 /// Returns the best weights of all rounds, or the first ones that show that fewer than `wanted` groups are disjoint.
-/// Each round tries the weights, and then makes the lightest group heavier. Every eighth round tries them without what
-/// no group needs.
+/// Each round tries the weights of `kept`, and then makes the lightest group heavier. Every eighth round tries them
+/// without what no group needs. For each place, `having` lists the indices of the `groups` that have it.
 fn best_of_rounds<C: CountySet>(
     alloc: Global,
-    weights: &mut [u32],
+    kept: &mut KeptSums,
+    having: &[Vec<u16>],
     groups: &[C],
-    covered: &C,
     found: Weighing,
     wanted: u32,
 ) -> Result<Vec<u32>, AllocError>
-    requires few { length weights.old ≤ most_counties }
-    requires below { AreBelow (length weights.old) C.test groups.now }
+    requires places { length having.now ≡ length kept.old.weights.items }
+    requires sums { length kept.old.sums.items ≡ length groups.now }
+    requires lists { All (λ v. All (λ i. i < length groups.now) v.items) having.now }
+    requires below { AreBelow (length having.now) C.test groups.now }
     requires some { 0 < length groups.now }
-    requires within { (x : ℕ) → C.test covered.now x ≡ true → x < length weights.old }
-    requires count { length found.weights.items ≡ length weights.old }
-    requires found_range { All (λ w. w ≤ 1000000) found.weights.items }
-    requires range { All (λ w. w ≤ 1000000) weights.old }
-    ensures count { IfOk result (λ v. length v.items ≡ length weights.old) }
+    requires count { length found.weights.items ≡ length having.now }
+    ensures count { IfOk result (λ v. length v.items ≡ length having.now) }
     ensures range { IfOk result (λ v. All (λ w. w ≤ 1000000) v.items) }
 {
     let mut best = found;
+    let mut lowered = kept.copy(alloc)?;
     for round in 0..ROUNDS {
-        let (index, quota) = lightest(weights, groups);
-        best = if round % 8 == 7 {
-            better_lowered(alloc, best, weights, groups, covered, quota)?
+        let (index, quota) = kept.lightest();
+        if round % 8 == 7 {
+            lowered.copy_from(kept);
+            lowered.lower(having, quota);
+            best.improve(&lowered, quota);
         } else {
-            better(alloc, best, weights, covered, quota)?
-        };
+            best.improve(kept, quota);
+        }
         if best.shows(wanted) {
             return Ok(best.weights);
         }
-        raise(weights, &groups[index]);
+        kept.raise(having, &groups[index]);
     }
     Ok(best.weights)
 }
@@ -155,6 +120,8 @@ pub fn weigh<C: CountySet>(
     if counted.shows(wanted) || size == 1 || groups.is_empty() || groups.len() > MANY {
         return Ok(counted.weights);
     }
-    let mut weights = uniform(alloc, places, &covered, START)?;
-    best_of_rounds(alloc, &mut weights, groups, &covered, counted, wanted)
+    let having = having_lists(alloc, places, groups)?;
+    let weights = uniform(alloc, places, &covered, START)?;
+    let mut kept = KeptSums::new(alloc, weights, &having, groups.len())?;
+    best_of_rounds(alloc, &mut kept, &having, groups, counted, wanted)
 }

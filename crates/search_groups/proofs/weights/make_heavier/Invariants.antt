@@ -1,8 +1,0 @@
-use Rattle.std.proofs.Common.{◌≤◌, ◌-◌, length, All}
-use Rattle.search_groups.proofs.weights.make_heavier.Given as goal
-
-abbrev pub invariant-loop-place : goal.invariant-loop-place
-invariant-loop-place g l = All (λ w. w ≤ 1000000) l.weights
-
-abbrev pub decreases-loop-place : goal.decreases-loop-place
-decreases-loop-place g l = length l.weights - l.from
