@@ -156,8 +156,8 @@ test_programs() { # PROGRAM ..
     python3 tools/test_what_if_table.py --program "$1"
     heading "the program at a terminal"
     python3 tools/test_terminal.py --program "$1"
-    heading "the ring of a board and desks"
-    python3 tools/test_ring.py --program "$1"
+    heading "a worker that answers at once"
+    python3 tools/test_worker.py --program "$1"
     heading "a search that goes on at a board"
     python3 tools/test_resuming.py --program "$1"
 }

@@ -80,8 +80,6 @@ REPLY = (
     rf"|new round {NUMBER}|old round|no such piece|already done|already split|cant split"
     r"|not a proof|not a part|not better|cant widen|too many pieces|budget|memory)\n"
 )
-TOLD_ROUND = rf"round {NUMBER} {NUMBER} {NUMBER}\n(?:group {NUMBER} {CODES}\n)*"
-TOLD_PIECE = rf"open {NUMBER} {NUMBER}\n(?:closed {CODES}\n)*(?:least {CODE} {NUMBER}\n)*end\n"
 WEIGHED = rf"weigh {NUMBER}(?: {CODE}:{NUMBER})*"
 BRANCH = rf"branch {CODE}(?: {NUMBER})?|take {CODES}|mark"
 TREE = rf"(?:(?:{BRANCH}|stuck {CODE}|seats|bound {NUMBER}|room|{WEIGHED})\n)+"
@@ -95,11 +93,11 @@ GROUPING = rf"(?:{NUMBER}\|{CODE}(?:\|{CODE})*\n)*"
 SEAT_RANGE = rf"(?:none|{NUMBER}\|{NUMBER})"
 BEST = rf"{HEAD}answer best\n{GROUPS}"
 IMPOSSIBLE = rf"{HEAD}answer impossible\n"
-# What a board has said when it ends, and what a desk has.
-SAID = rf"{TOLD_ROUND}(?:{TOLD_PIECE})*(?:{REPLY}(?:{TOLD_ROUND})?(?:{TOLD_PIECE})*)*"
+# What a worker has written when it ends.
 ANSWERED = (
-    rf"(?:result {NUMBER} {NUMBER}\n{TREE}|part {NUMBER} {NUMBER}\n{PART}|open\n|no such piece\n"
-    rf"|better {NUMBER} {NUMBER}\n(?:group {NUMBER} {CODES}\n)*|wider {NUMBER}\n)*"
+    rf"(?:(?:result {NUMBER} {NUMBER}\n{TREE}|part {NUMBER} {NUMBER}\n{PART}|open\n"
+    rf"|no such piece\n|better {NUMBER} {NUMBER}\n(?:group {NUMBER} {CODES}\n)*"
+    rf"|wider {NUMBER}\n)end\n)*"
 )
 # The texts of each command, each with the status that it ends with.
 TEXTS = {
@@ -143,15 +141,7 @@ TEXTS = {
         BUDGET,
         BOARD,
     ],
-    "board": [
-        (0, rf"{SAID}joined\n"),
-        (3, rf"{SAID}left {NUMBER}\n(?:open {NUMBER} {NUMBER}\n)*"),
-        (4, rf"{SAID}refused events {WORD_KIND} line {NUMBER}\n"),
-        (5, rf"{SAID}memory\n"),
-        BUDGET,
-        BOARD,
-    ],
-    "desk": [
+    "worker": [
         (0, ANSWERED),
         (4, rf"{ANSWERED}refused pieces {WORD_KIND} line {NUMBER}\n"),
         (5, rf"{ANSWERED}memory\n"),
@@ -525,7 +515,7 @@ INPUTS = [
 ]
 INPUT = "|".join(dict.fromkeys(file for file, _ in INPUTS))
 # The words of files whose option names a file to store, by the commands where it does.
-STORED = {"certificate": ("solve", "share", "board"), "events": ("solve",)}
+STORED = {"certificate": ("solve", "share"), "events": ("solve",)}
 ESCAPED, SUM = r"(?:[ -\[\]-~]|\\x[0-9A-F]{2})*", rf"{NUMBER} [0-9a-f]{{64}}"
 RECORD = (
     rf"countygroups record 1\nversion {ESCAPED}\n(?:word {ESCAPED}\n)*"
@@ -571,7 +561,7 @@ def read_lines(words: Words, files: Files, record: bytes) -> List[bytes]:
         if name is None or words[0] in STORED.get(file, ()):
             continue
         lines.append(read_line(file, name, held_by(words, files, option), record))
-    if words[0] in ("board", "desk"):
+    if words[0] == "worker":
         name = "/dev/stdin"
         lines.append(read_line("events", name, files.get(name, b""), record))
     return lines

@@ -21,7 +21,7 @@ A program gets it as a case on standard input, or as files in a folder. A find i
                 there, or one that was to be stored doesn't
     record      a record isn't that of the words, the files, the text and the status of its run
     checker     tools/check.py contradicts `check`, `list`, `judge` where it says best, or a
-                certificate that `solve`, `share` or `board` stored (if it answers within seconds)
+                certificate that `solve` or `share` stored (if it answers within seconds)
     programs    two programs answer otherwise
     pipes       the program answers otherwise, or stores other files, where the files that it reads
                 are pipes, which it can read once. Some runs that are given as files are asked so;
@@ -85,7 +85,7 @@ Answer = Tuple[bytes, Optional[int]]
 MOST_BYTES, QUICK_SECONDS = 40_000, 3
 # What these options have which commands store, in order of storing.
 STORING = {
-    "certificate": ("solve", "share", "board"),
+    "certificate": ("solve", "share"),
     "out": ("solve", "list"),
     "table": ("judge", "solve", "check"),
     "groupings": ("list",),
@@ -112,8 +112,7 @@ LIMITS: Dict[str, Tuple[str, ...]] = {
     "judge": ("--budget", "3000"),
     "list": ("--budget", "3000"),
     "share": ("--budget", "3000"),
-    "board": ("--budget", "3000"),
-    "desk": ("--steps", "300"),
+    "worker": ("--steps", "300"),
 }
 NUMBERS = (
     "0 1 2 3 127 128 129 255 256 257 999 1000 1001 65535 65536 65537 1000000 1000001 16777216"
@@ -796,12 +795,7 @@ def asked_of_second(run: Given, made: Made) -> Optional[Tuple[Words, Files]]:
     is_alone = [word for _, word in named_words(run.words)].count(certificate) == 1
     before = run.files.get(certificate)
     stored = made.files.get(certificate, before)
-    if (
-        command in ("solve", "share", "board")
-        and is_alone
-        and stored is not None
-        and stored != before
-    ):
+    if command in ("solve", "share") and is_alone and stored is not None and stored != before:
         return kept, {**run.files, certificate: stored}
     return None
 
@@ -831,7 +825,7 @@ def agrees(command: str, text: bytes, status: int, found: Answer) -> bool:
     is_best = b"answer best\n" in found[0]
     if command == "solve":
         return found == (text, status) if status in (0, 1) else False
-    if command in ("share", "board"):
+    if command == "share":
         return is_best
     if command == "judge":
         return is_best and head_of(found[0], b"group ") == head_of(text, b"group ")

@@ -14,14 +14,11 @@ from typing import Union
 from given_files import Forms, as_given
 from program_runs import EIO, EINTR, Followed, Refusal, files_below, fresh_folder, run
 
-# ---- events that `share` or `board` was refused memory for ----
+# ---- events that `share` was refused memory for ----
 
 EVENT = rb"(?:hand|result|part|split|better|wider) "
-# what `board` tells desks between its replies
-TOLD = rb"(?:round .*\n(?:group .*\n)*|open .*\n(?:(?:closed|least) .*\n)*end\n)"
-# whose answers are written while they run, and the file in a case that has the texts that they read
-AT_ONCE = ("board", "desk")
-STANDARD_INPUT = "/dev/stdin"
+# the command whose answers are written while it runs
+AT_ONCE = "worker"
 
 
 def events_in(text: bytes) -> List[bytes]:
@@ -53,43 +50,17 @@ def file_in_case(given: bytes, name: str) -> Optional[Tuple[int, int]]:
     return found
 
 
-def replies_of(wrote: bytes) -> List[bytes]:
-    """Returns what is told at the start, and then each line with what `board` tells behind it."""
-    head = re.match(TOLD + b"*", wrote)
-    start = head.end() if head else 0
-    lines = re.compile(rb".*\n" + TOLD + rb"*|.+")
-    return [wrote[:start], *lines.findall(wrote, start)]
-
-
 def refused_places(wrote: bytes, count: int) -> List[int]:
     """Returns which of the first `count` replies say that memory was refused, from 0."""
-    replies = replies_of(wrote)[1 : count + 1]
+    replies = wrote.splitlines(keepends=True)[:count]
     return [i for i, reply in enumerate(replies) if reply == b"memory\n"]
 
 
 def with_refusals(text: bytes, places: Iterable[int]) -> bytes:
     """Returns the text with a reply `memory` at each of these places."""
-    replies = replies_of(text)
+    replies = text.splitlines(keepends=True)
     for place in places:
-        replies.insert(place + 1, b"memory\n")
-    return b"".join(replies)
-
-
-def of_another_round(events: Sequence[bytes], places: Collection[int]) -> bytes:
-    """Returns the text of the events, those at these places of a round that no case has.
-
-    A board replies `old round` to them, and stays as it is.
-    """
-    named = re.compile(rb"^(result|part|split|better|wider) \d+")
-    other = rb"\g<1> 4294967295"
-    return b"".join(named.sub(other, it) if i in places else it for i, it in enumerate(events))
-
-
-def with_refused_replies(text: bytes, places: Iterable[int]) -> bytes:
-    """Returns the text with `memory` in place of the replies at these places."""
-    replies = replies_of(text)
-    for place in places:
-        replies[place + 1] = b"memory\n"
+        replies.insert(place, b"memory\n")
     return b"".join(replies)
 
 
@@ -239,14 +210,12 @@ class Sweep:
         return self.case.runs[upto] or in_case
 
     def events_of(self, upto: int) -> Tuple[Optional[str], List[bytes]]:
-        """Returns the name of the events file of a run of `share` or `board`, and its events.
+        """Returns the name of the events file of a run of `share`, and its events.
 
         Of any other run there is no name.
         """
         words = self.words_of(upto)
         name = named_by(words, "--events") if words[0] == "share" else None
-        if words[0] == "board" and not self.case.runs[upto]:
-            name = STANDARD_INPUT
         if name is None:
             return None, []
         return name, events_in(self.events_text(upto, name))
@@ -287,10 +256,9 @@ class Sweep:
         if name is None or not places:
             return None
         if (upto, places) not in self.shorter:
-            is_board = name == STANDARD_INPUT
-            text = (of_another_round if is_board else without_places)(events, places)
+            text = without_places(events, places)
             other, left = self.run_with_events(upto, name, text)
-            wrote = (with_refused_replies if is_board else with_refusals)(other.wrote, places)
+            wrote = with_refusals(other.wrote, places)
             whole, first = self.events_text(upto, name), wrote.partition(b"\n")[0]
             other.wrote = with_record_of(wrote, whole, first)
             left = {at: with_record_of(held, whole, first) for at, held in left.items()}
@@ -300,12 +268,12 @@ class Sweep:
     def is_memory(self, upto: int, plain: Followed, made: Followed) -> bool:
         """Returns whether a run answered that memory was refused.
 
-        `board` and `desk` may say so behind what they have answered until then.
+        `worker` may say so behind what it has answered until then.
         """
         if self.case.program:
             return made.status == 1 and made.told != b"" and plain.wrote.startswith(made.wrote)
         first, mark, rest = made.wrote.rpartition(b"memory\n")
-        is_at_once = self.words_of(upto)[0] in AT_ONCE
+        is_at_once = self.words_of(upto)[0] == AT_ONCE
         is_behind = is_at_once and plain.wrote.startswith(first) and first.endswith(b"\n")
         return mark != b"" and rest == b"" and made.status == 5 and (not first or is_behind)
 
@@ -473,16 +441,6 @@ def tests_of_refused_events(events: List[bytes]) -> Iterator[Test]:
     yield "no refused event", refused_places(b"accepted\njoined\nfile memory\nmemory\n", 1), []
     among = with_refusals(b"accepted\nleft 1\n", [1])
     yield "a refused event among others", among, b"accepted\nmemory\nleft 1\n"
-    first = b"round 1 3 1\ngroup 2 37001\nopen 1 1\nend\n"
-    split = b"split into 2 to 2\nopen 1 2\nleast 37001 2\nend\n"
-    left = b"left 1\nopen 1 2\n"
-    in_turn = [first, split, b"left 1\n", b"open 1 2\n"]
-    yield "replies with what is told behind them", replies_of(first + split + left), in_turn
-    yield "a refused event of a board", refused_places(first + split + b"memory\n" + left, 3), [1]
-    replaced = with_refused_replies(first + split + b"old round\n" + left, [1])
-    yield "a reply behind what is told", replaced, first + split + b"memory\n" + left
-    other = of_another_round([b"hand 1\n", b"wider 2\n", b"part 1 2\nopen\n"], [0, 2])
-    yield "events of another round", other, b"hand 1\nwider 2\npart 4294967295 2\nopen\n"
     yield "all events refused", with_refusals(b"left 1\n", [0, 1]), b"memory\nmemory\nleft 1\n"
     record = b"joined\nfile r\ncountygroups record 1\nread events 9 " + b"0" * 64
     record += b" e\nstatus 0\nanswer accepted\n"

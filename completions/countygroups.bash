@@ -13,7 +13,7 @@ _countygroups() {
         before=${COMP_WORDS[COMP_CWORD - 2]}
     fi
     if [ "$COMP_CWORD" -eq 1 ]; then
-        mapfile -t COMPREPLY < <(compgen -W "size judge solve check audit list share piece board desk -h --help -V --version" -- "$word")
+        mapfile -t COMPREPLY < <(compgen -W "size judge solve check audit list share piece worker -h --help -V --version" -- "$word")
         return
     fi
     case $command in
@@ -57,12 +57,7 @@ _countygroups() {
             with_file="--geo --segment --record --adjacency --links --withdrawn --grouping --events"
             with_value="--chamber --state --part --of --limit --depth --round --number --steps"
             ;;
-        board)
-            options="--geo --segment --chamber --state --part --of --record --adjacency --links --withdrawn --grouping --limit --depth --budget --certificate -h --help"
-            with_file="--geo --segment --record --adjacency --links --withdrawn --grouping --certificate"
-            with_value="--chamber --state --part --of --limit --depth --budget"
-            ;;
-        desk)
+        worker)
             options="--geo --segment --chamber --state --part --of --record --adjacency --links --withdrawn --steps -h --help"
             with_file="--geo --segment --record --adjacency --links --withdrawn"
             with_value="--chamber --state --part --of --steps"

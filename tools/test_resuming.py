@@ -6,8 +6,7 @@ usage: python3 tools/test_resuming.py [--program FILE]
 --program FILE: a build of the program; by default that of `dist/`.
 
 The steps of `solve` run out in North Carolina's Senate of 2020. What it stored is carried on by
-`board` and `piece`, by `share` and `piece`, and by a ring. Each of them comes to a certificate, by
-which `check` calls the grouping best.
+`share` and `piece`. They come to a certificate, by which `check` calls the grouping best.
 """
 from __future__ import annotations
 
@@ -20,7 +19,6 @@ import unittest
 from help_texts import TOP
 from tested_program import TESTED, run_tests
 
-SHARE = os.path.join(TOP, "tools", "share.sh")
 DATA = os.path.join(TOP, "data", "nc2020")
 PROBLEM = ["--geo", f"{DATA}/nc2020geo.pl", "--segment", f"{DATA}/nc000012020.pl"]
 PROBLEM += ["--adjacency", f"{DATA}/county_borders.txt", "--chamber", "50"]
@@ -29,10 +27,10 @@ STEPS, PIECE_STEPS, MOST_SECONDS = 50_000, 20_000, 120
 OPEN = re.compile(r"(?m)^open (\d+) (\d+)$")
 
 
-def run(words: list[str], given: str = "") -> subprocess.CompletedProcess[str]:
-    """Runs the program with `words`, and gives it this text as standard input."""
+def run(words: list[str]) -> subprocess.CompletedProcess[str]:
+    """Runs the program with `words`."""
     return subprocess.run(
-        [TESTED.program, *words], input=given, capture_output=True, text=True, timeout=MOST_SECONDS
+        [TESTED.program, *words], capture_output=True, text=True, timeout=MOST_SECONDS
     )
 
 
@@ -73,13 +71,10 @@ class Resuming(unittest.TestCase):
         with open(self.events, "a") as file:
             file.write("".join(texts))
 
-    def is_joined(self, is_share: bool) -> bool:
-        """Gives a board the events, has `piece` prove what is open, and returns if nothing is."""
-        words = [*PROBLEM, "--grouping", self.grouping, "--certificate", self.certificate]
-        if is_share:
-            done = run(["share", *words, "--events", self.events])
-        else:
-            done = run(["board", *words], self.read(self.events))
+    def is_joined(self) -> bool:
+        """Has `share` take the events and `piece` prove what is open; returns if nothing is."""
+        words = ["share", *PROBLEM, "--grouping", self.grouping, "--events", self.events]
+        done = run([*words, "--certificate", self.certificate])
         if done.returncode == 0:
             return True
         self.assertEqual(done.returncode, 3, done.stderr)
@@ -95,8 +90,8 @@ class Resuming(unittest.TestCase):
         counts = re.compile(r"(?m)^counts .*$")
         self.assertEqual(counts.findall(done.stdout), counts.findall(best.stdout))
 
-    def assert_goes_on(self, is_share: bool) -> None:
-        """Asserts that the proof goes on from the events of `solve` to a certificate."""
+    def test_share_and_piece_go_on(self) -> None:
+        """The proof goes on from the events of `solve` to a certificate."""
         done = self.solve(STEPS)
         self.assertEqual(done.returncode, 3)
         text = self.read(self.events)
@@ -104,36 +99,10 @@ class Resuming(unittest.TestCase):
         first = run(["share", *PROBLEM, "--grouping", self.grouping, "--events", self.events])
         self.assertRegex(first.stdout, r"^split into 2 to \d+\nleft ")
         for _ in range(100):
-            if self.is_joined(is_share):
+            if self.is_joined():
                 self.assert_best(self.certificate)
                 return
         self.fail("the proof isn't joined after a hundred turns")
-
-    def test_board_and_piece_go_on(self) -> None:
-        """A board that reads the events as they come joins the certificate."""
-        self.assert_goes_on(False)
-
-    def test_share_and_piece_go_on(self) -> None:
-        """`share` over the events of a file joins the certificate."""
-        self.assert_goes_on(True)
-
-    def test_a_ring_goes_on(self) -> None:
-        """The journal of a ring begins with the events."""
-        self.solve(STEPS)
-        text = self.read(self.events)
-        folder = self.path("work")
-        command = [SHARE, "--folder", folder, "--grouping", self.grouping]
-        command += ["--events", self.events, "--jobs", "2", "--", *PROBLEM]
-        done = subprocess.run(
-            command,
-            env={**os.environ, "COUNTYGROUPS": TESTED.program},
-            capture_output=True,
-            text=True,
-            timeout=MOST_SECONDS,
-        )
-        self.assertEqual(done.returncode, 0, done.stderr)
-        self.assertTrue(self.read(os.path.join(folder, "events")).startswith(text))
-        self.assert_best(os.path.join(folder, "certificate"))
 
     def test_nothing_is_proved_in_a_round_of_lesser_groups(self) -> None:
         """The events are an empty text if the last round isn't the one that proves it best."""

@@ -11,7 +11,7 @@ use Rattle.certificate_lines.specs.declared.fault.TextKind.{TextKind}
 use Rattle.certificate_lines.specs.declared.item.Item.{Item}
 use Rattle.certificate_lines.specs.declared.item.Wanted.{Wanted}
 use Rattle.certificate_lines.specs.declared.item.Wanted.TheVariants as want
-use Rattle.board_texts.proofs.WholeLines.{lines_few}
+use Rattle.worker_texts.proofs.WholeLines.{lines_few}
 use Rattle.board_report.specs.EventLines.{event_on}
 use Rattle.board_report.specs.EventSpelling.{wanted_by}
 use Rattle.board_report.specs.EventFaults.{fault_from}

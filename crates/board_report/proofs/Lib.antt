@@ -9,8 +9,6 @@ pub mod ReadOnly
 pub mod Written
 pub mod SomeEvents
 pub mod FaultKinds
-pub mod FrontOnly
-pub mod EventForms
 pub mod InTurn
 pub mod Ends
 pub mod FirstRounds

@@ -4,7 +4,6 @@ pub mod EventFaults
 pub mod LaterLines
 pub mod EventsWritten
 pub mod ReplyLines
-pub mod ComingEvents
 pub mod EventLaws
 pub mod Rounds
 pub mod Taking

@@ -84,7 +84,7 @@ fn certificate_lines(alloc: Global, certificate: &Certificate) -> Result<Vec<u8>
 /// # Errors
 ///
 /// Returns an error if memory was refused.
-pub fn ended<C: CountySet>(
+pub(crate) fn ended<C: CountySet>(
     alloc: Global,
     board: &Board<C>,
     text: Vec<u8>,

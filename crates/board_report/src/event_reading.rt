@@ -10,11 +10,10 @@ ghost use Rattle.board_laws.specs.Content.{Event as EventValue};
 ghost use Rattle.share_board.specs.Events.{event_of};
 ghost use Rattle.board_report.specs.EventLines.{event_on};
 ghost use Rattle.board_report.specs.EventSpelling.{wanted_by, text_of_event, HasSpelling, EventsAreSpelled};
-ghost use Rattle.board_report.specs.{ComingEvents.HasEvent, LaterLines.StandsBehind, EventFaults.{fault_from, events_fault}};
+ghost use Rattle.board_report.specs.{LaterLines.StandsBehind, EventFaults.{fault_from, events_fault}};
 
 use crate::event_line::EventLine;
 use crate::first_lines::event_on;
-use board_texts::{lines_in, moved};
 use certificate_data::Format;
 use certificate_lines::{Cursor, TextFault, push_on};
 use certificate_text::{front_tree, groups_at};
@@ -22,6 +21,7 @@ use county_codes::{Group, Grouping};
 use partial_text::front_part;
 use share_board::Event;
 use std::alloc::Global;
+use worker_texts::{lines_in, moved};
 
 /// Reads the first line of an event at `cursor`. A fault is returned with the number of the line.
 fn first_line(cursor: &mut Cursor) -> Result<EventLine, TextFault>
@@ -91,7 +91,7 @@ fn event_behind(
 ///
 /// Returns the first fault of the text, with its line. If memory was refused, it returns `Memory` in place of any
 /// answer.
-pub fn front_event(
+fn front_event(
     alloc: Global,
     text: &[u8],
     format: Format,
@@ -102,8 +102,6 @@ pub fn front_event(
     ensures place { IfOk result (λ r. (0 < r.1) × (r.1 ≤ length text.now)) }
     ensures found { IfOk result (λ r. take r.1 text.now ≡ text_of_event (event_of r.0)) }
     ensures spelled { IfOk result (λ r. HasSpelling format counties (event_of r.0)) }
-    // An event at the front is read, unless memory is refused.
-    ensures only { IfErr result (λ f. HasEvent format counties text.now → IsTextMemory f) }
     ensures fault { IfErr result (λ f. (IsTextMemory f → ⊥) → events_fault format counties text.now ≡ Some f) }
 {
     let mut cursor = Cursor::new(text);

@@ -6,16 +6,14 @@
 //!
 //! ```
 //! let events = read_events(alloc, text, Format::Wide, 100)?;
-//! let next = reader.next_event(alloc, &mut source, Format::Wide, 100)?;
 //! let text = write_event(alloc, &event, Format::Wide, 100)?;
 //! let shared = share(alloc, &problem, &grouping, shape, events, 10_000_000)?;   // accepted, left 2, ..
 //! let answer = prove_waiting(alloc, &problem, &grouping, shape, events, 3, 100_000)?;
 //! ```
 //!
-//! The definitions stand in `specs/`. Of texts: `EventSpelling`, `EventLines`, `EventFaults`, `ComingEvents` (events
-//! that come from a source), `ReplyLines` and `EventLaws`. Of boards: `Rounds` (the first round of such a board),
-//! `Taking` (events in turn), `BoardOutcome`, `PieceAnswers`, `PieceText` and `Resuming` (what is said). A board's
-//! order is that of ascending codes.
+//! The definitions stand in `specs/`. Of texts: `EventSpelling`, `EventLines`, `EventFaults`, `ReplyLines` and
+//! `EventLaws`. Of boards: `Rounds` (the first round of such a board), `Taking` (events in turn), `BoardOutcome`,
+//! `PieceAnswers`, `PieceText` and `Resuming` (what is said). A board's order is that of ascending codes.
 #![tactic(auto)]
 
 mod answer_text;
@@ -23,7 +21,6 @@ mod board_outcome;
 mod ending;
 mod event_laws;
 mod event_line;
-mod event_reader;
 mod event_reading;
 mod event_writing;
 mod first_lines;
@@ -38,15 +35,12 @@ mod word_numbers;
 
 pub use answer_text::piece_text;
 pub use board_outcome::Shared;
-pub use ending::ended;
 pub use event_laws::events_have_texts;
 pub use event_line::EventLine;
-pub use event_reader::EventReader;
-pub use event_reading::{front_event, read_events};
+pub use event_reading::read_events;
 pub use event_writing::write_event;
-pub use opening::{opened_board, ordered_by_code};
-pub use proving::{prove_waiting, waiting_state};
-pub use reply_lines::push_reply;
+pub use opening::ordered_by_code;
+pub use proving::prove_waiting;
 pub use resuming::resuming_text;
 pub use shape::BoardShape;
 pub use sharing::share;

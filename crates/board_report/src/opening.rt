@@ -35,7 +35,7 @@ pub fn ordered_by_code<'a>(alloc: Global, problem: &'a Problem) -> Result<Ordere
 /// # Errors
 ///
 /// Returns the first fault that applies if there is no board. Returns `Memory` if memory was refused.
-pub fn opened_board<C: CountySet>(
+pub(crate) fn opened_board<C: CountySet>(
     alloc: Global,
     problem: &Problem,
     target: &Grouping,

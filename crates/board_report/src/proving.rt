@@ -31,7 +31,7 @@ const PIECE_BUDGET: u64 = 10_000_000;
 /// # Errors
 ///
 /// Returns an error if memory was refused.
-pub fn waiting_state<C: CountySet>(
+pub(crate) fn waiting_state<C: CountySet>(
     alloc: Global,
     board: &Board<C>,
     number: u32,

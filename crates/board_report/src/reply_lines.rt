@@ -32,7 +32,7 @@ fn push_pieces(out: &mut Vec<u8>, first: u32, many: u32) -> Result<(), AllocErro
 /// # Errors
 ///
 /// Returns an error if memory was refused.
-pub fn push_reply<C>(out: &mut Vec<u8>, reply: &Reply<C>) -> Result<(), AllocError>
+pub(crate) fn push_reply<C>(out: &mut Vec<u8>, reply: &Reply<C>) -> Result<(), AllocError>
     ensures { (order : List ℕ) (test : C → ℕ → Bool)
         → OnOk result (out.new.items ≡ out.old.items ++ reply_line (reply_of order test reply.now)) }
 {

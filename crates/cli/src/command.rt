@@ -10,15 +10,14 @@ ghost use Rattle.run_laws.specs.{Run.{CommandRun, IsEndAnswer, IsRunAnswer, HasS
 ghost use Rattle.cli.specs.{Delivery.{Delivers, texts}, Ends.said_of};
 
 use crate::commands::audit::audit;
-use crate::commands::board::board;
 use crate::commands::check::check;
-use crate::commands::desk::desk;
 use crate::commands::judge::judge;
 use crate::commands::list::list;
 use crate::commands::piece::piece;
 use crate::commands::share::share;
 use crate::commands::size::size;
 use crate::commands::solve::solve;
+use crate::commands::worker::worker;
 use crate::ended_run::EndedRun;
 use crate::notes::Notes;
 use crate::recording::answer_as_asked;
@@ -29,8 +28,8 @@ use cli_words::{CommandWords, WordsEnd, parse};
 use std::alloc::{AllocError, Global};
 use written_output::Written;
 
-/// Runs `command`. Returns its answer, or the refusal with which it ends before that. What `board` and `desk` have to
-/// say before it is written to `out` at once.
+/// Runs `command`. Returns its answer, or the refusal with which it ends before that. What `worker` has to say before
+/// it is written to `out` at once.
 fn command_end<H: FileStore, W: Sink, V: Watcher>(
     alloc: Global,
     command: CommandWords<'_>,
@@ -55,13 +54,12 @@ fn command_end<H: FileStore, W: Sink, V: Watcher>(
         CommandWords::List(words) => list(alloc, words, file_store, notes),
         CommandWords::Share(words) => share(alloc, words, file_store, notes),
         CommandWords::Piece(words) => piece(alloc, words, file_store, notes),
-        CommandWords::Board(words) => board(alloc, words, file_store, out, written, notes),
-        CommandWords::Desk(words) => desk(alloc, words, file_store, out, written, notes),
+        CommandWords::Worker(words) => worker(alloc, words, file_store, out, written, notes),
     }
 }
 
-/// Runs `command` and returns its answer. Returns `AllocError` if memory was refused. What `board` and `desk` have to
-/// say before it is written to `out` at once.
+/// Runs `command` and returns its answer. Returns `AllocError` if memory was refused. What `worker` has to say before
+/// it is written to `out` at once.
 pub(crate) fn command_answer<H: FileStore, W: Sink, V: Watcher>(
     alloc: Global,
     command: CommandWords<'_>,
@@ -110,8 +108,8 @@ fn words_end_answer(alloc: Global, words_end: WordsEnd) -> Result<RunAnswer, All
     })
 }
 
-/// Parses `words`, runs their command and returns the answer. Returns `AllocError` if memory was refused. What `board`
-/// and `desk` have to say before it is written to `out` at once.
+/// Parses `words`, runs their command and returns the answer. Returns `AllocError` if memory was refused. What `worker`
+/// has to say before it is written to `out` at once.
 pub(crate) fn words_answer<H: FileStore, W: Sink, V: Watcher>(
     alloc: Global,
     words: &[&str],

@@ -201,7 +201,7 @@ fn answer_with_record<H: FileStore, W: Sink, V: Watcher>(
 }
 
 /// Runs `command` and returns its answer. The record of the run is stored if the words name a file for it and the
-/// answer's status asks for it. What `board` and `desk` have to say before it is written to `out` at once.
+/// answer's status asks for it. What `worker` has to say before it is written to `out` at once.
 pub(crate) fn answer_as_asked<H: FileStore, W: Sink, V: Watcher>(
     alloc: Global,
     words: &[&str],

@@ -29,7 +29,7 @@ pub enum FileOption {
     Assignments,
     /// The events of a board.
     Events,
-    /// Standard input: the events of a board that goes on, or what a board tells a desk.
+    /// Standard input: the rounds and the open pieces that `worker` reads.
     Input,
     /// The certificate that is stored.
     CertificateOut,

@@ -2,7 +2,6 @@
 
 use crate::options::Options;
 use cli_answers::FileOption;
-use cli_words::CommandWords;
 use share_board::BoardFault;
 use std::alloc::AllocError;
 use std::fmt::Write;
@@ -61,30 +60,16 @@ pub(crate) fn explain_board(
     }
 }
 
-/// Returns what to do about pieces that wait, by the command of `options`. For `board` this is to run it again with
-/// more events. For any other command it is to append to the events and to run `share` again.
-fn way_on(options: Options<'_>) -> &'static str {
-    match options.command {
-        Some(CommandWords::Board(_)) => {
-            "run `countygroups board` again with the events that it took, and behind them what `countygroups desk` prints of each"
-        }
-        _ => {
-            "append to --events what `countygroups piece` prints of each, and run `countygroups share` again"
-        }
-    }
-}
-
 /// Explains that `left` pieces of the board wait.
 ///
 /// # Errors
 ///
 /// Returns `AllocError` if memory was refused.
-pub(crate) fn explain_left(
-    out: &mut String,
-    options: Options<'_>,
-    left: usize,
-) -> Result<(), AllocError> {
-    writeln!(out, "countygroups: {left} pieces wait: {}", way_on(options))
+pub(crate) fn explain_left(out: &mut String, left: usize) -> Result<(), AllocError> {
+    writeln!(
+        out,
+        "countygroups: {left} pieces wait: append to --events what `countygroups piece` prints of each, and run `countygroups share` again"
+    )
 }
 
 /// Explains that the steps of a piece ran out. `is_part` tells whether a part of its proof is printed.

@@ -169,7 +169,7 @@ fn explain_outcome(
         RunOutcome::NoSuchGrouping(count) => explain_number(out, *count),
         RunOutcome::Unlisted(count) => explain_unlisted(out, options, *count),
         RunOutcome::Board(fault) => explain_board(out, options, fault),
-        RunOutcome::PiecesLeft(left) => explain_left(out, options, *left),
+        RunOutcome::PiecesLeft(left) => explain_left(out, *left),
         RunOutcome::PieceOpen(is_part) => explain_open_piece(out, *is_part),
         RunOutcome::NoSuchPiece => explain_no_piece(out),
         outcome => match &ended.run.subject {

@@ -36,8 +36,7 @@ fn problem_of<'a>(command: CommandWords<'a>) -> Option<ProblemWords<'a>> {
         CommandWords::List(words) => Some(words.check.problem),
         CommandWords::Share(words) => Some(words.board.problem),
         CommandWords::Piece(words) => Some(words.board.problem),
-        CommandWords::Board(words) => Some(words.board.problem),
-        CommandWords::Desk(words) => Some(words.problem),
+        CommandWords::Worker(words) => Some(words.problem),
     }
 }
 
@@ -52,8 +51,7 @@ pub(crate) fn common_of<'a>(command: CommandWords<'a>) -> CommonWords<'a> {
         CommandWords::List(words) => words.check.problem.common,
         CommandWords::Share(words) => words.board.problem.common,
         CommandWords::Piece(words) => words.board.problem.common,
-        CommandWords::Board(words) => words.board.problem.common,
-        CommandWords::Desk(words) => words.problem.common,
+        CommandWords::Worker(words) => words.problem.common,
     }
 }
 
@@ -87,9 +85,7 @@ pub(crate) fn path_in<'a>(command: CommandWords<'a>, option: FileOption) -> Opti
         (CommandWords::Share(words), FileOption::CertificateOut) => words.certificate,
         (CommandWords::Piece(words), FileOption::Grouping) => Some(words.board.grouping),
         (CommandWords::Piece(words), FileOption::Events) => words.events,
-        (CommandWords::Board(words), FileOption::Grouping) => Some(words.board.grouping),
-        (CommandWords::Board(words), FileOption::CertificateOut) => words.certificate,
-        (CommandWords::Board(_) | CommandWords::Desk(_), FileOption::Input) => Some(STANDARD_INPUT),
+        (CommandWords::Worker(_), FileOption::Input) => Some(STANDARD_INPUT),
         _ => None,
     }
 }

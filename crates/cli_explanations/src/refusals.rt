@@ -41,7 +41,7 @@ fn remedy(option: FileOption) -> &'static str {
             "give --events what `countygroups piece` prints: each event begins with a line of hand, result, split, part, better or wider"
         }
         FileOption::Input => {
-            "`countygroups board` reads what `countygroups desk` prints, and a desk reads what a board prints"
+            "`countygroups worker` reads rounds and open pieces: each begins with a line of round or open"
         }
         _ =>
             "a line of --grouping is seats and the codes of the group's counties, as 2|37063|37183",

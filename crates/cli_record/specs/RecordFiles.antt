@@ -11,7 +11,7 @@ use Rattle.cli_words.specs.declared.words.BoardWords.{BoardWords}
 use Rattle.cli_words.specs.declared.words.StoredWords.{StoredWords}
 use Rattle.cli_words.specs.declared.words.CommandWords.{CommandWords}
 use Rattle.cli_words.specs.declared.words.CommandWords.TheVariants.{Size, Judge, Solve, Check, Audit, List as ListAll}
-use Rattle.cli_words.specs.declared.words.CommandWords.TheVariants.{Share, Piece, Board, Desk}
+use Rattle.cli_words.specs.declared.words.CommandWords.TheVariants.{Share, Piece, Worker}
 use Rattle.cli_words.specs.Words.{standard_input}
 use Rattle.cli_record.specs.declared.run.ReadFile.{ReadFile}
 use Rattle.cli_record.specs.declared.run.ReadFile.TheVariants as files
@@ -71,8 +71,7 @@ files_to_read (ListAll w) =
     ++ (if_named files.Grouping w.which ++ file_named files.Certificate w.check.certificate.now ∷ [])
 files_to_read (Share w) = board_and_events w.board w.events.now
 files_to_read (Piece w) = board_files w.board ++ if_named files.Events w.events
-files_to_read (Board w) = board_and_events w.board standard_input
-files_to_read (Desk w) = problem_and w.problem files.Events standard_input
+files_to_read (Worker w) = problem_and w.problem files.Events standard_input
 
 -- whether an event went so
 abbrev pub went : EventKind → EventKind → Bool
@@ -136,7 +135,6 @@ options_to_store (Audit w) status = if_answered status (if_given options.Distric
 options_to_store (ListAll w) status =
     if_answered status (if_listed w.stored ++ if_given options.Groupings w.groupings)
 options_to_store (Share w) status = at_status 0 status (if_given options.Certificate w.certificate)
-options_to_store (Board w) status = at_status 0 status (if_given options.Certificate w.certificate)
 options_to_store command status = []
 
 -- a line of a file that was stored
@@ -168,8 +166,7 @@ record_file_of (Audit w) = w.problem.common.record_file
 record_file_of (ListAll w) = w.check.problem.common.record_file
 record_file_of (Share w) = w.board.problem.common.record_file
 record_file_of (Piece w) = w.board.problem.common.record_file
-record_file_of (Board w) = w.board.problem.common.record_file
-record_file_of (Desk w) = w.problem.common.record_file
+record_file_of (Worker w) = w.problem.common.record_file
 
 -- the name of the file that the words give for the record of the run
 abbrev pub record_name_of : CommandWords → Option (List ℕ)

@@ -268,10 +268,7 @@ fn push_files(
             push_board_and_events(reads, sums, &words.board, words.events)
         }
         CommandWords::Piece(words) => push_piece(reads, sums, words),
-        CommandWords::Board(words) => {
-            push_board_and_events(reads, sums, &words.board, STANDARD_INPUT)
-        }
-        CommandWords::Desk(words) => {
+        CommandWords::Worker(words) => {
             let (file, name) = (ReadFile::Events, STANDARD_INPUT);
             push_problem_and(reads, sums, &words.problem, file, name)
         }

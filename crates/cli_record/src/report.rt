@@ -26,8 +26,7 @@ pub fn record_file<'a>(command: &CommandWords<'a>) -> Option<&'a str>
         CommandWords::List(words) => words.check.problem.common.record_file,
         CommandWords::Share(words) => words.board.problem.common.record_file,
         CommandWords::Piece(words) => words.board.problem.common.record_file,
-        CommandWords::Board(words) => words.board.problem.common.record_file,
-        CommandWords::Desk(words) => words.problem.common.record_file,
+        CommandWords::Worker(words) => words.problem.common.record_file,
     }
 }
 

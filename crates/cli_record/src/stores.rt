@@ -128,10 +128,7 @@ fn push_options(
         CommandWords::Share(words) => {
             push_at_0(options, StoreOption::Certificate, words.certificate, status)
         }
-        CommandWords::Board(words) => {
-            push_at_0(options, StoreOption::Certificate, words.certificate, status)
-        }
-        CommandWords::Size(_) | CommandWords::Piece(_) | CommandWords::Desk(_) => Ok(()),
+        CommandWords::Size(_) | CommandWords::Piece(_) | CommandWords::Worker(_) => Ok(()),
     }
 }
 

@@ -13,7 +13,7 @@ use Rattle.clap.proofs.FaultLemmas.{fails_as}
 use Rattle.clap.specs.Walk.{Text, nothing_held}
 use Rattle.clap.specs.Simple.{Shape, built, filled, help_rule, is_simple, rows_at, subcommand_of}
 use Rattle.clap.specs.Faults.{fault_of, is_simple_and_free, level_fault}
-use Rattle.cli_words.specs.Command.{audit_options, check_options, common_options, countygroups, desk_options, judge_options, list_options, piece_options, serve_options, share_options, solve_options}
+use Rattle.cli_words.specs.Command.{audit_options, check_options, common_options, countygroups, worker_options, judge_options, list_options, piece_options, share_options, solve_options}
 use Rattle.cli_words.specs.Options.{HasCommand}
 use Rattle.cli_words.specs.Words.{EndsAs, EndsBy, faults_of, subcommand_in, takes_words}
 use Rattle.cli_words.specs.declared.end.WordsEnd.{WordsEnd}
@@ -56,10 +56,7 @@ each_has_command = (
               λ rest e. level_values _ rest share_options (filled help_rule ∷ []) e refl refl,
               (
                 λ rest e. level_values _ rest piece_options (filled help_rule ∷ []) e refl refl,
-                (
-                  λ rest e. level_values _ rest serve_options (filled help_rule ∷ []) e refl refl,
-                  (λ rest e. level_values _ rest desk_options (filled help_rule ∷ []) e refl refl, tt),
-                ),
+                (λ rest e. level_values _ rest worker_options (filled help_rule ∷ []) e refl refl, tt),
               ),
             ),
           ),

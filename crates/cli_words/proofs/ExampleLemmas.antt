@@ -130,28 +130,16 @@ too_deep : faults_of (shared ++ codes "--events=e" ∷ codes "--depth=256" ∷ [
 unfolding clap_on_literals countygroups faults_of
 too_deep = refl
 
--- `board` takes the words of `share` but for its events
-abbrev served : List Text
-served = codes "board" ∷ codes "--geo=a" ∷ codes "--segment=b" ∷ codes "--chamber=50" ∷ codes "--adjacency=c" ∷ codes "--grouping=d" ∷ []
-
-board_alone : faults_of served ≡ []
-unfolding clap_on_literals countygroups faults_of
-board_alone = refl
-
-board_with_events : faults_of (served ++ codes "--events=e" ∷ []) ≡ kind.UnknownArgument ∷ []
-unfolding clap_on_literals countygroups faults_of
-board_with_events = refl
-
--- `desk` with the steps that it has where none are given, and with a grouping
-desk_steps : option_map (λ p. first_of (codes "steps") p.1) (subcommand_in (codes "desk" ∷ codes "--geo=a" ∷ codes "--segment=b" ∷ codes "--chamber=50" ∷ codes "--adjacency=c" ∷ []))
+-- `worker` with the steps that it has where none are given, and with a grouping
+worker_steps : option_map (λ p. first_of (codes "steps") p.1) (subcommand_in (codes "worker" ∷ codes "--geo=a" ∷ codes "--segment=b" ∷ codes "--chamber=50" ∷ codes "--adjacency=c" ∷ []))
     ≡ Some (Some (codes "10000000"))
 unfolding clap_on_literals countygroups subcommand_in
-desk_steps = refl
+worker_steps = refl
 
-desk_with_grouping : faults_of (codes "desk" ∷ codes "--geo=a" ∷ codes "--segment=b" ∷ codes "--chamber=50" ∷ codes "--adjacency=c" ∷ codes "--grouping=d" ∷ [])
+worker_with_grouping : faults_of (codes "worker" ∷ codes "--geo=a" ∷ codes "--segment=b" ∷ codes "--chamber=50" ∷ codes "--adjacency=c" ∷ codes "--grouping=d" ∷ [])
     ≡ kind.UnknownArgument ∷ []
 unfolding clap_on_literals countygroups faults_of
-desk_with_grouping = refl
+worker_with_grouping = refl
 
 -- `piece` without the number of the piece
 no_number : faults_of (codes "piece" ∷ codes "--geo=a" ∷ codes "--segment=b" ∷ codes "--chamber=50" ∷ codes "--adjacency=c" ∷ codes "--grouping=d" ∷ codes "--round=1" ∷ [])

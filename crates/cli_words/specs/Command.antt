@@ -132,13 +132,9 @@ piece_options =
     board_options ++ text_option (codes "events") ∷ required (number_option (codes "round"))
     ∷ required (number_option (codes "number")) ∷ of_steps (text_option (codes "steps")) ∷ []
 
--- the options of `board`: those of `share`, but for the file of the events
-abbrev pub serve_options : List Rule
-serve_options = board_options ++ of_steps (text_option (codes "budget")) ∷ text_option (codes "certificate") ∷ []
-
--- the options of `desk`: those that give a problem, and the most steps of the search of a piece
-abbrev pub desk_options : List Rule
-desk_options = problem_options ++ of_steps (text_option (codes "steps")) ∷ []
+-- the options of `worker`: those that give a problem, and the most steps of the search of a piece
+abbrev pub worker_options : List Rule
+worker_options = problem_options ++ of_steps (text_option (codes "steps")) ∷ []
 
 -- a subcommand with these options
 abbrev pub subcommand : Text → List Rule → Shape
@@ -150,7 +146,7 @@ subcommands = subcommand (codes "size") common_options ∷ subcommand (codes "ju
     ∷ subcommand (codes "solve") solve_options ∷ subcommand (codes "check") check_options
     ∷ subcommand (codes "audit") audit_options ∷ subcommand (codes "list") list_options
     ∷ subcommand (codes "share") share_options ∷ subcommand (codes "piece") piece_options
-    ∷ subcommand (codes "board") serve_options ∷ subcommand (codes "desk") desk_options ∷ []
+    ∷ subcommand (codes "worker") worker_options ∷ []
 
 -- the program without its subcommands: it has no option of its own but help and the version, and requires a subcommand
 abbrev pub countygroups_alone : App

@@ -10,21 +10,20 @@ use Rattle.clap.specs.declared.error.kind.ErrorKind.TheVariants.{DisplayHelp, Di
 use Rattle.cli_words.specs.Command.{countygroups}
 use Rattle.cli_words.specs.Options.{Spells}
 use Rattle.cli_words.specs.declared.words.CommandWords.{CommandWords}
-use Rattle.cli_words.specs.declared.words.CommandWords.TheVariants.{Audit, Board, Check, Desk, Judge}
+use Rattle.cli_words.specs.declared.words.CommandWords.TheVariants.{Audit, Check, Worker, Judge}
 use Rattle.cli_words.specs.declared.words.CommandWords.TheVariants.{List as ListCommand, Piece, Share, Size, Solve}
 use Rattle.cli_words.specs.declared.words.AuditWords.{AuditWords}
 use Rattle.cli_words.specs.declared.words.BoardWords.{BoardWords}
 use Rattle.cli_words.specs.declared.words.CertificateWords.{CertificateWords}
 use Rattle.cli_words.specs.declared.words.CheckWords.{CheckWords}
 use Rattle.cli_words.specs.declared.words.CommonWords.{CommonWords}
-use Rattle.cli_words.specs.declared.words.DeskWords.{DeskWords}
+use Rattle.cli_words.specs.declared.words.WorkerWords.{WorkerWords}
 use Rattle.cli_words.specs.declared.words.JudgeWords.{JudgeWords}
 use Rattle.cli_words.specs.declared.words.ListWords.{ListWords}
 use Rattle.cli_words.specs.declared.words.PieceWords.{PieceWords}
 use Rattle.cli_words.specs.declared.words.ProblemWords.{ProblemWords}
 use Rattle.cli_words.specs.declared.words.RoundWords.{RoundWords}
 use Rattle.cli_words.specs.declared.words.RoundWords.TheVariants.{Plain, Wide}
-use Rattle.cli_words.specs.declared.words.ServeWords.{ServeWords}
 use Rattle.cli_words.specs.declared.words.ShareWords.{ShareWords}
 use Rattle.cli_words.specs.declared.words.SolveWords.{SolveWords}
 use Rattle.cli_words.specs.declared.words.StoredWords.{StoredWords}
@@ -33,7 +32,7 @@ use Rattle.cli_words.specs.declared.end.OptionsFault.TheVariants.{Depth, NumberO
 use Rattle.cli_words.specs.declared.end.WordsEnd.{WordsEnd}
 use Rattle.cli_words.specs.declared.end.WordsEnd.TheVariants.{Help, Version, Usage, Memory}
 
--- the name of the file that `board` and `desk` read as it comes: standard input
+-- the name of the file that `worker` reads as it comes: standard input
 abbrev pub standard_input : Text
 standard_input = codes "/dev/stdin"
 
@@ -184,16 +183,8 @@ pub record SaysPiece (rows : List Row) (words : PieceWords) : Type 0 where
   pub steps : GivesNumber (codes "steps") rows words.steps
   pub default : is_given (codes "steps") rows ≡ false → words.steps ≡ 10000000
 
--- the values of the options of `board` say which board is meant, how many steps a test may take, and the file that the
--- certificate is written to
-pub record SaysServe (rows : List Row) (words : ServeWords) : Type 0 where
-  pub board : SaysBoard rows words.board
-  pub budget : GivesNumber (codes "budget") rows words.budget
-  pub default : is_given (codes "budget") rows ≡ false → words.budget ≡ 10000000
-  pub certificate : GivesText (codes "certificate") rows words.certificate
-
--- the values of the options of `desk` say which problem is meant, and how many steps the search of a piece may take
-pub record SaysDesk (rows : List Row) (words : DeskWords) : Type 0 where
+-- the values of the options of `worker` say which problem is meant, and how many steps the search of a piece may take
+pub record SaysWorker (rows : List Row) (words : WorkerWords) : Type 0 where
   pub problem : SaysProblem rows words.problem
   pub steps : GivesNumber (codes "steps") rows words.steps
   pub default : is_given (codes "steps") rows ≡ false → words.steps ≡ 10000000
@@ -208,8 +199,7 @@ SaysCommand p (Audit words) = (p.0 ≡ codes "audit") × SaysAudit p.1 words
 SaysCommand p (ListCommand words) = (p.0 ≡ codes "list") × SaysList p.1 words
 SaysCommand p (Share words) = (p.0 ≡ codes "share") × SaysShare p.1 words
 SaysCommand p (Piece words) = (p.0 ≡ codes "piece") × SaysPiece p.1 words
-SaysCommand p (Board words) = (p.0 ≡ codes "board") × SaysServe p.1 words
-SaysCommand p (Desk words) = (p.0 ≡ codes "desk") × SaysDesk p.1 words
+SaysCommand p (Worker words) = (p.0 ≡ codes "worker") × SaysWorker p.1 words
 
 -- the words give the number of a grouping without a file, or a file without a number
 abbrev pub AreUnpaired : List Row → Type 0
@@ -226,12 +216,12 @@ abbrev pub LacksLimit : List Row → Type 0
 LacksLimit rows = (is_given (codes "depth") rows ≡ true) × (is_given (codes "limit") rows ≡ false)
 
 -- which options don't go together: one of `--number` and `--out` alone at `list`, `--which` beside both, or `--depth`
--- without `--limit` at `share`, `piece` or `board`
+-- without `--limit` at `share` or `piece`
 abbrev pub IsOptionsFault : Text × List Row → OptionsFault → Type 0
 IsOptionsFault p NumberOrOut = (p.0 ≡ codes "list") × AreUnpaired p.1
 IsOptionsFault p WhichAndStored = (p.0 ≡ codes "list") × AskAndStore p.1
 IsOptionsFault p Depth =
-    ((p.0 ≡ codes "share") ⊎ (p.0 ≡ codes "piece") ⊎ (p.0 ≡ codes "board")) × LacksLimit p.1
+    ((p.0 ≡ codes "share") ⊎ (p.0 ≡ codes "piece")) × LacksLimit p.1
 
 -- some options of a subcommand don't go together
 abbrev pub HasOptionsFault : Text × List Row → Type 0

@@ -1,7 +1,7 @@
 //! The command `countygroups`, as `clap` parses it.
 ghost use Rattle.std.specs.Prelude.{◌≡◌, IfOk, codes, false};
 ghost use Rattle.clap.specs.Words.{app_of, rule_of};
-ghost use Rattle.cli_words.specs.Command.{AddsCommand, AddsOption, HasMore, HasShape, audit_options, board_options, certificate_options, chamber_option, check_options, common_options, countygroups, countygroups_alone, depth_option, desk_options, judge_options, limit_option, list_options, number_option, of_steps, part_option, piece_options, problem_options, required, serve_options, share_options, solve_options, state_option, subcommand, text_option, whole_option};
+ghost use Rattle.cli_words.specs.Command.{AddsCommand, AddsOption, HasMore, HasShape, audit_options, board_options, certificate_options, chamber_option, check_options, common_options, countygroups, countygroups_alone, depth_option, worker_options, judge_options, limit_option, list_options, number_option, of_steps, part_option, piece_options, problem_options, required, share_options, solve_options, state_option, subcommand, text_option, whole_option};
 
 use crate::version::VERSION;
 use clap::{Arg, ArgAction, Command, value_parser};
@@ -20,10 +20,10 @@ Exit status:
   0  an answer, help or the version
   1  a fault of the grouping, a finding, no lawful grouping, or a text that is no certificate
   2  the words are no command
-  3  the steps of `solve` or `piece` or the budget of `check`, `list`, `share` or `board` ran out,
-     `list` stays open, or `share` or `board` has pieces left
-  4  a file, the problem, the board, an event of `board`, a text that `desk` reads, or the number of
-     a grouping or of a piece was refused
+  3  the steps of `solve` or `piece` or the budget of `check`, `list` or `share` ran out, `list`
+     stays open, or `share` has pieces left
+  4  a file, the problem, the board, a text that `worker` reads, or the number of a grouping or of a
+     piece was refused
   5  a file could not be read or stored, memory was refused, or the answer could not be written
 
 With --record FILE a run with status 0, 1 or 3 stores its record, the last of its files: the words,
@@ -65,7 +65,7 @@ Exit status:
 /// What `solve --help` ends with.
 const AFTER_SOLVE: &str = "\
 If the steps run out, --events stores what was proved by then, as events. The proof goes on from
-there on a board of the grouping of --out that `share`, `piece` or `board` gives these events.
+there on a board of the grouping of --out to which `share` or `piece` gives these events.
 
 Example:
   countygroups solve --geo nc2020geo.pl --segment nc000012020.pl --chamber 50 \\
@@ -174,33 +174,14 @@ Exit status:
   4  a file, the problem or the board was refused, or no piece waits under the number
   5  a file could not be read or stored, memory was refused, or the answer could not be written";
 
-/// What `board --help` ends with.
-const AFTER_BOARD: &str = "\
-A board as that of `share` reads events from /dev/stdin as they come, and writes each reply at once.
-In between it tells desks what is to be proved: `round` with the target at its start and at each new
-round, and `open` with the state of each piece that is opened. It ends when no piece is left, or when
-the events end.
+/// What `worker --help` ends with.
+const AFTER_WORKER: &str = "\
+It reads texts from /dev/stdin: `round` with its target, and `open` with the state of a piece. For
+each piece it prints what `piece` prints and a line `end`, at once. It keeps its lists of groups from
+piece to piece. The pieces are those of wide rounds.
 
 Example:
-  countygroups board --geo nc2020geo.pl --segment nc000012020.pl --chamber 50 \\
-      --adjacency county_adjacency2023.txt --grouping senate.grouping \\
-      --certificate senate.certificate
-
-Exit status:
-  0  the proofs are joined; if --certificate names a file, the certificate is stored
-  2  the words are no command
-  3  pieces are left, or the budget is too small to open the board
-  4  a file, the problem, the board or an event was refused
-  5  a file could not be read or stored, memory was refused, or the answer could not be written";
-
-/// What `desk --help` ends with.
-const AFTER_DESK: &str = "\
-It reads the texts that `board` writes from /dev/stdin: `round` with its target, and `open` with the
-state of a piece. For each piece it prints what `piece` prints, at once. It keeps its lists of groups
-from piece to piece. The pieces are those of wide rounds.
-
-Example:
-  countygroups desk --geo nc2020geo.pl --segment nc000012020.pl --chamber 50 \\
+  countygroups worker --geo nc2020geo.pl --segment nc000012020.pl --chamber 50 \\
       --adjacency county_adjacency2023.txt
 
 Exit status:
@@ -582,28 +563,14 @@ fn piece_command<'a>(alloc: Global) -> Result<Command<'a>, AllocError>
     with_option(made, steps)
 }
 
-/// Builds the subcommand `board`.
-fn board_command<'a>(alloc: Global) -> Result<Command<'a>, AllocError>
-    ensures { IfOk result (λ c. HasShape c (subcommand (codes "board") serve_options)) }
+/// Builds the subcommand `worker`.
+fn worker_command<'a>(alloc: Global) -> Result<Command<'a>, AllocError>
+    ensures { IfOk result (λ c. HasShape c (subcommand (codes "worker") worker_options)) }
 {
-    let board = Command::new(alloc, "board")
-        .about("Takes what solvers prove as it comes, and tells what is to be proved")
-        .after_help(AFTER_BOARD);
-    let made = with_board_options(alloc, board);
-    let help = "The most steps of the test of an event";
-    let made = with_option(made, steps_option(alloc, "budget", help));
-    let help = "The file to write the certificate to";
-    with_option(made, text_option(alloc, "certificate", "FILE", help))
-}
-
-/// Builds the subcommand `desk`.
-fn desk_command<'a>(alloc: Global) -> Result<Command<'a>, AllocError>
-    ensures { IfOk result (λ c. HasShape c (subcommand (codes "desk") desk_options)) }
-{
-    let desk = Command::new(alloc, "desk")
-        .about("Proves the pieces that a board tells, one after the other")
-        .after_help(AFTER_DESK);
-    let made = with_problem_options(alloc, desk);
+    let worker = Command::new(alloc, "worker")
+        .about("Proves pieces that come on standard input, one after the other")
+        .after_help(AFTER_WORKER);
+    let made = with_problem_options(alloc, worker);
     let help = "The most steps of the search of one piece";
     with_option(made, steps_option(alloc, "steps", help))
 }
@@ -645,6 +612,5 @@ pub(crate) fn program<'a>(alloc: Global) -> Result<Command<'a>, AllocError>
     let program = with_command(program, list_command(alloc));
     let program = with_command(program, share_command(alloc));
     let program = with_command(program, piece_command(alloc));
-    let program = with_command(program, board_command(alloc));
-    with_command(program, desk_command(alloc))
+    with_command(program, worker_command(alloc))
 }

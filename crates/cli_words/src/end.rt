@@ -32,7 +32,7 @@ pub(crate) enum OptionsFault {
     NumberOrOut,
     /// `--which` of `list` is given beside `--number` and `--out`.
     WhichAndStored,
-    /// `--depth` of `share`, `piece` or `board` is given without `--limit`.
+    /// `--depth` of `share` or `piece` is given without `--limit`.
     Depth,
 }
 
@@ -52,7 +52,7 @@ For more information, try '--help'.
 
 /// The text of usage where `--depth` is given without `--limit`.
 const DEPTH: &str = "\
-error: the option '--depth <BRANCHINGS>' of `share`, `piece` and `board` needs '--limit <COUNTIES>'
+error: the option '--depth <BRANCHINGS>' of `share` and `piece` needs '--limit <COUNTIES>'
 
 For more information, try '--help'.
 ";

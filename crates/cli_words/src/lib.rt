@@ -26,7 +26,7 @@ mod words;
 pub use end::WordsEnd;
 pub use version::version_text;
 pub use words::{
-    AuditWords, BoardWords, CertificateWords, CheckWords, CommandWords, CommonWords, DeskWords,
-    JudgeWords, ListWords, PieceWords, ProblemWords, RoundWords, STANDARD_INPUT, ServeWords,
-    ShareWords, SolveWords, StoredWords, parse,
+    AuditWords, BoardWords, CertificateWords, CheckWords, CommandWords, CommonWords, JudgeWords,
+    ListWords, PieceWords, ProblemWords, RoundWords, STANDARD_INPUT, ShareWords, SolveWords,
+    StoredWords, WorkerWords, parse,
 };

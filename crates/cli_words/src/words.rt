@@ -2,9 +2,9 @@
 ghost use Rattle.std.specs.Prelude.{◌≡◌, ◌⊎◌, [], IfErr, IfOk, MatchResult, None, Some, true, codes};
 ghost use Rattle.std.specs.Option.{IsSomeAnd};
 ghost use Rattle.clap.specs.{Walk.texts, Words.{FailsBy, first_of, found_of, kind_of, rows_of, subcommand_rows_of}};
-ghost use Rattle.cli_words.specs.Command.{audit_options, board_options, certificate_options, check_options, common_options, desk_options, grouping_options, judge_options, list_options, piece_options, problem_options, serve_options, share_options, solve_options};
+ghost use Rattle.cli_words.specs.Command.{audit_options, board_options, certificate_options, check_options, common_options, worker_options, grouping_options, judge_options, list_options, piece_options, problem_options, share_options, solve_options};
 ghost use Rattle.cli_words.specs.Options.{HasCommand, HasValues};
-ghost use Rattle.cli_words.specs.Words.{AreUnpaired, EndsFor, EndsTaken, GivesRoundWords, GivesStored, GivesText, IsOptionsFault, LacksLimit, Means, SaysAudit, SaysBoard, SaysCertificate, SaysCheck, SaysCommand, SaysCommon, SaysDesk, SaysJudge, SaysList, SaysPiece, SaysProblem, SaysServe, SaysShare, SaysSolve, faults_of, subcommand_in, takes_words};
+ghost use Rattle.cli_words.specs.Words.{AreUnpaired, EndsFor, EndsTaken, GivesRoundWords, GivesStored, GivesText, IsOptionsFault, LacksLimit, Means, SaysAudit, SaysBoard, SaysCertificate, SaysCheck, SaysCommand, SaysCommon, SaysWorker, SaysJudge, SaysList, SaysPiece, SaysProblem, SaysShare, SaysSolve, faults_of, subcommand_in, takes_words};
 ghost use Rattle.cli_words.specs.declared.end.OptionsFault.TheVariants.{Depth, NumberOrOut};
 
 use crate::command::program;
@@ -17,7 +17,7 @@ use clap::{ArgMatches, Error};
 use county_codes::Tolerance;
 use std::alloc::Global;
 
-/// The name of the file that `board` and `desk` read as it comes: standard input.
+/// The name of the file that `worker` reads as it comes: standard input.
 pub const STANDARD_INPUT: &str = "/dev/stdin";
 
 /// The words of the command line: a subcommand, with the values of its options.
@@ -39,10 +39,8 @@ pub enum CommandWords<'a> {
     Share(ShareWords<'a>),
     /// The proof of one piece of a board.
     Piece(PieceWords<'a>),
-    /// The board that takes proofs as they come.
-    Board(ServeWords<'a>),
-    /// The proofs of the pieces that a board tells.
-    Desk(DeskWords<'a>),
+    /// The proofs of the pieces that are told to a worker.
+    Worker(WorkerWords<'a>),
 }
 
 /// The options that each subcommand has.
@@ -221,20 +219,9 @@ pub struct PieceWords<'a> {
     pub steps: u64,
 }
 
-/// The options of `board`.
+/// The options of `worker`.
 #[derive(Clone, Copy, Debug)]
-pub struct ServeWords<'a> {
-    /// The options that give the board.
-    pub board: BoardWords<'a>,
-    /// The most steps of the test of one event; 10,000,000 where the words give none.
-    pub budget: u64,
-    /// The name of the file that the certificate is written to, where the words give one.
-    pub certificate: Option<&'a str>,
-}
-
-/// The options of `desk`.
-#[derive(Clone, Copy, Debug)]
-pub struct DeskWords<'a> {
+pub struct WorkerWords<'a> {
     /// The options that give the problem.
     pub problem: ProblemWords<'a>,
     /// The most steps of the search of one piece; 10,000,000 where the words give none.
@@ -488,30 +475,12 @@ fn piece_words<'a>(found: &ArgMatches<'a>) -> Result<PieceWords<'a>, OptionsFaul
     })
 }
 
-/// Reads from `found` the values of the options of `board`. Returns the fault `Depth` if `--depth` is given without
-/// `--limit`.
-fn serve_words<'a>(found: &ArgMatches<'a>) -> Result<ServeWords<'a>, OptionsFault>
-    requires { HasValues serve_options (rows_of (found_of found.now)) }
-    ensures { MatchResult
-        result
-        (SaysServe (rows_of (found_of found.now)))
-        (λ fault. (fault ≡ Depth) × LacksLimit (rows_of (found_of found.now))) }
+/// Reads from `found` the values of the options of `worker`.
+fn worker_words<'a>(found: &ArgMatches<'a>) -> WorkerWords<'a>
+    requires { HasValues worker_options (rows_of (found_of found.now)) }
+    ensures { SaysWorker (rows_of (found_of found.now)) result }
 {
-    let board = board_words(found)?;
-    let file = path_or_none(found, "certificate");
-    Ok(ServeWords {
-        board,
-        budget: steps(found, "budget"),
-        certificate: file,
-    })
-}
-
-/// Reads from `found` the values of the options of `desk`.
-fn desk_words<'a>(found: &ArgMatches<'a>) -> DeskWords<'a>
-    requires { HasValues desk_options (rows_of (found_of found.now)) }
-    ensures { SaysDesk (rows_of (found_of found.now)) result }
-{
-    DeskWords {
+    WorkerWords {
         problem: problem_words(found),
         steps: steps(found, "steps"),
     }
@@ -532,8 +501,7 @@ fn command_words<'a>(name: &str, found: &ArgMatches<'a>) -> Result<CommandWords<
         "list" => Ok(CommandWords::List(list_words(found)?)),
         "share" => Ok(CommandWords::Share(share_words(found)?)),
         "piece" => Ok(CommandWords::Piece(piece_words(found)?)),
-        "board" => Ok(CommandWords::Board(serve_words(found)?)),
-        "desk" => Ok(CommandWords::Desk(desk_words(found))),
+        "worker" => Ok(CommandWords::Worker(worker_words(found))),
         _ => unreachable!(),
     }
 }
@@ -566,7 +534,7 @@ fn matches_in<'a>(alloc: Global, words: &'a [&'a str]) -> Result<ArgMatches<'a>,
 ///
 /// Words that `clap` doesn't take end in `Help` or `Version` if they ask for that before anything is wrong, and else in
 /// `Usage`. Words of `list` end in `Usage` too if they give one of `--number` and `--out` without the other, or
-/// `--which` beside both. So do words of `share`, `piece` and `board` that give `--depth` without `--limit`. `Memory`
+/// `--which` beside both. So do words of `share` and `piece` that give `--depth` without `--limit`. `Memory`
 /// may come for any words.
 pub fn parse<'a>(alloc: Global, words: &'a [&'a str]) -> Result<CommandWords<'a>, WordsEnd>
     // The command is what the words mean.

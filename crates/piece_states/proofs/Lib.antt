@@ -1,5 +1,4 @@
 pub mod ToldStates
-pub mod Lines
 pub mod Groups
 pub mod AskedLemmas
 pub mod RoundStates

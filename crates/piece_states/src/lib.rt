@@ -1,8 +1,7 @@
-//! What a board says of an open piece, so that a solver needs no other file, and the way back to the piece's state.
+//! What a worker is told of an open piece, so that it needs no other file, and the way back to the piece's state.
 //!
 //! ```
-//! push_open_piece(&ordered, round, piece, &state, &mut out)?;     // open 1 2, closed .., least .., end
-//! let (open, length) = front_open_piece(alloc, &out)?;
+//! let (open, length) = front_open_piece(alloc, text)?;            // open 1 2, closed .., least .., end
 //! let state = told_state(&graph, &round, &open)?;                 // Some: the state that is told
 //! ```
 //!
@@ -16,11 +15,9 @@ mod laws;
 mod line;
 mod line_words;
 mod piece;
-mod places;
 mod raising;
 mod reading;
 mod told;
-mod writing;
 
 pub use laws::{branches_keep_told, states_are_told, states_have_texts};
 pub use line::ToldLine;
@@ -28,4 +25,3 @@ pub use line_words::skipped;
 pub use piece::{Asked, OpenPiece};
 pub use reading::front_open_piece;
 pub use told::told_state;
-pub use writing::push_open_piece;

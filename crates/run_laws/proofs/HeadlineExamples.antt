@@ -34,15 +34,14 @@ use Rattle.cli_words.specs.declared.words.ProblemWords.{ProblemWords}
 use Rattle.cli_words.specs.declared.words.ListWords.{ListWords}
 use Rattle.cli_words.specs.declared.words.JudgeWords.{JudgeWords}
 use Rattle.cli_words.specs.declared.words.ShareWords.{ShareWords}
-use Rattle.cli_words.specs.declared.words.ServeWords.{ServeWords}
-use Rattle.cli_words.specs.declared.words.DeskWords.{DeskWords}
+use Rattle.cli_words.specs.declared.words.WorkerWords.{WorkerWords}
 use Rattle.cli_words.specs.declared.words.CommandWords.TheVariants.{List as ListAll}
 use Rattle.cli_file_stores.specs.Files.{NamedFile, Files}
 use Rattle.cli_answers.specs.Answer.{Answered}
 use Rattle.run_laws.specs.FilesProblem.{AreCountiesOfFiles, IsReadAsIfNamed, IsProblemOfFiles, IsGroupingIfNamed}
 use Rattle.run_laws.specs.ListSteps.{listing_answer}
 use Rattle.cli_words.specs.Words.{standard_input}
-use Rattle.run_laws.specs.Headline.{TellsNone, TellsFault, JudgeTellsLawful, ListTellsAll, ShareTellsBest, ServeTellsBest, DeskTells, Tells}
+use Rattle.run_laws.specs.Headline.{TellsNone, TellsFault, JudgeTellsLawful, ListTellsAll, ShareTellsBest, WorkerTells, Tells}
 use Rattle.run_laws.proofs.FilesRead.{counties_of_files}
 
 -- ---- the counties of files
@@ -183,16 +182,9 @@ told_target files words a told g is =
     let both : Some told.target ≡ Some g = sym told.target_is ∙ is in
     cc both
 
--- ---- board: the same
+-- ---- worker: what was read is all of standard input
 
-served_target : (files : Files) (words : ServeWords) (a : Answered) (told : ServeTellsBest files words a) (g : Grouping) → told.last.round.target ≡ Some g → told.target ≡ g
-served_target files words a told g is =
-    let both : Some told.target ≡ Some g = sym told.last_target ∙ is in
-    cc both
-
--- ---- desk: what was read is all of standard input
-
-proved_input : (files : Files) (words : DeskWords) (a : Answered) (told : DeskTells files words a) (text : List ℕ) → files standard_input ≡ Some text → told.bytes ≡ text
+proved_input : (files : Files) (words : WorkerWords) (a : Answered) (told : WorkerTells files words a) (text : List ℕ) → files standard_input ≡ Some text → told.bytes ≡ text
 proved_input files words a told text held =
     let both : Some told.bytes ≡ Some text = sym told.input ∙ held in
     cc both

@@ -21,7 +21,7 @@ mod JudgeTells
 mod ListTells
 mod AuditTells
 mod BoardTells
-mod ServeTells
+mod WorkerTells
 pub mod Listings
 mod LaterLists
 mod Joined

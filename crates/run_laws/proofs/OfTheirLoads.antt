@@ -21,10 +21,9 @@ use Rattle.cli_words.specs.declared.words.CheckWords.{CheckWords}
 use Rattle.cli_words.specs.declared.words.ListWords.{ListWords}
 use Rattle.cli_words.specs.declared.words.ShareWords.{ShareWords}
 use Rattle.cli_words.specs.declared.words.PieceWords.{PieceWords}
-use Rattle.cli_words.specs.declared.words.ServeWords.{ServeWords}
-use Rattle.cli_words.specs.declared.words.DeskWords.{DeskWords}
+use Rattle.cli_words.specs.declared.words.WorkerWords.{WorkerWords}
 use Rattle.cli_words.specs.declared.words.CommandWords.{CommandWords}
-use Rattle.cli_words.specs.declared.words.CommandWords.TheVariants.{Size, Judge, Solve, Check, Audit, List as ListAll, Share, Piece, Board, Desk}
+use Rattle.cli_words.specs.declared.words.CommandWords.TheVariants.{Size, Judge, Solve, Check, Audit, List as ListAll, Share, Piece, Worker}
 use Rattle.cli_file_stores.specs.Files.{NamedFile, Files}
 use Rattle.cli_file_stores.specs.History.{FileStoreEvent, History}
 use Rattle.cli_file_stores.specs.History.FileStoreEvent.{Stored}
@@ -51,8 +50,7 @@ use Rattle.run_laws.specs.ShareSteps.{share_answer, share_steps, joined_file}
 use Rattle.run_laws.specs.PieceSteps.{piece_said, piece_steps}
 use Rattle.run_laws.specs.Spoken.{behind}
 use Rattle.cli_words.specs.Words.{standard_input}
-use Rattle.run_laws.specs.ServeSteps.{ServedRun, IsServedRun, serve_steps}
-use Rattle.run_laws.specs.DeskSteps.{IsDeskRun, desk_steps, DeskEnds}
+use Rattle.run_laws.specs.WorkerSteps.{IsWorkerRun, worker_steps, WorkerEnds}
 use Rattle.cli_record.specs.RecordFiles.{record_name_of}
 use Rattle.run_laws.specs.Steps.{Steps, StepsEndIn}
 use Rattle.run_laws.specs.Reading.{OfTexts}
@@ -173,14 +171,9 @@ module _ (given : Option Files) (files : Files) where
       lifts_bind given files (lifts_call given files board_answer (AnswersOnBoard v g words.board.round piece_budget (λ round. IsAnswered (problem_of v) (depth_of words.board.round) round events words.number))) (λ piece.
       lifts_value given files (λ a. a ≡ piece_said words.round words.number piece)))))
 
-  serve_lifts : (words : ServeWords) → Lifts given files (serve_steps given words) (serve_steps (Some files) words)
-  serve_lifts words =
-      lifts_bind given files (problem_lifts words.board.problem) (λ v. lifts_bind given files (grouping_lifts words.board.grouping.now) (λ g.
-      lifts_bind given files (lifts_read_one given files standard_input) (λ back. lifts_value given files (IsServedRun v words g back))))
-
-  desk_lifts : (words : DeskWords) → Lifts given files (desk_steps given words) (desk_steps (Some files) words)
-  desk_lifts words =
-      lifts_bind given files (problem_lifts words.problem) (λ v. lifts_bind given files (lifts_read_one given files standard_input) (λ back. lifts_value given files (IsDeskRun v back)))
+  worker_lifts : (words : WorkerWords) → Lifts given files (worker_steps given words) (worker_steps (Some files) words)
+  worker_lifts words =
+      lifts_bind given files (problem_lifts words.problem) (λ v. lifts_bind given files (lifts_read_one given files standard_input) (λ back. lifts_value given files (IsWorkerRun v back)))
 
   -- steps after whose files something is said
   saying_ends : {S : Type 0} (steps on_files : Steps S) (files_of : S → List NamedFile) (say : S → Option Answered → Answered) → Lifts given files steps on_files
@@ -196,17 +189,10 @@ module _ (given : Option Files) (files : Files) where
       → EndsStoring on_files files_of answer before after stored a
   storing_ends steps on_files files_of answer lift before after stored a h by = saying_ends steps on_files files_of (λ s refusal. said_after refusal (answer s)) lift before after stored a h by
 
-  -- what `board` stores, and what it says then
-  abbrev board_files : ServeWords → ServedRun → List NamedFile
-  board_files words s = named_file words.certificate s.certificate
-
-  abbrev board_said : ServedRun → Option Answered → Answered
-  board_said s refusal = behind s.text (said_after refusal s.end)
-
-  desk_ends : (words : DeskWords) (before after : History) (stored : List NamedFile) (a : Answered) → DeskEnds given words before after stored a → AnsweredBy files before after
-      → DeskEnds (Some files) words before after stored a
-  desk_ends words before after stored a (inl stop, none) by = (inl ((desk_lifts words).lifts before after (Err a) stop by), none)
-  desk_ends words before after stored a (inr h, none) by = (inr (h.0, (desk_lifts words).lifts before after (Ok h.0) h.1 by, h.2), none)
+  worker_ends : (words : WorkerWords) (before after : History) (stored : List NamedFile) (a : Answered) → WorkerEnds given words before after stored a → AnsweredBy files before after
+      → WorkerEnds (Some files) words before after stored a
+  worker_ends words before after stored a (inl stop, none) by = (inl ((worker_lifts words).lifts before after (Err a) stop by), none)
+  worker_ends words before after stored a (inr h, none) by = (inr (h.0, (worker_lifts words).lifts before after (Ok h.0) h.1 by, h.2), none)
 
   command_ends : (command : CommandWords) (before after : History) (stored : List NamedFile) (a : Answered) → CommandEnds given command before after stored a → AnsweredBy files before after
       → CommandEnds (Some files) command before after stored a
@@ -218,8 +204,7 @@ module _ (given : Option Files) (files : Files) where
   command_ends (ListAll words) before after stored a h by = storing_ends _ _ (listed_files words) (λ s. s.answer) (list_lifts words) before after stored a h by
   command_ends (Share words) before after stored a h by = storing_ends _ _ (joined_file words) share_answer (share_lifts words) before after stored a h by
   command_ends (Piece words) before after stored a h by = (ends_lift given files (piece_lifts words) before after a h.0 by, h.1)
-  command_ends (Board words) before after stored a h by = saying_ends _ _ (board_files words) board_said (serve_lifts words) before after stored a h by
-  command_ends (Desk words) before after stored a h by = desk_ends words before after stored a h by
+  command_ends (Worker words) before after stored a h by = worker_ends words before after stored a h by
 
   -- a command's steps only add events
   quiet_extends : (steps on_files : Steps Answered) → Lifts given files steps on_files → (before after : History) (a : Answered) → StepsEndIn steps before after a → Extends before after
@@ -238,9 +223,9 @@ module _ (given : Option Files) (files : Files) where
       → (before after : History) (stored : List NamedFile) (a : Answered) → EndsStoring steps files_of answer before after stored a → Extends before after
   storing_extends steps on_files files_of answer lift before after stored a h = saying_extends steps on_files files_of (λ s refusal. said_after refusal (answer s)) lift before after stored a h
 
-  desk_extends : (words : DeskWords) (before after : History) (stored : List NamedFile) (a : Answered) → DeskEnds given words before after stored a → Extends before after
-  desk_extends words before after stored a (inl stop, none) = (desk_lifts words).extends before after (Err a) stop
-  desk_extends words before after stored a (inr h, none) = (desk_lifts words).extends before after (Ok h.0) h.1
+  worker_extends : (words : WorkerWords) (before after : History) (stored : List NamedFile) (a : Answered) → WorkerEnds given words before after stored a → Extends before after
+  worker_extends words before after stored a (inl stop, none) = (worker_lifts words).extends before after (Err a) stop
+  worker_extends words before after stored a (inr h, none) = (worker_lifts words).extends before after (Ok h.0) h.1
 
   command_extends : (command : CommandWords) (before after : History) (stored : List NamedFile) (a : Answered) → CommandEnds given command before after stored a → Extends before after
   command_extends (Size words) before after stored a h = quiet_extends _ _ (size_lifts words) before after a h.0
@@ -251,8 +236,7 @@ module _ (given : Option Files) (files : Files) where
   command_extends (ListAll words) before after stored a h = storing_extends _ _ (listed_files words) (λ s. s.answer) (list_lifts words) before after stored a h
   command_extends (Share words) before after stored a h = storing_extends _ _ (joined_file words) share_answer (share_lifts words) before after stored a h
   command_extends (Piece words) before after stored a h = quiet_extends _ _ (piece_lifts words) before after a h.0
-  command_extends (Board words) before after stored a h = saying_extends _ _ (board_files words) board_said (serve_lifts words) before after stored a h
-  command_extends (Desk words) before after stored a h = desk_extends words before after stored a h
+  command_extends (Worker words) before after stored a h = worker_extends words before after stored a h
 
   command_run : (command : CommandWords) (before after : History) (stored : List NamedFile) (a : Answered) → CommandRun given command before after stored a → AnsweredBy files before after
       → CommandRun (Some files) command before after stored a
@@ -332,8 +316,7 @@ module _ (given : Option Files) (files : Files) where
   command_taken (ListAll words) before after stored a h f there = storing_taken _ _ (listed_files words) (λ s. s.answer) (list_lifts words) before after stored a h f there
   command_taken (Share words) before after stored a h f there = storing_taken _ _ (joined_file words) share_answer (share_lifts words) before after stored a h f there
   command_taken (Piece words) before after stored a h f there = absurd (none_holds stored f h.1 there)
-  command_taken (Board words) before after stored a h f there = saying_taken _ _ (board_files words) board_said (serve_lifts words) before after stored a h f there
-  command_taken (Desk words) before after stored a h f there = absurd (none_holds stored f h.1 there)
+  command_taken (Worker words) before after stored a h f there = absurd (none_holds stored f h.1 there)
 
   pub run_taken : (command : CommandWords) (before after : History) (stored : List NamedFile) (a : Answered) → CommandRun given command before after stored a → (f : NamedFile) → Contains stored f
       → IsStoreTaken before after f.name f.bytes

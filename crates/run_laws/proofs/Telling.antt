@@ -2,7 +2,7 @@
 use Rattle.std.proofs.Common.{◌≡◌, ◌≤◌, ℕ, List, [], ◌∷◌, ◌++◌, append_assoc, Option, Some, None, inl, inr, sym, ap, subst, ◌∙◌, arith}
 use Rattle.std.specs.Prelude.{true}
 use Rattle.cli_words.specs.declared.words.CommandWords.{CommandWords}
-use Rattle.cli_words.specs.declared.words.CommandWords.TheVariants.{Size, Judge, Solve, Check, Audit, List as ListAll, Share, Piece, Board, Desk}
+use Rattle.cli_words.specs.declared.words.CommandWords.TheVariants.{Size, Judge, Solve, Check, Audit, List as ListAll, Share, Piece, Worker}
 use Rattle.cli_words.specs.declared.end.WordsEnd.{WordsEnd}
 use Rattle.cli_words.specs.declared.end.WordsEnd.TheVariants.{Help, Version, Usage, Memory}
 use Rattle.cli_words.specs.Words.{EndsTaken}
@@ -24,7 +24,7 @@ use Rattle.run_laws.proofs.JudgeTells.{judge_tells}
 use Rattle.run_laws.proofs.ListTells.{list_tells}
 use Rattle.run_laws.proofs.AuditTells.{audit_tells, size_tells}
 use Rattle.run_laws.proofs.BoardTells.{share_tells, piece_tells}
-use Rattle.run_laws.proofs.ServeTells.{serve_tells, desk_tells}
+use Rattle.run_laws.proofs.WorkerTells.{worker_tells}
 use Rattle.run_laws.proofs.Ending.{same_status, not_refused, not_out_of_memory}
 use Rattle.run_laws.proofs.OfTheirLoads.{as_asked, own_run, record_extends, run_taken}
 use Rattle.run_laws.proofs.Lifting.{Extends}
@@ -41,8 +41,7 @@ command_tells files (Audit words) before after stored a run low = audit_tells fi
 command_tells files (ListAll words) before after stored a run low = list_tells files words before after stored a run low
 command_tells files (Share words) before after stored a run low = share_tells files words before after stored a run low
 command_tells files (Piece words) before after stored a run low = piece_tells files words before after stored a run low
-command_tells files (Board words) before after stored a run low = serve_tells files words before after stored a run low
-command_tells files (Desk words) before after stored a run low = desk_tells files words before after stored a run low
+command_tells files (Worker words) before after stored a run low = worker_tells files words before after stored a run low
 
 pub runs_tell : RunsTell
 runs_tell files command before after stored a run recorded = command_tells files command before after stored a run (at_most_three a.status (answer_status a.status recorded))

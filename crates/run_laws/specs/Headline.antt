@@ -31,8 +31,7 @@ use Rattle.certificate_data.specs.Round.{Round}
 use Rattle.board_laws.specs.Content.{Content, Event, Reply}
 use Rattle.board_report.specs.ReplyLines.{reply_line}
 use Rattle.board_report.specs.EventSpelling.{text_of_events, EventsAreSpelled}
-use Rattle.board_report.specs.ComingEvents.{Held}
-use Rattle.board_texts.specs.Coming as texts
+use Rattle.worker_texts.specs.Coming as texts
 use Rattle.share_board.specs.OpenPieces.{AreOpen}
 use Rattle.share_board.specs.Rounds.{IsBoardFault}
 use Rattle.share_board.specs.declared.fault.BoardFault.TheVariants as fault
@@ -58,11 +57,10 @@ use Rattle.cli_words.specs.declared.words.AuditWords.{AuditWords}
 use Rattle.cli_words.specs.declared.words.ListWords.{ListWords}
 use Rattle.cli_words.specs.declared.words.ShareWords.{ShareWords}
 use Rattle.cli_words.specs.declared.words.PieceWords.{PieceWords}
-use Rattle.cli_words.specs.declared.words.ServeWords.{ServeWords}
-use Rattle.cli_words.specs.declared.words.DeskWords.{DeskWords}
+use Rattle.cli_words.specs.declared.words.WorkerWords.{WorkerWords}
 use Rattle.cli_words.specs.declared.words.CommandWords.{CommandWords}
 use Rattle.cli_words.specs.declared.words.CommandWords.TheVariants.{Size, Judge, Solve, Check, Audit, List as ListAll}
-use Rattle.cli_words.specs.declared.words.CommandWords.TheVariants.{Share, Piece, Board, Desk}
+use Rattle.cli_words.specs.declared.words.CommandWords.TheVariants.{Share, Piece, Worker}
 use Rattle.cli_file_stores.specs.Files.{NamedFile, Files}
 use Rattle.cli_file_stores.specs.History.{FileStoreEvent, History}
 use Rattle.cli_file_stores.specs.History.FileStoreEvent.{Stored}
@@ -77,8 +75,7 @@ use Rattle.run_laws.specs.JudgeSteps.{IsDistrictsTable, findings_answer}
 use Rattle.run_laws.specs.ListSteps.{listing_answer, open_answer, grouping_numbered}
 use Rattle.run_laws.specs.BoardSteps.{format_of, depth_of, limit_of_words}
 use Rattle.run_laws.specs.PieceSteps.{piece_said}
-use Rattle.run_laws.specs.ServeSteps.{HasServed}
-use Rattle.run_laws.specs.DeskSteps.{HasProved}
+use Rattle.run_laws.specs.WorkerSteps.{HasProved}
 use Rattle.run_laws.specs.Recording.{is_recorded}
 use Rattle.run_laws.specs.Loads.{AnsweredBy}
 use Rattle.run_laws.specs.Run.{CommandRun}
@@ -304,7 +301,7 @@ pub record ShareTellsOpen (files : Files) (words : ShareWords) (stored : List Na
   pub answer : a ≡ record { text = flat_map reply_line replies ++ board_end_lines last waiting; status = 3 }
   pub none_stored : stored ≡ []
 
--- `share`, `piece` or `board` ends with status 3: the budget is below the cost of the opening of the board.
+-- `share` or `piece` ends with status 3: the budget is below the cost of the opening of the board.
 pub record BoardTellsBudget (files : Files) (words : BoardWords) (budget : ℕ) (a : Answered) : Type 0 where
   pub v : ProblemValue
   pub problem : IsProblemOfFiles files words.problem v
@@ -325,54 +322,11 @@ pub record PieceTells (files : Files) (words : PieceWords) (a : Answered) : Type
   pub piece_answer_is : IsAnswerAt (problem_of v) last words.number (Some piece_answer)
   pub answer : a ≡ piece_said words.round words.number (Some piece_answer)
 
--- ---- board and desk
+-- ---- worker
 
--- the file begins with these bytes
-abbrev pub BeginsWith : Files → List ℕ → List ℕ → Type 0
-BeginsWith files name bytes = (later : List ℕ) × (files name ≡ Some (bytes ++ later))
-
--- A board for the problem and the grouping of the files took the events with which standard input begins, and wrote
--- this text meanwhile. This is then its content.
-pub record ServedEvents (files : Files) (words : ServeWords) (v : ProblemValue) (text : List ℕ) (last : Content)
-    (left : Held) : Type 0 where
-  pub problem : IsProblemOfFiles files words.board.problem v
-  pub target : Grouping
-  pub target_is : IsGroupingOfFile files words.board.grouping.now target
-  pub bytes : List ℕ
-  pub input : BeginsWith files standard_input bytes
-  pub served : HasServed v words target bytes text last left
-
--- `board` ends with status 0: each event that it read has its reply, and no piece waits. The board's target is then
--- lawful for the problem of the files, and no lawful grouping has greater counts.
-pub record ServeTellsBest (files : Files) (words : ServeWords) (a : Answered) : Type 0 where
-  pub v : ProblemValue
-  pub text : List ℕ
-  pub last : Content
-  pub left : Held
-  pub board : ServedEvents files words v text last left
-  pub target : Grouping
-  pub last_target : last.round.target ≡ Some target
-  pub best : IsBest (problem_of v) target
-  pub answer : a ≡ success (text ++ codes "joined\n")
-
--- `board` ends with status 3: each event of standard input has its reply, and these pieces wait. Nothing was stored.
-pub record ServeTellsOpen (files : Files) (words : ServeWords) (stored : List NamedFile) (a : Answered) : Type 0 where
-  pub v : ProblemValue
-  pub text : List ℕ
-  pub last : Content
-  pub left : Held
-  pub board : ServedEvents files words v text last left
-  pub all : files standard_input ≡ Some board.bytes
-  pub none_left : left.bytes ≡ []
-  pub waiting : List ℕ
-  pub waiting_are : AreOpen last.skeleton waiting
-  pub some : waiting ≢ []
-  pub answer : a ≡ record { text = text ++ board_end_lines last waiting; status = 3 }
-  pub none_stored : stored ≡ []
-
--- `desk` ends with status 0: standard input is the rounds and the open pieces that it read, and the text has the answer
--- to each piece.
-pub record DeskTells (files : Files) (words : DeskWords) (a : Answered) : Type 0 where
+-- `worker` ends with status 0: standard input is the rounds and the open pieces that it read, and the text has the
+-- answer to each piece, with a line `end` behind it.
+pub record WorkerTells (files : Files) (words : WorkerWords) (a : Answered) : Type 0 where
   pub v : ProblemValue
   pub problem : IsProblemOfFiles files words.problem v
   pub bytes : List ℕ
@@ -421,12 +375,7 @@ Tells files (Piece words) stored a =
     (PieceTells files words a)
     ⊥
     (PieceTells files words a ⊎ BoardTellsBudget files words.board piece_budget a)
-Tells files (Board words) stored a =
-    ByStatus a.status
-    (ServeTellsBest files words a)
-    ⊥
-    (ServeTellsOpen files words stored a ⊎ BoardTellsBudget files words.board words.budget a)
-Tells files (Desk words) stored a = ByStatus a.status (DeskTells files words a) ⊥ ⊥
+Tells files (Worker words) stored a = ByStatus a.status (WorkerTells files words a) ⊥ ⊥
 
 -- what a run of a command tells of files that it was given
 abbrev pub RunsTell : Type 0

@@ -14,8 +14,7 @@ pub mod ShareSteps
 pub mod PieceSteps
 pub mod Spoken
 pub mod Storing
-pub mod ServeSteps
-pub mod DeskSteps
+pub mod WorkerSteps
 pub mod Recording
 pub mod Run
 pub mod Loads

@@ -3,7 +3,7 @@ use Rattle.std.specs.Prelude.{◌≡◌, ◌⊎◌, ◌≤◌, ◌++◌, ℕ, tr
 use Rattle.cli_words.specs.Words.{Means, EndsFor, EndsTaken, faults_of, takes_words}
 use Rattle.cli_words.specs.declared.words.CommandWords.{CommandWords}
 use Rattle.cli_words.specs.declared.words.CommandWords.TheVariants.{Size, Judge, Solve, Check, Audit, List as ListAll}
-use Rattle.cli_words.specs.declared.words.CommandWords.TheVariants.{Share, Piece, Board, Desk}
+use Rattle.cli_words.specs.declared.words.CommandWords.TheVariants.{Share, Piece, Worker}
 use Rattle.cli_words.specs.declared.end.WordsEnd.{WordsEnd}
 use Rattle.cli_words.specs.declared.end.WordsEnd.TheVariants.{Help, Version, Usage, Memory}
 use Rattle.cli_file_stores.specs.Files.{NamedFile, Files}
@@ -17,8 +17,7 @@ use Rattle.run_laws.specs.ListSteps.{ListEnds}
 use Rattle.run_laws.specs.ShareSteps.{ShareEnds}
 use Rattle.run_laws.specs.PieceSteps.{piece_steps}
 use Rattle.run_laws.specs.Spoken.{behind}
-use Rattle.run_laws.specs.ServeSteps.{ServeEnds}
-use Rattle.run_laws.specs.DeskSteps.{DeskEnds}
+use Rattle.run_laws.specs.WorkerSteps.{WorkerEnds}
 use Rattle.cli_record.specs.RecordFiles.{record_name_of}
 use Rattle.run_laws.specs.Recording.{RecordEnds}
 
@@ -35,8 +34,7 @@ CommandEnds files (ListAll words) before after stored a = ListEnds files words b
 CommandEnds files (Share words) before after stored a = ShareEnds files words before after stored a
 CommandEnds files (Piece words) before after stored a =
     StepsEndIn (piece_steps files words) before after a × (stored ≡ [])
-CommandEnds files (Board words) before after stored a = ServeEnds files words before after stored a
-CommandEnds files (Desk words) before after stored a = DeskEnds files words before after stored a
+CommandEnds files (Worker words) before after stored a = WorkerEnds files words before after stored a
 
 -- nothing was stored, since a growth was refused
 abbrev pub IsOutOfMemory : List NamedFile → Answered → Type 0
@@ -111,5 +109,4 @@ HasState (Audit words) = words.problem.common.state ≤ 99
 HasState (ListAll words) = words.check.problem.common.state ≤ 99
 HasState (Share words) = words.board.problem.common.state ≤ 99
 HasState (Piece words) = words.board.problem.common.state ≤ 99
-HasState (Board words) = words.board.problem.common.state ≤ 99
-HasState (Desk words) = words.problem.common.state ≤ 99
+HasState (Worker words) = words.problem.common.state ≤ 99

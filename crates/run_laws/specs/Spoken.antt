@@ -1,4 +1,4 @@
--- What a run writes before its answer, as it goes on: `board` and `desk` write what they have to say at once.
+-- What a run writes before its answer, as it goes on: `board` and `worker` write what they have to say at once.
 use Rattle.std.specs.Prelude.{ℕ, List, ◌++◌}
 use Rattle.cli_answers.specs.Answer.{Answered}
 

@@ -3,8 +3,8 @@
 //!
 //! The definitions stand in `specs/`. `Steps` has steps up to the first fault. `ProblemSteps`, `TableSteps` and
 //! `PlanSteps` lead from files to values. The commands are in `JudgeSteps`, `JudgeWithCertificate`, `SolveSteps`,
-//! `CheckSteps`, `ListSteps`, `BoardSteps`, `ShareSteps` and `PieceSteps`. `ServeSteps` and `DeskSteps` have the
-//! commands `board` and `desk`, which write as they go on. `Spoken` puts an answer behind what was written before it.
+//! `CheckSteps`, `ListSteps`, `BoardSteps`, `ShareSteps` and `PieceSteps`. `WorkerSteps` has the command
+//! `worker`, which writes as it goes on. `Spoken` puts an answer behind what was written before it.
 //! `Storing` is about files that are stored. `Run` has the runs, and `Loads` has those over files that aren't told.
 //! `Headline` has what a run of each command tells of its files, and `Agreement` what later runs say of a stored
 //! certificate. `WhichGrouping` has the number of a grouping in a list. The texts themselves are made by `cli_reports`.

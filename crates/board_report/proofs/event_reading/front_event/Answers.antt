@@ -6,7 +6,6 @@ use Rattle.board_report.specs.LaterLines.{StandsBehind}
 use Rattle.share_board.specs.Events.{event_of}
 use Rattle.board_report.specs.EventSpelling.{wanted_by}
 use Rattle.board_report.proofs.FrontEvents.{first_refused, front_text, front_spelled, behind_refused}
-use Rattle.board_report.proofs.FrontOnly.{first_only, behind_only}
 use Rattle.board_report.proofs.event_reading.front_event.Goals as goal
 
 pub returns-in_err-line-clause-fault : goal.returns-in_err-line-clause-fault
@@ -30,13 +29,3 @@ returns-in-Err-clause-fault c mem =
     let other = λ (m : _). mem (c.moved.ensures.kind ∙ m) in
     behind_refused c.args.format c.args.counties c.args.text.now _ _ c.new-cursor.ensures c.in_ok-line.line c.in_ok-line.ensures small c.in-Err.fault c.moved.result c.moved.ensures.kind c.moved.ensures.line
     (λ more. ap (λ (t : List ℕ). items_from (wanted_by c.args.format c.args.counties c.in_ok-line.line ++ more) 1 (raw_lines t)) (sym c.rest-rest.ensures) ∙ c.in-Err.ensures.fault other more)
-
-pub returns-in_err-line-clause-only : goal.returns-in_err-line-clause-only
-returns-in_err-line-clause-only c =
-    let p = err_from_is_err_and c.from_residual.result c.from_residual.ensures.1 in
-    rw (p.1, p.2) (λ has. first_only c.args.format c.args.counties c.args.text.now has _ c.new-cursor.ensures _ c.in_err-line.ensures)
-
-pub returns-in-Err-clause-only : goal.returns-in-Err-clause-only
-returns-in-Err-clause-only c has =
-    behind_only c.args.format c.args.counties c.args.text.now has _ _ c.new-cursor.ensures c.in_ok-line.line c.in_ok-line.ensures c.in-Err.fault c.moved.result c.moved.ensures.kind
-    (λ other more. ap (λ (t : List ℕ). items_from (wanted_by c.args.format c.args.counties c.in_ok-line.line ++ more) 1 (raw_lines t)) (sym c.rest-rest.ensures) ∙ c.in-Err.ensures.fault other more)

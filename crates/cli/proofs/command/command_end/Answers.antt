@@ -1,5 +1,5 @@
 use Rattle.std.proofs.Common.{refl}
-use Rattle.cli_words.specs.declared.words.CommandWords.TheVariants.{Size, Judge, Solve, Check, Audit, List, Share, Piece, Board, Desk}
+use Rattle.cli_words.specs.declared.words.CommandWords.TheVariants.{Size, Judge, Solve, Check, Audit, List, Share, Piece, Worker}
 use Rattle.cli_answers.specs.Answers.{said_by}
 use Rattle.run_laws.specs.JudgeSteps.{size_steps}
 use Rattle.run_laws.specs.PieceSteps.{piece_steps}
@@ -28,14 +28,10 @@ returns-in-Size g c =
 pub returns-in-Share : goal.returns-in-Share
 returns-in-Share g c = silent_end g.H.FileStore.contents g.H.FileStore.history g.H.FileStore.stored g.W.Sink.contents g.W.Sink.is_failed c.args.file_store.now c.share.new.file_store c.args.out.now c.args.written.now c.args.command (Share c.in-Share.words) (said_by c.share.result) c.in-Share.is c.share.ensures
 
-pub returns-in-Board : goal.returns-in-Board
-returns-in-Board g c =
-    writing_end g.H.FileStore.contents g.H.FileStore.history g.H.FileStore.stored g.W.Sink.contents g.W.Sink.is_failed c.args.file_store.now c.board.new.file_store c.args.out.now c.board.new.out c.args.written.now c.board.new.written c.args.command (Board c.in-Board.words) (said_by c.board.result) c.in-Board.is c.board.ensures
-
 pub returns-in-Piece : goal.returns-in-Piece
 returns-in-Piece g c =
     quiet_end g.H.FileStore.contents g.H.FileStore.history g.H.FileStore.stored g.W.Sink.contents g.W.Sink.is_failed c.args.file_store.now c.piece.new.file_store c.args.out.now c.args.written.now c.args.command (Piece c.in-Piece.words) (piece_steps (g.H.FileStore.contents c.args.file_store.now) c.in-Piece.words) c.piece.result c.in-Piece.is c.piece.ensures.same c.piece.ensures.kept (λ a h. (h, refl)) c.piece.ensures.steps
 
-pub returns-in-Desk : goal.returns-in-Desk
-returns-in-Desk g c =
-    writing_end g.H.FileStore.contents g.H.FileStore.history g.H.FileStore.stored g.W.Sink.contents g.W.Sink.is_failed c.args.file_store.now c.desk.new.file_store c.args.out.now c.desk.new.out c.args.written.now c.desk.new.written c.args.command (Desk c.in-Desk.words) (said_by c.desk.result) c.in-Desk.is c.desk.ensures
+pub returns-in-Worker : goal.returns-in-Worker
+returns-in-Worker g c =
+    writing_end g.H.FileStore.contents g.H.FileStore.history g.H.FileStore.stored g.W.Sink.contents g.W.Sink.is_failed c.args.file_store.now c.worker.new.file_store c.args.out.now c.worker.new.out c.args.written.now c.worker.new.written c.args.command (Worker c.in-Worker.words) (said_by c.worker.result) c.in-Worker.is c.worker.ensures

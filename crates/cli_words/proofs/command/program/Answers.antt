@@ -1,5 +1,5 @@
 use Rattle.std.proofs.Common.{codes}
-use Rattle.cli_words.specs.Command.{audit_options, check_options, common_options, countygroups, desk_options, judge_options, list_options, piece_options, serve_options, share_options, solve_options, subcommand}
+use Rattle.cli_words.specs.Command.{audit_options, check_options, common_options, countygroups, worker_options, judge_options, list_options, piece_options, share_options, solve_options, subcommand}
 use Rattle.cli_words.proofs.command.program.Goals as goal
 
 pub returns : goal.returns
@@ -13,5 +13,4 @@ returns c =
     let list = c.with_command-program-6.ensures _ (subcommand (codes "list") list_options) audit c.list_command.ensures in
     let share = c.with_command-program-7.ensures _ (subcommand (codes "share") share_options) list c.share_command.ensures in
     let piece = c.with_command-program-8.ensures _ (subcommand (codes "piece") piece_options) share c.piece_command.ensures in
-    let board = c.with_command-program-9.ensures _ (subcommand (codes "board") serve_options) piece c.board_command.ensures in
-    c.with_command.ensures _ (subcommand (codes "desk") desk_options) board c.desk_command.ensures
+    c.with_command.ensures _ (subcommand (codes "worker") worker_options) piece c.worker_command.ensures

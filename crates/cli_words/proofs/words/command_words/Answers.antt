@@ -6,4 +6,4 @@ pub unreachable-requires : goal.unreachable-requires
 unreachable-requires c =
     let e = c.in_default in
     no_key (λ s. s.name) _ subcommands c.args.name.now
-    (e.not-size, (e.not-judge, (e.not-solve, (e.not-check, (e.not-audit, (e.not-list, (e.not-share, (e.not-piece, (e.not-board, (e.not-desk, tt)))))))))) c.requires
+    (e.not-size, (e.not-judge, (e.not-solve, (e.not-check, (e.not-audit, (e.not-list, (e.not-share, (e.not-piece, (e.not-worker, tt))))))))) c.requires

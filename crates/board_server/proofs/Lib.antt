@@ -1,5 +1,0 @@
-pub mod Tellings
-pub mod Calls
-pub mod Servings
-pub mod Prefixes
-pub mod BoardRuns

@@ -1,8 +1,0 @@
-pub mod RoundText
-pub mod RoundReading
-pub mod BoardText
-pub mod TextValue
-pub mod TextForms
-pub mod Coming
-pub mod Laws
-pub mod Examples

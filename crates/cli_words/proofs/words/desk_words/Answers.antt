@@ -1,8 +1,0 @@
-use Rattle.std.proofs.Common.{drop}
-use Rattle.clap.specs.Words.{found_of, rows_of}
-use Rattle.cli_words.specs.Command.{desk_options, problem_options}
-use Rattle.cli_words.proofs.ReadLemmas.{front_values}
-use Rattle.cli_words.proofs.words.desk_words.Goals as goal
-
-pub problem_words-requires : goal.problem_words-requires
-problem_words-requires c = front_values problem_options (drop 10 desk_options) (rows_of (found_of c.args.found.now)) c.requires
