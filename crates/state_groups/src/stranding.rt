@@ -155,28 +155,29 @@ fn changed_places<C: CountySet>(
 }
 
 /// Returns whether a connected part of `left` is stranded at `state`, with these `free` places, among those around the
-/// `changed` places of `left`.
+/// `changed` places of `left`. Changed places that hang together lie in one part, which is looked at once.
 fn has_stranded_part<C: CountySet>(
     graph: &CountyGraph<C>,
     state: &State<C>,
     left: &C,
     free: &C,
-    changed: &C,
+    changed: C,
     enough: Enough,
 ) -> Result<bool, AllocError>
     requires graph { IsGraph C.test C.PLACES graph.now }
     requires places { length state.now.least.items ≡ graph_places graph.now }
     requires below { (x : ℕ) → C.test left.now x ≡ true → x < graph_places graph.now }
-    requires changed { (x : ℕ) → C.test changed.now x ≡ true → C.test left.now x ≡ true }
+    requires changed { (x : ℕ) → C.test changed x ≡ true → C.test left.now x ≡ true }
     ensures { IfOk result (λ found. IsTrue found
         → StrandedPart (place_problem graph.now) (state_of C.test state.now) (C.test left.now) (C.test free.now)) }
 {
-    let mut from = 0;
-    while let Some(place) = changed.next(from) {
+    let mut rest = changed;
+    while let Some(place) = rest.next(0) {
         if is_stranded_around(graph, state, left, free, place, enough)? {
             return Ok(true);
         }
-        from = u32::from(place) + 1;
+        let (_together, others) = part_around(graph, &rest, place)?;
+        rest = others;
     }
     Ok(false)
 }
@@ -210,7 +211,7 @@ pub(crate) fn strands<C: CountySet>(
         Format::Wide => {
             let left = state.rest.copy(graph.alloc)?.minus(&growth.set);
             let changed = changed_places(graph, &left, growth.last)?;
-            has_stranded_part(graph, state, &left, &growth.free, &changed, enough)
+            has_stranded_part(graph, state, &left, &growth.free, changed, enough)
         }
     }
 }
