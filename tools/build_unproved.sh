@@ -8,9 +8,10 @@ usage: tools/build_unproved.sh PROGRAM
 
 Builds the program without any proof, and stores it as PROGRAM. `rt try` makes the program's LLVM
 module. The kit's clang compiles it at -O1, in the place of the slow form with checks that `rt try`
-asks for, and the kit links it. It takes two minutes on one free processor. The program is as fast
-as a proved one, but nothing is known of it: `cases/cases.py --build FILE --checked` builds the form
-that tells bad accesses and sums that wrap.
+asks for, and the kit links it. It takes two minutes on one free processor. Nothing is known of the
+program, and it takes up to twice as long as a proved one, because the module of `rt try` still
+tests what a proof shows. `cases/cases.py --build FILE --checked` builds the form that tells bad
+accesses and sums that wrap.
 Statuses: 0 the program is stored, 1 it can't be built, 2 these words can't be followed.
 TEXT
 }
