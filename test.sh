@@ -4,12 +4,15 @@ set -euo pipefail
 
 usage() {
     cat <<'TEXT'
-usage: ./test.sh [--program FILE [--wasm FILE [--refusing FILE]]]
-       ./test.sh --proved [--all]
+usage: ./test.sh [--require-all] [--program FILE [--wasm FILE [--refusing FILE]]]
+       ./test.sh [--require-all] --proved [--all]
 
 Without a word: runs all tests with the programs of dist/, in minutes. It needs Linux on x86-64 and
 python3. The tests are those of the scripts and pages, all cases, the second checker, cases that are
-changed at random for a minute, and those of the WebAssembly build, which need Node.
+changed at random for a minute, and those of the WebAssembly build, which need Node. It installs
+nothing. Where something isn't there, such as a browser, R or mypy, the tests that need it are
+passed over. The last lines say which, and how to get it.
+--require-all: a test that can't run fails. `tools/test_needs.sh` names what isn't there.
 --program FILE: the same with another build of the program. The WebAssembly build is tested if it
 is named too (--wasm; --refusing: the one over a heap that refuses, which tools/wasm.sh makes).
 --proved: the gate. It proves every crate, tries the must-fail edits that are due, and runs these
@@ -35,6 +38,7 @@ program=dist/countygroups-x86_64-linux
 is_proved=no
 is_all=no
 is_given=no
+is_requiring=no
 wasm=
 refusing=
 while [ $# -gt 0 ]; do
@@ -51,6 +55,7 @@ while [ $# -gt 0 ]; do
             shift
             ;;
         --proved) is_proved=yes ;;
+        --require-all) is_requiring=yes ;;
         --all) is_all=yes ;;
         --help | -h) usage; exit 0 ;;
         *) usage >&2; refuse "it takes no word \`$1\`" ;;
@@ -84,6 +89,25 @@ finish() {
     rmdir "$found" 2>/dev/null || echo "test.sh: what was found is kept in $found" >&2
 }
 trap finish EXIT
+# To this file a test adds the line that says what it passes over.
+export COUNTYGROUPS_NOT_RUN=$room/not_run
+touch "$COUNTYGROUPS_NOT_RUN"
+
+# Says which tests were passed over, if some were, and how to get what they need.
+end_tests() {
+    if [ ! -s "$COUNTYGROUPS_NOT_RUN" ]; then
+        heading "all passed"
+        return
+    fi
+    heading "passed over"
+    sort -u "$COUNTYGROUPS_NOT_RUN"
+    tools/test_needs.sh | tail -n 1 || true
+    if [ "$is_requiring" = yes ]; then
+        heading "FAILED: these tests could not run"
+        return 1
+    fi
+    heading "all passed that could run"
+}
 
 # Tests the scripts, which need no program.
 test_scripts() {
@@ -93,6 +117,8 @@ test_scripts() {
     python3 cases/fuzz.py --test
     python3 tools/trust_lines.py
     python3 tools/crate_table.py
+    python3 tools/test_passing_over.py
+    python3 tools/test_workshop.py
     python3 tools/test_gate_room.py
     python3 tools/test_compare_dist.py
     python3 tools/test_release.py
@@ -129,11 +155,12 @@ test_desk() { # PROGRAM [WASM]
     python3 tools/test_desk.py --jobs "$few" "${words[@]}"
 }
 
-# Tests the packages for Python and R.
+# Tests the packages for Python and R, and all packages of what dist/ has.
 test_packages() { # PROGRAM
     heading "the packages for Python and R"
     COUNTYGROUPS=$(realpath "$1") python/test.sh
     COUNTYGROUPS=$(realpath "$1") r/test.sh
+    python3 tools/test_packages.py
 }
 
 # Tests programs that are built.
@@ -265,6 +292,9 @@ prove_and_test() {
     end_beside changes
 }
 
+if [ "$is_requiring" = yes ]; then
+    tools/test_needs.sh >&2 || { echo "test.sh: --require-all asks for these" >&2; exit 1; }
+fi
 if [ "$is_proved" = yes ]; then
     test_scripts
     prove_and_test
@@ -282,4 +312,4 @@ else
     test_programs "$program"
     end_beside "${parts[@]}" changes
 fi
-heading "all passed"
+end_tests

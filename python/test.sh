@@ -4,18 +4,18 @@ set -euo pipefail
 
 usage() {
     cat <<'TEXT'
-usage: python/test.sh [--install] [--plain]
+usage: python/test.sh [--plain]
 
 Tests the package `countygroups` for Python with the program that COUNTYGROUPS names, or that of
-dist/. It takes some 15 seconds.
+dist/. It takes a minute.
 
-- the plain part, with the standard library alone, by `python3`;
+- the plain part, with the standard library alone, by `python3` and each of Python 3.9 to 3.13 that
+  is installed;
 - tables, shapes and graphs, and the documents' examples, by the first of `python3` and
   /usr/bin/python3 that has geopandas, networkx and matplotlib;
 - types by mypy, and the layout of lines by black of release 23.
 
-What isn't there is said with the command that installs it, and what needs it is passed over.
---install: installs what isn't there by apt-get first. It needs Debian and its root.
+What isn't there is said, and what needs it is passed over. `tools/test_needs.sh` installs it.
 --plain: the plain part alone.
 Statuses: 0 all passed, 1 something failed, 2 it can't be run.
 TEXT
@@ -31,13 +31,11 @@ fail() {
     exit 1
 }
 
-plain=(tests.test_input tests.test_answers tests.test_progress)
-packages=(python3-geopandas python3-networkx python3-matplotlib mypy black)
+plain=(tests.test_input tests.test_held tests.test_answers tests.test_asking tests.test_progress
+    tests.test_callers)
 is_plain=no
-is_installing=no
 for word in "$@"; do
     case $word in
-        --install) is_installing=yes ;;
         --plain) is_plain=yes ;;
         --help | -h) usage; exit 0 ;;
         *) usage >&2; refuse "it takes no word \`$word\`" ;;
@@ -46,11 +44,11 @@ done
 command -v python3 >/dev/null || refuse "there is no \`python3\` on the path"
 cd "$(dirname "$0")"
 
-# Prints the first Python that has what tables, shapes and graphs need.
-python_with_packages() {
+# Prints an installed Python of the release 3.MINOR: that of the path, or one that pyenv has.
+python_of() { # MINOR
     local one
-    for one in python3 /usr/bin/python3; do
-        if "$one" -c 'import geopandas, matplotlib, networkx' 2>/dev/null; then
+    for one in "python3.$1" "$(pyenv root 2>/dev/null || true)"/versions/"3.$1".*/bin/python; do
+        if "$one" -c '' 2>/dev/null; then
             echo "$one"
             return
         fi
@@ -58,14 +56,22 @@ python_with_packages() {
     return 1
 }
 
-# Whether nothing is missing.
-is_complete() {
-    python_with_packages >/dev/null && command -v mypy >/dev/null && command -v black >/dev/null
+# Runs the plain tests by each release of Python that is promised and installed.
+test_releases() {
+    local minor python
+    for minor in 9 10 11 12 13; do
+        if python=$(python_of "$minor"); then
+            echo "the plain tests by $("$python" --version)"
+            "$python" -m unittest "${plain[@]}"
+        else
+            echo "Python 3.$minor isn't installed, so the plain tests didn't run by it"
+        fi
+    done
 }
 
-# Says what isn't run, and what installs it.
+# Says what isn't run, and which package of Debian it needs.
 pass_over() { # WHAT PACKAGE ..
-    echo "not run: $1; on Debian \`apt-get install ${*:2}\` or \`python/test.sh --install\`"
+    ../tools/pass_over.sh "$1: Debian has it as ${*:2}"
 }
 
 # Returns whether this is the release of black by which the files are laid out. If not, says so.
@@ -73,34 +79,26 @@ is_known_black() {
     case $(black --version) in
         "black, 23."*) ;;
         *)
-            echo "not run: the test of the layout of lines, which is that of black 23"
+            ../tools/pass_over.sh "the test of the layout of lines, which is that of black 23"
             return 1
             ;;
     esac
 }
-
-if [ "$is_installing" = yes ] && ! is_complete; then
-    command -v apt-get >/dev/null || refuse "there is no \`apt-get\`, so nothing can be installed"
-    apt-get update -qq
-    apt-get install -y -qq --no-install-recommends "${packages[@]}" >/dev/null
-fi
 
 python3 -c 'import countygroups; print("the program:", *countygroups.find_program().command)' ||
     refuse "the tests need the program"
 if [ "$is_plain" = yes ]; then
     exec python3 -m unittest "${plain[@]}"
 fi
-if python=$(python_with_packages); then
-    if [ "$python" != python3 ]; then
-        python3 -m unittest "${plain[@]}"
-    fi
+test_releases
+if python=$(../tools/python_with.sh geopandas matplotlib networkx); then
     "$python" -m unittest discover -s tests -t .
 else
-    python3 -m unittest "${plain[@]}"
-    pass_over "tables, shapes, graphs and the documents" "${packages[@]:0:3}"
+    pass_over "tables, shapes, graphs and the documents" \
+        python3-geopandas python3-networkx python3-matplotlib
 fi
 if command -v mypy >/dev/null; then
-    mypy --strict countygroups tests examples
+    mypy --strict countygroups tests examples building
 else
     pass_over "the test of types" mypy
 fi

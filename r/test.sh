@@ -4,7 +4,7 @@ set -euo pipefail
 
 usage() {
     cat <<'TEXT'
-usage: r/test.sh [--install]
+usage: r/test.sh
 
 Tests the package `countygroups` for R with the program that COUNTYGROUPS names, or that of dist/.
 It takes some 20 seconds. The package is installed to a folder that is removed in the end.
@@ -13,8 +13,7 @@ It takes some 20 seconds. The package is installed to a folder that is removed i
 - shapes, with sf;
 - help pages, and the documents' examples, which are run as they stand.
 
-What isn't there is said with the command that installs it, and what needs it is passed over.
---install: installs what isn't there by apt-get first. It needs Debian and its root.
+What isn't there is said, and what needs it is passed over. `tools/test_needs.sh` installs it.
 Statuses: 0 all passed, 1 something failed, 2 it can't be run.
 TEXT
 }
@@ -24,30 +23,22 @@ refuse() {
     exit 2
 }
 
-is_installing=no
 for word in "$@"; do
     case $word in
-        --install) is_installing=yes ;;
         --help | -h) usage; exit 0 ;;
         *) usage >&2; refuse "it takes no word \`$word\`" ;;
     esac
 done
 top=$(cd "$(dirname "$0")/.." && pwd)
 cd "$top"
-wanted="on Debian \`apt-get install r-base-core r-cran-sf\` or \`r/test.sh --install\`"
 
 # Whether R has the package sf.
 has_sf() {
     Rscript -e 'if (!requireNamespace("sf", quietly = TRUE)) quit(status = 1)' 2>/dev/null
 }
 
-if [ "$is_installing" = yes ] && ! { command -v Rscript >/dev/null && has_sf; }; then
-    command -v apt-get >/dev/null || refuse "there is no \`apt-get\`, so nothing can be installed"
-    apt-get update -qq
-    apt-get install -y -qq --no-install-recommends r-base-core r-cran-sf >/dev/null
-fi
 if ! command -v Rscript >/dev/null; then
-    echo "not run: the package for R; $wanted"
+    tools/pass_over.sh "the package for R: Debian has R as r-base-core"
     exit 0
 fi
 
@@ -63,5 +54,5 @@ echo "the program: $COUNTYGROUPS"
 if has_sf; then
     (cd r/tests && Rscript shapes.R && Rscript documents.R)
 else
-    echo "not run: shapes and the documents; $wanted"
+    tools/pass_over.sh "shapes and the documents for R: Debian has sf as r-cran-sf"
 fi

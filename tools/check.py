@@ -816,6 +816,9 @@ def answer(words: List[str], load: Callable[[str], bytes]) -> Tuple[str, int]:
 
 def main() -> int:
     """Runs the command, and returns its exit status."""
+    if sys.argv[1:] in (["--help"], ["-h"]):
+        print(__doc__, end="")
+        return 0
     text, status = answer(sys.argv[1:], load)
     sys.stdout.buffer.write(os.fsencode(text))
     if status == 2:

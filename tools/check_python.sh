@@ -36,7 +36,7 @@ folders=(cases tools bench web/test web/desk/test)
 # Returns whether a program is installed. If it isn't, says which package has it.
 is_there() { # PROGRAM WHAT
     if ! command -v "$1" >/dev/null; then
-        echo "not run: the check of $2, since there is no \`$1\`: Debian has it as the package $1"
+        tools/pass_over.sh "the check of $2: there is no \`$1\`, Debian has it as the package $1"
         return 1
     fi
 }
@@ -46,7 +46,7 @@ is_known_black() {
     case $(black --version) in
         "black, 23."*) ;;
         *)
-            echo "not run: the check of the layout, which is that of black 23"
+            tools/pass_over.sh "the check of the layout, which is that of black 23"
             return 1
             ;;
     esac

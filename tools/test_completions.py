@@ -7,8 +7,8 @@ usage: python3 tools/test_completions.py [--program FILE]
 
 The files have to be those that `tools/completions.py` makes of what the program says. Then each
 shell that is installed is asked what it offers: the commands, the options of each command, and
-names of files behind the options that take one. A shell that isn't installed is named and passed
-over. On Debian the shells are the packages `bash`, `zsh` and `fish`.
+names of files behind the options that take one. A shell that isn't installed is passed over, and
+that is said.
 """
 from __future__ import annotations
 
@@ -22,6 +22,7 @@ import tempfile
 import time
 
 import completions
+from installed import program_there
 from tested_program import OverHelp, run_tests
 
 FILES = ("nc2020geo.pl", "north.txt", "senate.csv")
@@ -173,16 +174,21 @@ class TestShells(OverHelp):
 
     def compare(self, wanted: dict[str, set[str]]) -> None:
         """Compares what each installed shell offers behind the lines with what is `wanted`."""
+        for shell in SHELLS:
+            with self.subTest(shell=shell):
+                program_there(shell)
+                self.compare_shell(shell, wanted)
+
+    def compare_shell(self, shell: str, wanted: dict[str, set[str]]) -> None:
+        """Compares what `shell` offers behind the lines with what is `wanted`."""
         lines = list(wanted)
-        for shell, ask in SHELLS.items():
-            if shutil.which(shell):
-                answers = ask(self.room, lines)
-                self.assertEqual(len(answers), len(lines), shell)
-                for line, offered in zip(lines, answers):
-                    with self.subTest(shell=shell, line=line):
-                        # (fish offers `--geo=FILE` whole)
-                        words = {word.removeprefix("--geo=") for word in offered}
-                        self.assertEqual(words, wanted[line])
+        answers = SHELLS[shell](self.room, lines)
+        self.assertEqual(len(answers), len(lines))
+        for line, offered in zip(lines, answers):
+            with self.subTest(line=line):
+                # (fish offers `--geo=FILE` whole)
+                words = {word.removeprefix("--geo=") for word in offered}
+                self.assertEqual(words, wanted[line])
 
     def test_commands(self) -> None:
         """The first word is a command, or an option of the program."""
@@ -218,7 +224,4 @@ class TestShells(OverHelp):
 
 
 if __name__ == "__main__":
-    for shell in SHELLS:
-        if not shutil.which(shell):
-            print(f"test_completions.py: {shell} isn't installed, so it wasn't asked")
     run_tests(__doc__)

@@ -7,23 +7,20 @@ usage: python3 tools/test_manual_page.py [--program FILE]
 
 The page has to be the one that `tools/manual_page.py` makes of what the program says. Then `man`
 shows the page, and each word of the help texts has to stand there, in the same order. If `man` or
-`groff` isn't installed, that is said, and the page isn't shown. On Debian they are the packages
-`man-db` and `groff`.
+`groff` isn't installed, that is said, and the page isn't shown.
 """
 from __future__ import annotations
 
 import os
 import re
-import shutil
 import subprocess
-import unittest
 
 import help_texts
 import manual_page
 from help_texts import Help
+from installed import program_there
 from tested_program import OverHelp, run_tests
 
-IS_SHOWN = shutil.which("man") is not None and shutil.which("groff") is not None
 # The columns of the shown page: its lines are so long that no word is cut.
 COLUMNS = "2000"
 
@@ -34,7 +31,12 @@ def plain(text: str) -> str:
 
 
 def shown_page() -> tuple[str, str]:
-    """Returns the page as `man` shows it, without layout, and what `man` complains of."""
+    """Returns the page as `man` shows it, without layout, and what `man` complains of.
+
+    Raises `NotThere` if `man` or `groff` isn't installed.
+    """
+    program_there("man")
+    program_there("groff")
     how = {**os.environ, "LC_ALL": "C.UTF-8", "MANWIDTH": COLUMNS, "MANOPT": ""}
     words = ["man", "--warnings", "--no-hyphenation", "-l", manual_page.PAGE]
     ran = subprocess.run(words, env=how, capture_output=True, text=True, check=True)
@@ -57,7 +59,6 @@ class TestPage(OverHelp):
             page = file.read()
         self.assertEqual(page, manual_page.page_of(self.help), "run tools/manual_page.py")
 
-    @unittest.skipUnless(IS_SHOWN, "`man` or `groff` isn't installed")
     def test_it_has_the_words_of_the_help(self) -> None:
         """Every text of `--help` stands in the page that `man` shows, without a complaint."""
         page, complaints = shown_page()
@@ -68,7 +69,6 @@ class TestPage(OverHelp):
                 with self.subTest(usage=of.usage, text=text):
                     self.assertIn(text, page)
 
-    @unittest.skipUnless(IS_SHOWN, "`man` or `groff` isn't installed")
     def test_each_command_has_its_part(self) -> None:
         """Behind the name and the first line of each command its own options follow."""
         page, _ = shown_page()
@@ -84,6 +84,4 @@ class TestPage(OverHelp):
 
 
 if __name__ == "__main__":
-    if not IS_SHOWN:
-        print("test_manual_page.py: `man` or `groff` isn't installed, so no page was shown")
     run_tests(__doc__)

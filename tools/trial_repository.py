@@ -7,6 +7,8 @@ import subprocess
 import tempfile
 import unittest
 
+from installed import program_there
+
 # Who commits, in the environment of git.
 WHO = {
     f"GIT_{role}_{part}": "tester" for role in ("AUTHOR", "COMMITTER") for part in ("NAME", "EMAIL")
@@ -22,11 +24,11 @@ def write(path: str, text: str, is_program: bool = False) -> None:
         os.chmod(path, 0o755)
 
 
-@unittest.skipUnless(shutil.which("git"), "git isn't there")
 class InRepository(unittest.TestCase):
     """Tests over a repository that `setUp` makes at `top`, a folder of the folder `room`."""
 
     def setUp(self) -> None:
+        program_there("git")
         self.room = tempfile.mkdtemp(prefix="trial-repository-")
         self.addCleanup(shutil.rmtree, self.room)
         self.top = f"{self.room}/top"

@@ -4,20 +4,27 @@
 """
 from .adjacency import Adjacency
 from .answer import Answer, checked
+from .asking import Finding, Sizes, Verdict, audit, judge, size
 from .best_groupings import BestGroupings
+from .borders import borders_source
 from .census import read_census
 from .errors import (
     CertificateError,
     CountyGroupsError,
+    CountyGroupsWarning,
     InputError,
     NoBestGrouping,
     ProgramError,
     ProgramNotFound,
+    TimeLimitError,
 )
 from .groups import Group, Grouping, ListedGroup, Region
 from .problem import Problem, problem_of
 from .program import Progress, find_program
 from .solving import solve
+from .version import VERSION
+
+__version__ = VERSION
 
 __all__ = [
     "Adjacency",
@@ -25,6 +32,8 @@ __all__ = [
     "BestGroupings",
     "CertificateError",
     "CountyGroupsError",
+    "CountyGroupsWarning",
+    "Finding",
     "Group",
     "Grouping",
     "InputError",
@@ -35,9 +44,17 @@ __all__ = [
     "ProgramNotFound",
     "Progress",
     "Region",
+    "Sizes",
+    "TimeLimitError",
+    "Verdict",
+    "__version__",
+    "audit",
+    "borders_source",
     "checked",
     "find_program",
+    "judge",
     "problem_of",
     "read_census",
+    "size",
     "solve",
 ]

@@ -1,15 +1,18 @@
 """The answer to a problem."""
 from __future__ import annotations
 
+import math
 from dataclasses import dataclass
+from fractions import Fraction
 from functools import cached_property
 from os import PathLike
 from pathlib import Path
 from typing import Any
 
-from . import files, tables, texts
+from . import files, maps, pages, tables, texts
 from .best_groupings import UNBOUNDED, BestGroupings
 from .adjacency import Adjacency
+from .codes import Label
 from .errors import InputError, NoBestGrouping
 from .groups import Group, Grouping
 from .problem import Problem, Stored
@@ -39,6 +42,42 @@ class Answer:
     def adjacency(self) -> Adjacency:
         """Returns which counties are adjacent, and where that comes from."""
         return self.problem.adjacency
+
+    @property
+    def people(self) -> int:
+        """Returns the people of all counties."""
+        return self.problem.people
+
+    @property
+    def ideal(self) -> Fraction:
+        """Returns the ideal population of a district of the chamber: its people over its seats.
+
+        The law bounds each district by this number, and not by the mean of its group.
+        """
+        return self.problem.ideal
+
+    @property
+    def district_bounds(self) -> tuple[int, int]:
+        """Returns the least and the greatest number of people that a district may have."""
+        return self.problem.district_bounds
+
+    def epsilon_of(self, group: Group) -> float:
+        """Returns by which part of its mean a district of `group` may miss it, rounded down.
+
+        This is the greatest such part with which each district stays within `district_bounds`, as
+        `epsilon` of GerryChain takes it.
+        """
+        least, greatest = self.district_bounds
+        exact = min(1 - least / group.mean, greatest / group.mean - 1)
+        return math.nextafter(float(exact), -math.inf)
+
+    @cached_property
+    def group_of(self) -> dict[Label, Group]:
+        """Returns the group of each county, by its label, also the withdrawn sets.
+
+        Raises `NoBestGrouping` if there is no grouping.
+        """
+        return group_of(self.grouping(), self.problem)
 
     @cached_property
     def best_groupings(self) -> BestGroupings:
@@ -78,9 +117,11 @@ class Answer:
     def to_dataframe(self, number: int | None = None) -> Any:
         """Returns a DataFrame of pandas with a row for each county.
 
-        It is a copy of the table that was given, if one was, with these columns: GROUP ("1" on, and
-        "W1" on for withdrawn sets), SEATS and GROUP_POPULATION of the group, and COLOUR, a number
-        from 0 on that differs for adjacent groups. `number` is as in `grouping`.
+        It is a copy of the table that was given, if one was, with these columns: GROUP (1 on; if
+        sets are withdrawn, the texts "1" on for groups and "W1" on for these sets), SEATS and
+        GROUP_POPULATION of the group, and COLOUR, a number from 0 on that differs for adjacent
+        groups. If the table has a column of such a name, that column stays, and the new one is
+        called COUNTYGROUPS_GROUP and so on. `number` is as in `grouping`.
         """
         return tables.frame_of(self.problem, self.to_rows(number))
 
@@ -91,6 +132,16 @@ class Answer:
         the counties came as a GeoDataFrame. Raises `InputError` if a county has no shape.
         """
         return tables.geo_frame_of(self.problem, self.to_dataframe(number), shapes)
+
+    def plot(self, number: int | None = None, shapes: Any = None, **words: Any) -> Any:
+        """Draws a map on which adjacent groups differ, and returns its axes.
+
+        Each group has the number of its seats.
+
+        `number` is as in `grouping`, `shapes` as in `to_geodataframe`. `words` go to the `plot` of
+        geopandas. It needs geopandas and matplotlib.
+        """
+        return maps.draw(self, self.to_geodataframe(number, shapes), words)
 
     def save(self, folder: str | PathLike[str]) -> None:
         """Writes the files of the problem, the certificate and the grouping to `folder`.
@@ -107,27 +158,36 @@ class Answer:
         if self.groups:
             files.write(place, files.GROUPING, tables.grouping_lines(self.problem, self.groups))
         if self.certificate is not None:
-            (place / files.CERTIFICATE).write_text(self.certificate, "ascii", newline="\n")
+            files.write_text(place / files.CERTIFICATE, self.certificate)
             lines += ["In this folder the certificate is checked by:", ""]
             told = f"--certificate {files.CERTIFICATE} --budget {UNBOUNDED}"
             lines += [f"countygroups check {words} {told}"]
         files.write(place, README, lines)
 
-    def _summary(self) -> list[str]:
+    def summary(self) -> list[str]:
         """Returns what was asked and what the outcome is, in lines."""
         counts = " ".join(map(str, self.counts)) or "none"
         told = f"{self.outcome}: {len(self.groups)} groups, counts {counts}"
         return [*self.problem.summary(), told if self.groups else self.outcome]
 
+    def _repr_html_(self) -> str:
+        """Returns the summary and a table of the groups, as a notebook shows them."""
+        return pages.html_of(self)
+
     def __repr__(self) -> str:
         """Returns the summary in one line."""
-        return f"<countygroups.Answer: {'; '.join(self._summary())}>"
+        return f"<countygroups.Answer: {'; '.join(self.summary())}>"
 
     def __str__(self) -> str:
         """Returns the summary, each group by its counties' names, and the program's messages."""
         numbered = enumerate(self.groups, 1)
         lines = [f"{number}: {self.problem.group_line(one)}" for number, one in numbered]
-        return "\n".join([*self._summary(), *lines, *self.messages])
+        return "\n".join([*self.summary(), *lines, *self.messages])
+
+
+def group_of(groups: Grouping, problem: Problem) -> dict[Label, Group]:
+    """Returns the group of each county of a grouping, and the withdrawn sets, by labels."""
+    return {label: one for one in [*groups, *problem.withdrawn] for label in one.counties}
 
 
 def answer_of(problem: Problem, stored: Stored, certificate: str | None) -> Answer:
@@ -149,5 +209,5 @@ def checked(problem: Problem, certificate: str) -> Answer:
     program gives no answer.
     """
     words = ["--certificate", files.CERTIFICATE, "--budget", UNBOUNDED]
-    stored = problem.run("check", words, certificate)
+    stored = problem.run("check", words, {files.CERTIFICATE: certificate})
     return answer_of(problem, stored, certificate)

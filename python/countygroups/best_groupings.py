@@ -5,26 +5,33 @@ from collections.abc import Sequence
 from typing import overload
 
 from . import files, texts
+from .codes import Label
 from .groups import Group, Grouping, ListedGroup, Region
-from .problem import Problem
+from .problem import Problem, Stored
 
 # The checker counts its steps. A certificate bounds them, so that this number stops nobody.
 UNBOUNDED = str(2**64 - 1)
 
 
+def sets_of(grouping: Sequence[Group]) -> set[frozenset[Label]]:
+    """Returns the sets of counties of a grouping."""
+    return {frozenset(group.counties) for group in grouping}
+
+
 class BestGroupings(Sequence[Grouping]):
     """Has all best groupings, in the order of their numbers.
 
-    Place 0 is the grouping that the program calls number 1. Each is asked of the program when it is
-    first needed. `shared` has the groups of all of them, and `regions` the choices.
+    Place 0 is the grouping that the program calls number 1. All are asked of the program at once,
+    when the first of them is needed. `shared` has the groups of all of them, and `regions` the
+    choices.
     """
 
     def __init__(self, problem: Problem, certificate: str) -> None:
         self._problem = problem
         self._certificate = certificate
-        self._found: dict[int, Grouping] = {}
-        text = self._list([])[0]
-        listing = texts.read_list(text)
+        self._people = {county.label: county.people for county in problem.counties}
+        self._found: list[Grouping] | None = None
+        listing = texts.read_list(self._list([]).run.output)
         self._number = listing.number
         self.shared = tuple(self._listed(one) for one in listing.shared)
         self.regions = tuple(self._region(one) for one in listing.regions)
@@ -48,36 +55,36 @@ class BestGroupings(Sequence[Grouping]):
         at = place + len(self) if place < 0 else place
         if not 0 <= at < len(self):
             raise IndexError(f"There are {len(self)} best groupings, and none at place {place}.")
-        if at not in self._found:
-            self._found[at] = self._grouping(at + 1)
-        return self._found[at]
+        return self._all()[at]
 
     def number_of(self, grouping: Sequence[Group]) -> int:
         """Returns the number of a grouping, from 1, by its sets alone.
 
         Raises `ValueError` if it is no best grouping.
         """
-        wanted = {frozenset(group.counties) for group in grouping}
-        for number, one in enumerate(self, 1):
-            if {frozenset(group.counties) for group in one} == wanted:
+        wanted = sets_of(grouping)
+        for number, one in enumerate(self._all(), 1):
+            if sets_of(one) == wanted:
                 return number
         raise ValueError("No best grouping has these groups.")
 
-    def _list(self, words: list[str]) -> tuple[str, str]:
-        """Returns the text of the list, and that of the grouping if the words ask for one."""
+    def _list(self, words: list[str]) -> Stored:
+        """Runs `list` with more words."""
         whole = ["--certificate", files.CERTIFICATE, "--budget", UNBOUNDED, *words]
-        stored = self._problem.run("list", whole, self._certificate)
-        return stored.run.output, stored.texts.get(files.GROUPING, "")
+        return self._problem.run("list", whole, {files.CERTIFICATE: self._certificate})
 
-    def _grouping(self, number: int) -> Grouping:
-        """Returns the grouping of a number, from 1."""
-        text = self._list(["--number", str(number), "--out", files.GROUPING])[1]
-        people = {county.label: county.people for county in self._problem.counties}
-        found = []
-        for seats, codes in texts.read_grouping(text):
-            labels = self._labels(codes)
-            found.append(Group(labels, seats, sum(people[label] for label in labels)))
-        return tuple(found)
+    def _all(self) -> list[Grouping]:
+        """Returns all groupings, by the program's table of all of them."""
+        if self._found is None:
+            stored = self._list(["--groupings", files.GROUPINGS])
+            coded = texts.read_groupings(stored.texts[files.GROUPINGS])
+            self._found = [tuple(self._group(*one) for one in groups) for groups in coded]
+        return self._found
+
+    def _group(self, seats: int, codes: tuple[str, ...]) -> Group:
+        """Returns a group by its labels."""
+        labels = self._labels(codes)
+        return Group(labels, seats, sum(self._people[label] for label in labels))
 
     def _labels(self, codes: tuple[str, ...]) -> tuple[object, ...]:
         """Returns the labels of codes."""

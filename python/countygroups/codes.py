@@ -11,8 +11,9 @@ Label = Hashable
 
 # No state has this code. It stands in codes that are made up.
 MADE_UP_STATE = "99"
-MOST_COUNTIES = 999
-GEOID = re.compile(r"[0-9]{5}")
+MOST_COUNTIES = 256
+# A GEOID, also as data.census.gov writes it: 0500000US37183, where 050 stands for a county.
+GEOID = re.compile(r"(?:050[0-9A-Z]{4}US)?([0-9]{5})")
 CODE_IN_TEXT = re.compile(r"\b[0-9]{5}\b")
 
 
@@ -42,9 +43,13 @@ def plain(value: Any) -> Any:
 
 
 def geoid_of(label: Label) -> str | None:
-    """Returns the five digits of a label that is a GEOID, as a text or as a number, or `None`."""
-    if isinstance(label, str) and GEOID.fullmatch(label):
-        return label
+    """Returns the five digits of a label that is a GEOID, as a text or as a number, or `None`.
+
+    A text may have what data.census.gov writes before the digits, as in 0500000US37183.
+    """
+    found = GEOID.fullmatch(label) if isinstance(label, str) else None
+    if found:
+        return found[1]
     if isinstance(label, int) and not isinstance(label, bool) and 1001 <= label <= 99999:
         return f"{label:05d}"
     return None
@@ -54,12 +59,12 @@ def codes_of(labels: Sequence[Label]) -> Codes:
     """Returns the codes of the labels, which have to differ.
 
     If all are GEOIDs of one state, these are the codes. Else codes are made up, in the order of the
-    labels. Raises `InputError` if there are more than 999 labels, or if one stands twice.
+    labels. Raises `InputError` if there are more than 256 labels, or if one stands twice.
     """
     if len(labels) > MOST_COUNTIES:
-        raise InputError(
-            f"There are {len(labels)} counties, and at most {MOST_COUNTIES} have codes."
-        )
+        told = f"There are {len(labels)} counties, and the program takes at most {MOST_COUNTIES}"
+        remedy = "If these are precincts or blocks, say by county= where the county of each stands"
+        raise InputError(f"{told}. {remedy}.")
     twice = next((label for place, label in enumerate(labels) if label in labels[:place]), None)
     if twice is not None:
         raise InputError(f"County {twice!r} stands twice.")

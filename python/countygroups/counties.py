@@ -2,16 +2,30 @@
 from __future__ import annotations
 
 import math
+import os
+import re
 from dataclasses import dataclass
 from typing import Any, Hashable, Iterable, Mapping, Sequence, Tuple, Union
 
 from .codes import Label, plain
 from .errors import InputError
 
-# Where the label, the people and the name of a county stand, if nothing else is said.
+# Where the label, the people and the name of a county stand, if nothing else is said: the first of
+# these that is there. A label may also be the state's and the county's digits of two fields.
 LABEL_FIELD = "GEOID"
+LABEL_FIELDS = (LABEL_FIELD, "GEOID20", "GEOID10", "GEO_ID", "GEOIDFQ", "GEOIDFQ20", "FIPS")
+STATE_AND_COUNTY = (
+    ("STATEFP", "COUNTYFP"),
+    ("STATEFP20", "COUNTYFP20"),
+    ("STATEFP10", "COUNTYFP10"),
+    ("STATE", "COUNTY"),
+    ("state", "county"),
+)
 PEOPLE_FIELD = "people"
-NAME_FIELD = "NAME"
+NAME_FIELDS = ("NAME", "NAME20", "NAME10")
+
+# A whole number, also with commas at each third digit.
+WHOLE = re.compile(r"[0-9]+|[0-9]{1,3}(?:,[0-9]{3})+")
 
 # A field, or a dict or a Series from labels to people.
 People = Union[str, Mapping[Any, Any], None]
@@ -51,6 +65,11 @@ def is_table(given: Any) -> bool:
     return hasattr(given, "columns") and hasattr(given, "index") and hasattr(given, "to_dict")
 
 
+def is_series(given: Any) -> bool:
+    """Returns whether this is a column of a table, as pandas has it."""
+    return hasattr(given, "index") and hasattr(given, "to_frame") and hasattr(given, "items")
+
+
 def is_graph(given: Any) -> bool:
     """Returns whether this is a graph as networkx and GerryChain have them."""
     return hasattr(given, "nodes") and hasattr(given, "edges")
@@ -59,22 +78,13 @@ def is_graph(given: Any) -> bool:
 def read_counties(
     given: Any, people: People = None, label: str | None = None, name: str | None = None
 ) -> CountyTable:
-    """Returns the counties of a table, a graph or a dict.
+    """Returns the counties of a table, a graph, a dict, or a Series of people.
 
     `label`, `people` and `name` are the columns of a table, or the attributes of a node or of a
     value. `people` may also be a dict from labels to people. Raises `InputError` if a field isn't
     there, if people are no whole number, or if `given` is something else.
     """
-    if is_table(given):
-        usual = people if isinstance(people, str) else PEOPLE_FIELD
-        rows = _rows_of_table(given, [label or LABEL_FIELD, usual, name or NAME_FIELD])
-    elif is_graph(given):
-        rows = [(plain(node), dict(given.nodes[node])) for node in given.nodes]
-    elif isinstance(given, Mapping):
-        rows = [_row_of_item(plain(key), value) for key, value in given.items()]
-    else:
-        told = f"{type(given).__name__} is no table, no graph and no dict of counties"
-        raise InputError(f"{told}: see `help(countygroups.solve)`.")
+    rows = rows_of(given)
     counties = _counties_of(rows, people, label, name)
     label_of = {key: county.label for (key, _), county in zip(rows, counties)}
     return CountyTable(
@@ -85,9 +95,28 @@ def read_counties(
     )
 
 
-def _rows_of_table(table: Any, fields: Iterable[str]) -> list[Row]:
-    """Returns the rows of a table: the index, and the values of the wanted columns."""
-    columns = {field: table[field].tolist() for field in fields if field in table.columns}
+def rows_of(given: Any) -> list[Row]:
+    """Returns the rows of a table, the nodes of a graph, or the items of a dict or a Series.
+
+    Raises `InputError` if it is something else.
+    """
+    if is_table(given):
+        return _rows_of_table(given)
+    if is_graph(given):
+        return [(plain(node), dict(given.nodes[node])) for node in given.nodes]
+    if isinstance(given, Mapping) or is_series(given):
+        return [_row_of_item(plain(key), value) for key, value in given.items()]
+    if isinstance(given, (str, os.PathLike)):
+        told = f"{os.fspath(given)} is a path, and no counties"
+        raise InputError(f"{told}: read it by geopandas.read_file, pandas.read_csv or read_census.")
+    told = f"{type(given).__name__} is no table, no graph, no dict and no Series of counties"
+    raise InputError(f"{told}: see `help(countygroups.solve)`.")
+
+
+def _rows_of_table(table: Any) -> list[Row]:
+    """Returns the rows of a table: the index, and the values of the columns but for shapes."""
+    shapes = table.geometry.name if hasattr(table, "geom_type") else None
+    columns = {field: table[field].tolist() for field in table.columns if field != shapes}
     return [
         (plain(key), {field: values[place] for field, values in columns.items()})
         for place, key in enumerate(table.index)
@@ -110,17 +139,15 @@ def _counties_of(
     """Returns the county of each row."""
     if not rows:
         raise InputError("There is no county.")
-    labels = [plain(one) for one in _column(rows, label, LABEL_FIELD) or [key for key, _ in rows]]
-    names = _column(rows, name, NAME_FIELD) or labels
+    labels = _labels_of(rows, label)
+    names = _column(rows, name, *NAME_FIELDS) or labels
     if people is not None and not isinstance(people, str):
         number_of = {plain(one): number for one, number in people.items()}
         numbers = [number_of.get(one) for one in labels]
     else:
         found = _column(rows, people, PEOPLE_FIELD)
         if found is None:
-            raise InputError(
-                f'There is no "{PEOPLE_FIELD}": say by people= where the people stand.'
-            )
+            raise InputError(_no_people(rows))
         numbers = found
     return [
         County(one, whole_people(one, number), str(named))
@@ -128,26 +155,65 @@ def _counties_of(
     ]
 
 
-def _column(rows: Sequence[Row], asked: str | None, usual: str) -> list[Any] | None:
-    """Returns the values of a field, or `None` if the usual one isn't there and none was asked."""
-    field = asked or usual
-    lacking = [key for key, attributes in rows if field not in attributes]
-    if not lacking:
-        return [attributes[field] for _, attributes in rows]
-    if asked is None and len(lacking) == len(rows):
-        return None
-    if len(lacking) == len(rows):
-        raise InputError(f'There is no column or attribute "{field}".')
-    raise InputError(f'County {lacking[0]!r} has no "{field}".')
+def _no_people(rows: Sequence[Row]) -> str:
+    """Returns the words that say that no field has the people, and which fields there are."""
+    fields = [str(field) for field in rows[0][1]]
+    known = f" The fields are {', '.join(fields)}." if fields else ""
+    return f'There is no "{PEOPLE_FIELD}": say by people= where the people stand.{known}'
+
+
+def _labels_of(rows: Sequence[Row], asked: str | None) -> list[Label]:
+    """Returns the label of each row: that of a field, or of two, or else the row's key."""
+    found = _column(rows, asked, *LABEL_FIELDS)
+    if found is None:
+        found = next(filter(None, (_joined(rows, *pair) for pair in STATE_AND_COUNTY)), None)
+    return [plain(one) for one in (found or [key for key, _ in rows])]
+
+
+def _joined(rows: Sequence[Row], state: str, county: str) -> list[Any] | None:
+    """Returns the GEOIDs of a field of states and one of counties, or `None` if they have none.
+
+    Raises `InputError` if a row is that of a whole state.
+    """
+    codes = []
+    for key, attributes in rows:
+        parts = [str(plain(attributes.get(field, ""))) for field in (state, county)]
+        if not (parts[0].isdecimal() and parts[1].isdecimal()):
+            return None
+        codes.append(f"{parts[0]:0>2}{parts[1]:0>3}")
+        if codes[-1].endswith("000"):
+            raise InputError(f"Row {key!r} is that of a state, not of a county: leave it out.")
+    return codes if all(len(code) == 5 for code in codes) else None
+
+
+def _column(rows: Sequence[Row], asked: str | None, *usual: str) -> list[Any] | None:
+    """Returns the values of a field: that which is asked, or else the first usual one.
+
+    Returns `None` if none was asked and no row has a usual one. Raises `InputError` if a row lacks
+    the field.
+    """
+    fields = [asked] if asked else list(usual)
+    field = next((one for one in fields if any(one in row for _, row in rows)), None)
+    if field is None:
+        if asked is None:
+            return None
+        raise InputError(f'There is no column or attribute "{asked}".')
+    for key, attributes in rows:
+        if field not in attributes:
+            raise InputError(f'County {key!r} has no "{field}".')
+    return [attributes[field] for _, attributes in rows]
 
 
 def whole_people(label: Label, value: Any) -> int:
     """Returns the people of a county as a whole number. Raises `InputError` if it is none."""
     number = plain(value)
-    if isinstance(number, str) and number.strip().isdecimal():
-        number = int(number)
+    if isinstance(number, str) and WHOLE.fullmatch(number.strip()):
+        number = int(number.replace(",", ""))
     if isinstance(number, float) and math.isfinite(number) and number.is_integer():
         number = int(number)
     if not isinstance(number, int) or isinstance(number, bool) or number < 0:
-        raise InputError(f"The people of county {label!r} are {value!r}, which is no whole number.")
+        told = f"The people of county {label!r} are {value!r}, which is no whole number"
+        is_heading = isinstance(number, str) and not any(sign.isdigit() for sign in number)
+        remedy = ": if this is a second heading, leave that row out" if is_heading else ""
+        raise InputError(f"{told}{remedy}.")
     return number

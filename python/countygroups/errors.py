@@ -1,7 +1,13 @@
 """The errors of this package."""
 from __future__ import annotations
 
+import sys
+import warnings
+from pathlib import Path
+from types import FrameType
 from typing import Sequence
+
+HERE = str(Path(__file__).resolve().parent)
 
 
 class CountyGroupsError(Exception):
@@ -14,6 +20,23 @@ class InputError(CountyGroupsError, ValueError):
 
 class ProgramNotFound(CountyGroupsError):
     """Says in a sentence where the program was looked for."""
+
+
+class TimeLimitError(CountyGroupsError, TimeoutError):
+    """Says that the time that was allowed is over. The program was ended."""
+
+
+class CountyGroupsWarning(UserWarning):
+    """Tells what may be wrong with what was given, though there is an answer."""
+
+
+def warn(told: str) -> None:
+    """Warns of `told` as `CountyGroupsWarning`, at the line that called this package."""
+    level = 1
+    frame: FrameType | None = sys._getframe()
+    while frame is not None and frame.f_code.co_filename.startswith(HERE):
+        level, frame = level + 1, frame.f_back
+    warnings.warn(told, CountyGroupsWarning, stacklevel=level)
 
 
 class NoBestGrouping(CountyGroupsError):

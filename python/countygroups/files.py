@@ -4,9 +4,10 @@ from __future__ import annotations
 import csv
 import io
 from pathlib import Path
-from typing import Iterable, Sequence
+from typing import Iterable, Mapping, Sequence
 
-from .adjacency import Adjacency, Pair
+from .adjacency import Adjacency
+from .borders import Pair
 from .codes import Codes
 from .counties import County
 
@@ -17,17 +18,30 @@ LINKS = "links.txt"
 WITHDRAWN = "withdrawn.txt"
 CERTIFICATE = "certificate.txt"
 GROUPING = "grouping.txt"
+GROUPINGS = "groupings.csv"
+ASSIGNMENTS = "assignments.csv"
 LABELS = "labels.csv"
+# The files that the program stores.
+STORED = (CERTIFICATE, GROUPING, GROUPINGS)
 
 # The fields of a line of a geographic header, from 1, and how many such a line has.
-SUMLEV, GEOCOMP, LOGRECNO, STATE, COUNTY, NAME = 3, 5, 8, 13, 15, 88
+SUMLEV, GEOCOMP, LOGRECNO, GEOCODE, STATE, COUNTY, NAME = 3, 5, 8, 10, 13, 15, 88
 GEO_FIELDS = 97
 
 
 def write(folder: Path, name: str, lines: Iterable[str]) -> None:
     """Writes lines to a file of `folder`, each with one LF at its end."""
-    text = "".join(f"{line}\n" for line in lines)
-    (folder / name).write_text(text, encoding="utf-8", newline="\n")
+    write_text(folder / name, text_of(lines))
+
+
+def text_of(lines: Iterable[str]) -> str:
+    """Returns lines as a text, each with one LF at its end."""
+    return "".join(f"{line}\n" for line in lines)
+
+
+def write_text(path: Path, text: str) -> None:
+    """Writes a text in UTF-8 to the file at `path`, with LF as its line ends on every system."""
+    path.write_bytes(text.encode())
 
 
 def cleaned(name: str) -> str:
@@ -38,16 +52,37 @@ def cleaned(name: str) -> str:
 def geo_line(record: int, code: str, name: str) -> str:
     """Returns the line of a county in a geographic header."""
     fields = {SUMLEV: "050", GEOCOMP: "00", LOGRECNO: f"{record:07d}", NAME: cleaned(name)}
-    fields.update({STATE: code[:2], COUNTY: code[2:]})
+    return line_of({**fields, STATE: code[:2], COUNTY: code[2:]})
+
+
+def block_line(record: int, code: str) -> str:
+    """Returns the line of a block, whose code has fifteen digits, in a geographic header."""
+    fields = {SUMLEV: "750", GEOCOMP: "00", LOGRECNO: f"{record:07d}", GEOCODE: code}
+    return line_of({**fields, STATE: code[:2]})
+
+
+def line_of(fields: Mapping[int, str]) -> str:
+    """Returns the line of a geographic header with these fields, by their places from 1."""
     return "|".join(fields.get(place, "") for place in range(1, GEO_FIELDS + 1))
+
+
+def people_line(record: int, people: int) -> str:
+    """Returns the line of a record in segment 1."""
+    return f"||||{record:07d}|{people}"
+
+
+def county_lines(counties: Sequence[County], codes: Codes) -> tuple[list[str], list[str]]:
+    """Returns the lines of the counties in the geographic header and in segment 1."""
+    numbered = list(enumerate(counties, 1))
+    geo = [geo_line(record, codes.code_of[one.label], one.name) for record, one in numbered]
+    return geo, [people_line(record, county.people) for record, county in numbered]
 
 
 def write_counties(folder: Path, counties: Sequence[County], codes: Codes) -> None:
     """Writes the geographic header and segment 1."""
-    numbered = list(enumerate(counties, 1))
-    geo = [geo_line(record, codes.code_of[one.label], one.name) for record, one in numbered]
+    geo, segment = county_lines(counties, codes)
     write(folder, GEO, geo)
-    write(folder, SEGMENT, [f"||||{record:07d}|{county.people}" for record, county in numbered])
+    write(folder, SEGMENT, segment)
 
 
 def write_adjacency(folder: Path, adjacency: Adjacency, codes: Codes) -> None:
@@ -70,4 +105,4 @@ def write_labels(folder: Path, counties: Sequence[County], codes: Codes) -> None
     table = csv.writer(text, lineterminator="\n")
     table.writerow(["CODE", "LABEL", "NAME"])
     table.writerows([codes.code_of[one.label], one.label, one.name] for one in counties)
-    (folder / LABELS).write_text(text.getvalue(), encoding="utf-8", newline="\n")
+    write_text(folder / LABELS, text.getvalue())

@@ -5,23 +5,17 @@ import os
 import platform
 import re
 import shutil
-import subprocess
-import tempfile
+import time
 from dataclasses import dataclass
 from pathlib import Path
 from typing import Callable, Sequence
 
 from .errors import ProgramNotFound
-
-try:
-    import pty
-    import tty
-except ImportError:  # a system without pseudo terminals
-    HAS_TERMINALS = False
-else:
-    HAS_TERMINALS = True
+from .running import HAS_TERMINALS, run_on_terminal, run_watched
 
 VARIABLE = "COUNTYGROUPS"
+# Where the program lies: in the package that was installed, or in the repository of this folder.
+INSIDE = Path(__file__).resolve().parent / "bin"
 DIST = Path(__file__).resolve().parents[2] / "dist"
 NATIVE = "countygroups-x86_64-linux"
 BY_NODE = "countygroups.mjs"
@@ -40,7 +34,7 @@ class Progress:
 
     `most_counties` is the greatest size of the round's groups, `counts` has the counts of the best
     grouping so far (of groups of up to 16 counties), `steps` were taken of `allowed` ones. `line`
-    is what the program wrote.
+    is what the program wrote. As long as it wrote nothing, numbers are 0 and `line` is empty.
     """
 
     most_counties: int
@@ -51,6 +45,7 @@ class Progress:
 
 
 Tell = Callable[[Progress], object]
+NOTHING_YET = Progress(0, (), 0, 0, "")
 
 
 @dataclass(frozen=True)
@@ -79,6 +74,14 @@ class TerminalText:
         self.kept: list[bytes] = []
         self.line = b""
         self.is_told = False
+        self.last = NOTHING_YET
+        self.told_at = time.monotonic()
+
+    def idle(self) -> None:
+        """Tells the last progress again if nothing was told for a second."""
+        if time.monotonic() - self.told_at >= 1:
+            self.told_at = time.monotonic()
+            self.tell(self.last)
 
     def write(self, text: bytes) -> None:
         """Takes the next bytes."""
@@ -95,6 +98,7 @@ class TerminalText:
         found = None if self.is_told else progress_of(part.decode(errors="replace"))
         if found:
             self.is_told = True
+            self.last, self.told_at = found, time.monotonic()
             self.tell(found)
 
     def text(self) -> bytes:
@@ -109,22 +113,32 @@ class Program:
 
     command: tuple[str, ...]
 
-    def run(self, words: Sequence[str], folder: Path, tell: Tell | None = None) -> Run:
+    def run(
+        self,
+        words: Sequence[str],
+        folder: Path,
+        tell: Tell | None = None,
+        seconds: float | None = None,
+    ) -> Run:
         """Runs the program in `folder` and returns what it wrote.
 
         If `tell` is given, it is called about once a second with the progress, where the system
-        has pseudo terminals. If it raises an error, the run ends and the error is raised. Raises
-        `ProgramNotFound` if the program can't be started.
+        has pseudo terminals. If it raises an error, the run ends and the error is raised. Whatever
+        ends this process ends the program, too, and removes `folder`. Raises `TimeLimitError` if
+        there is no answer after `seconds`, and `ProgramNotFound` if it can't be started.
         """
         whole = [*self.command, *words]
         try:
             if tell and HAS_TERMINALS:
-                status, output, errors = _run_on_terminal(whole, folder, tell)
-            else:
-                done = subprocess.run(
-                    whole, cwd=folder, stdin=subprocess.DEVNULL, capture_output=True, check=False
+                terminal = TerminalText(tell)
+                status, output = run_on_terminal(
+                    whole, folder, seconds, terminal.write, terminal.idle
                 )
-                status, output, errors = done.returncode, done.stdout, done.stderr
+                errors = terminal.text()
+            else:
+                status, output, errors = run_watched(whole, folder, seconds)
+        except TimeoutError:
+            raise
         except OSError as fault:
             told = f"The program {self.command[0]} can't be started: {fault.strerror}."
             raise ProgramNotFound(told) from fault
@@ -132,43 +146,25 @@ class Program:
         return Run(status, output.decode(errors="replace"), tuple(messages))
 
 
-def _run_on_terminal(command: list[str], folder: Path, tell: Tell) -> tuple[int, bytes, bytes]:
-    """Runs a command whose standard error is a terminal."""
-    ours, theirs = pty.openpty()
-    tty.setraw(theirs)
-    terminal = TerminalText(tell)
-    with open(ours, "rb", buffering=0) as reader, tempfile.TemporaryFile() as output:
-        try:
-            process = subprocess.Popen(
-                command, cwd=folder, stdin=subprocess.DEVNULL, stdout=output, stderr=theirs
-            )
-        finally:
-            os.close(theirs)
-        try:
-            while text := _read(reader.fileno()):
-                terminal.write(text)
-            status = process.wait()
-        finally:
-            process.kill()
-            process.wait()
-        output.seek(0)
-        return status, output.read(), terminal.text()
-
-
-def _read(terminal: int) -> bytes:
-    """Returns the next bytes of a terminal, or none once its other end is closed."""
-    try:
-        return os.read(terminal, 65536)
-    except OSError:
-        return b""
-
-
 def find_program(given: str | os.PathLike[str] | None = None) -> Program:
-    """Returns the program: the one that is given, that of `COUNTYGROUPS`, of `dist/` or the path.
+    """Returns the program that is run.
 
-    `dist/` is the folder of the repository in which this package lies. A name that ends in `.mjs`
-    is started by Node. Raises `ProgramNotFound` if there is none.
+    It is the one that is given, or that of the variable `COUNTYGROUPS`, or that inside this
+    package, or that of `dist/` of the repository in which this package lies, or `countygroups` on
+    the path. Node starts a name that ends in `.mjs`. Raises `ProgramNotFound` if there is none.
     """
+    found = program_without_path(given)
+    on_path = shutil.which("countygroups")
+    if found is None and on_path:
+        found = _started(on_path)
+    if found is None:
+        told = "There is no program in this package, and no countygroups on the path"
+        raise ProgramNotFound(f"{told}: {VARIABLE} in the environment, or program=, names one.")
+    return found
+
+
+def program_without_path(given: str | os.PathLike[str] | None = None) -> Program | None:
+    """Returns the program that is run if none on the path is looked for, or `None`."""
     named = os.fspath(given) if given is not None else os.environ.get(VARIABLE)
     if named:
         path = shutil.which(named)
@@ -177,14 +173,11 @@ def find_program(given: str | os.PathLike[str] | None = None) -> Program:
             raise ProgramNotFound(f"There is no program {named}.")
         return _started(os.path.abspath(found))
     is_linux = (platform.system(), platform.machine()) == ("Linux", "x86_64")
-    for file in [DIST / NATIVE, DIST / BY_NODE] if is_linux else [DIST / BY_NODE]:
+    names = [NATIVE, BY_NODE] if is_linux else [BY_NODE]
+    for file in (folder / name for folder in (INSIDE, DIST) for name in names):
         if file.is_file():
             return _started(str(file))
-    on_path = shutil.which("countygroups")
-    if on_path:
-        return _started(on_path)
-    told = "There is no program in dist/ of the repository, and no countygroups on the path"
-    raise ProgramNotFound(f"{told}: {VARIABLE} in the environment, or program=, names one.")
+    return None
 
 
 def _started(path: str) -> Program:
@@ -193,5 +186,6 @@ def _started(path: str) -> Program:
         return Program((path,))
     node = shutil.which("node")
     if not node:
-        raise ProgramNotFound(f"{path} needs Node, and there is no `node` on the path.")
+        told = "needs Node 20 or later, and there is no `node` on the path"
+        raise ProgramNotFound(f"{path} {told}: nodejs.org has it.")
     return Program((node, path))

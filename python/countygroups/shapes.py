@@ -30,6 +30,11 @@ def valid(shape: Any) -> Any:
     return make_valid(shape)
 
 
+def union_of(shapes: Any) -> Any:
+    """Returns the union of the shapes of a GeoSeries, by geopandas 1.0 or before."""
+    return shapes.union_all() if hasattr(shapes, "union_all") else shapes.unary_union
+
+
 def may_touch(one: Bounds, other: Bounds) -> bool:
     """Returns whether two boxes touch, each of west, south, east and north."""
     west, south = max(one[0], other[0]), max(one[1], other[1])

@@ -11,13 +11,20 @@ from .groups import Group, Grouping
 from .problem import Problem
 
 GROUP_COLUMNS = ["GROUP", "SEATS", "GROUP_POPULATION", "COLOUR"]
+# What stands before the name of such a column if the user's table has one of that name.
+OWN = "COUNTYGROUPS_"
 
 
 def rows_of(problem: Problem, groups: Grouping) -> list[dict[str, Any]]:
-    """Returns a row for each county, in the order of the counties."""
+    """Returns a row for each county, in the order of the counties.
+
+    A group is a number, so that a legend sorts it. With withdrawn sets all are texts.
+    """
     sets = [*groups, *problem.withdrawn]
-    numbers = [str(number) for number in range(1, len(groups) + 1)]
-    names = numbers + [f"W{number}" for number in range(1, len(problem.withdrawn) + 1)]
+    names: list[Any] = list(range(1, len(groups) + 1))
+    if problem.withdrawn:
+        names = [str(number) for number in names]
+        names += [f"W{number}" for number in range(1, len(problem.withdrawn) + 1)]
     colours = colours_of(sets, problem.adjacency.neighbours())
     set_of: dict[Any, dict[str, Any]] = {}
     for one, named, colour in zip(sets, names, colours):
@@ -44,7 +51,8 @@ def frame_of(problem: Problem, rows: list[dict[str, Any]]) -> Any:
         return pandas.DataFrame(rows)
     frame = problem.table.frame.copy()
     for column in GROUP_COLUMNS:
-        frame[column] = [row[column] for row in rows]
+        name = OWN + column if column in problem.table.frame.columns else column
+        frame[name] = [row[column] for row in rows]
     return frame
 
 

@@ -1,9 +1,11 @@
 """What the program's reports and lists say, as values. Counties are codes here."""
 from __future__ import annotations
 
+import csv
+import io
 import re
 from dataclasses import dataclass, field
-from typing import Iterator
+from typing import Iterator, Tuple
 
 from .errors import CountyGroupsError
 
@@ -11,6 +13,9 @@ GROUP = re.compile(r"group [0-9]+ seats ([0-9]+) people ([0-9]+) counties((?: [0
 LISTED = re.compile(
     r"group seats ([0-9]+)(?: to ([0-9]+))? people ([0-9]+) counties((?: [0-9]{5})+)"
 )
+
+# The seats and the codes of a group.
+CodedSet = Tuple[int, Tuple[str, ...]]
 
 
 @dataclass(frozen=True)
@@ -111,7 +116,19 @@ def _listed_group_of(line: str) -> CodedGroup:
     return CodedGroup(tuple(found[4].split()), int(found[3]), least, int(found[2] or least))
 
 
-def read_grouping(text: str) -> list[tuple[int, tuple[str, ...]]]:
-    """Returns the seats and the codes of each line of a grouping text."""
-    rows = [line.split("|") for line in text.splitlines()]
-    return [(int(seats), tuple(codes)) for seats, *codes in rows]
+def read_groupings(text: str) -> list[list[CodedSet]]:
+    """Returns the seats and the codes of each group of each grouping of the program's table.
+
+    The groups stand in the order of their numbers. Withdrawn sets, such as W1, are left out.
+    """
+    found: dict[int, dict[int, tuple[int, list[str]]]] = {}
+    for row in csv.DictReader(io.StringIO(text)):
+        groups = found.setdefault(int(row["GROUPING"]), {})
+        if not row["GROUP"].startswith("W"):
+            _, codes = groups.setdefault(int(row["GROUP"]), (int(row["SEATS"]), []))
+            codes.append(row["GEOID"])
+    ordered = [groups for _, groups in sorted(found.items())]
+    return [
+        [(seats, tuple(codes)) for _, (seats, codes) in sorted(groups.items())]
+        for groups in ordered
+    ]

@@ -34,13 +34,6 @@ def counties() -> Any:
     return frame
 
 
-def pairs_without_edge() -> list[tuple[str, str]]:
-    """Returns the adjacent pairs without an edge in common, most of which meet over water."""
-    lines = (DATA / "borders_without_an_edge.txt").read_text(encoding="utf-8").splitlines()[1:]
-    rows = [line.split("|") for line in lines]
-    return [(row[1], row[3]) for row in rows]
-
-
 def draw(answer: countygroups.Answer, picture: str) -> None:
     """Draws the groups with their seats, and stores the picture."""
     frame = answer.to_geodataframe()
@@ -77,7 +70,7 @@ def main(words: list[str]) -> int:
         print(__doc__, end="", file=sys.stderr)
         return 2
     matplotlib.use("Agg")
-    answer = countygroups.solve(counties(), 50, added=pairs_without_edge())
+    answer = countygroups.solve(counties(), 50)
     print(answer)
     print(f"{len(answer.best_groupings)} best groupings")
     draw(answer, words[0])

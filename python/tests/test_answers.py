@@ -6,10 +6,13 @@ import tempfile
 import unittest
 from pathlib import Path
 from typing import Any
+from unittest import mock
 
 import countygroups
-from countygroups import CertificateError, InputError, NoBestGrouping, ProgramError
+from countygroups import CertificateError, CountyGroupsWarning, InputError, NoBestGrouping
+from countygroups import ProgramError
 from countygroups.best_groupings import UNBOUNDED
+from countygroups.program import Program
 from tests import setting
 from tests.setting import needs_program, sets_of, solved_path
 
@@ -87,7 +90,8 @@ class SmallProblems(unittest.TestCase):
         self.assertEqual(answer.to_rows()[0]["GROUP"], "W1")
 
     def test_impossible(self) -> None:
-        answer = countygroups.solve({"A": 50, "B": 50}, 1, adjacency=[])
+        with self.assertWarnsRegex(CountyGroupsWarning, "No two of the 2 counties are adjacent"):
+            answer = countygroups.solve({"A": 50, "B": 50}, 1, adjacency=[])
         self.assertEqual((answer.outcome, answer.groups), ("impossible", ()))
         self.assertEqual(answer.check(), "impossible")
         self.assertRaises(NoBestGrouping, answer.grouping)
@@ -121,9 +125,8 @@ class SmallProblems(unittest.TestCase):
 
     def test_words_of_the_program(self) -> None:
         cases: list[tuple[dict[str, Any], int, str]] = [
-            ({"tolerance": "3/4"}, 4, "refused problem BadWindow"),
             ({"withdrawn": [("A", 1), ("A", 1)]}, 4, "99001 is A"),
-            ({"steps": "many"}, 2, "invalid value 'many'"),
+            ({"withdrawn": [("A", 9)]}, 4, "refused problem"),
         ]
         for words, status, told in cases:
             with self.subTest(words=words), self.assertRaises(ProgramError) as raised:
@@ -131,9 +134,42 @@ class SmallProblems(unittest.TestCase):
             self.assertEqual(raised.exception.status, status)
             self.assertIn(told, str(raised.exception))
 
-    def test_too_many_counties(self) -> None:
-        with self.assertRaisesRegex(ProgramError, "refused problem TooManyCounties"):
-            countygroups.solve({number: 1 for number in range(257)}, 1, adjacency=[])
+    def test_words_of_the_package(self) -> None:
+        """No error speaks of the options of the command line."""
+        cases: list[tuple[dict[str, Any], str]] = [
+            ({"tolerance": "3/4"}, "has to be 0 to 1/2; 0.05 is five percent"),
+            ({"tolerance": 5}, "The tolerance is 5, and has to be 0 to 1/2"),
+            ({"steps": "many"}, "The steps are 'many', which is no whole number"),
+            ({"steps": -1}, "The steps are -1, and have to be 0 to"),
+        ]
+        for words, told in cases:
+            with self.subTest(words=words), self.assertRaisesRegex(InputError, told):
+                solved_path(**words)
+        for seats in (0, 1001):
+            with self.assertRaisesRegex(InputError, "have to be 1 to 1,000"):
+                countygroups.solve({"A": 1}, seats, adjacency=[])
+        self.assertEqual(solved_path(steps=1e6).outcome, "best")
+
+    def test_all_best_groupings_by_one_call(self) -> None:
+        """However many there are, the program runs twice: for the list, and for all of them."""
+        answer = countygroups.solve(setting.carolina(), setting.SENATE, adjacency=setting.BORDERS)
+        with mock.patch.object(Program, "run", autospec=True, side_effect=Program.run) as run:
+            best = answer.best_groupings
+            self.assertEqual(len(list(best)), setting.PUBLISHED[setting.SENATE][0])
+            best.number_of(best[-1])
+        self.assertEqual(run.call_count, 2)
+
+    def test_warning_of_the_program(self) -> None:
+        """By the law of the chamber, D's people suit 2 seats, so that 1 seat is warned of."""
+        with self.assertWarnsRegex(
+            CountyGroupsWarning, "withdrawn: the set of 1 seat .*99004 is D"
+        ):
+            solved_path(withdrawn=[("D", 1)])
+
+    def test_shown_in_a_notebook(self) -> None:
+        found = solved_path(withdrawn=[("D", 2)])._repr_html_()
+        self.assertIn("<td>2</td><td>1</td><td>100</td><td>A, B</td>", found)
+        self.assertIn("<td>W1</td><td>2</td><td>200</td><td>D</td>", found)
 
     def test_saved_folder(self) -> None:
         answer = solved_path(cut=[("A", "D")], withdrawn=[("D", 2)])

@@ -2,9 +2,11 @@
 from __future__ import annotations
 
 import contextlib
+import importlib.util
 import io
 import os
 import re
+import sys
 import tempfile
 import unittest
 import warnings
@@ -15,6 +17,7 @@ from tests.setting import needs_program
 from tests.test_packages import needs
 
 TOP = Path(__file__).resolve().parents[2]
+STAND_IN = Path(__file__).resolve().parent / "stand_in"
 BLOCK = re.compile(r"^```python\n(.*?)^```\n(?:\n```text\n(.*?)^```\n)?", re.M | re.S)
 
 
@@ -49,6 +52,14 @@ class Documents(unittest.TestCase):
 
     def test_readme(self) -> None:
         self.run_document("python/README.md")
+
+    def test_gerrychain(self) -> None:
+        """Runs the tutorial by GerryChain, or else by what stands in for it."""
+        if importlib.util.find_spec("gerrychain") is None:
+            print("gerrychain isn't installed: its calls are those of tests/stand_in")
+            sys.path.insert(0, str(STAND_IN))
+            self.addCleanup(sys.path.remove, str(STAND_IN))
+        self.run_document("python/gerrychain.md")
 
 
 if __name__ == "__main__":

@@ -1,12 +1,14 @@
 """Tests of what is given: counties, people, labels, adjacency, withdrawn sets, the tolerance."""
 from __future__ import annotations
 
+import os
 import tempfile
 import unittest
 from decimal import Decimal
 from fractions import Fraction
 from pathlib import Path
 from typing import Any
+from unittest import mock
 
 from countygroups import InputError, ProgramNotFound, find_program, read_census
 from countygroups.adjacency import adjacency_of
@@ -16,6 +18,7 @@ from countygroups.counties import County, read_counties
 from countygroups.files import geo_line
 from countygroups.groups import Group
 from countygroups.problem import Problem, problem_of, tolerance_of
+from countygroups.program import program_without_path
 from tests import setting
 
 
@@ -46,7 +49,7 @@ class Counties(unittest.TestCase):
     def test_refused(self) -> None:
         cases: list[tuple[Any, dict[str, Any], str]] = [
             ({}, {}, "no county"),
-            ([1, 2], {}, "no table, no graph and no dict"),
+            ([1, 2], {}, "no table, no graph, no dict and no Series"),
             ({"a": {}}, {}, 'no "people"'),
             ({"a": {}}, {"people": "votes"}, 'no column or attribute "votes"'),
             ({"a": {"people": 1}, "b": {}}, {}, "County 'b' has no \"people\""),
@@ -95,8 +98,8 @@ class Labels(unittest.TestCase):
     def test_refused(self) -> None:
         with self.assertRaisesRegex(InputError, "'a' stands twice"):
             codes_of(["a", "b", "a"])
-        with self.assertRaisesRegex(InputError, "1000 counties"):
-            codes_of(list(range(1000)))
+        with self.assertRaisesRegex(InputError, "257 counties, .* at most 256. If these are prec"):
+            codes_of(list(range(257)))
 
 
 class Pairs(unittest.TestCase):
@@ -130,7 +133,8 @@ class Pairs(unittest.TestCase):
             (5, self.table, "says nothing"),
             (setting.BORDERS, self.table, "takes GEOIDs"),
             ("no such file", carolina, "can't be read"),
-            (setting.OUTLINES, carolina, "second field"),
+            (setting.OUTLINES, carolina, "is JSON. Of a dual graph give the graph"),
+            (setting.DATA / "borders_source.txt", carolina, "second field"),
         ]:
             with self.subTest(told=told), self.assertRaisesRegex(InputError, told):
                 adjacency_of(given, table)
@@ -168,7 +172,7 @@ class Problems(unittest.TestCase):
         self.assertEqual(found["adjacency.txt"][0], "|99001||99002")
         self.assertEqual(found["links.txt"], ["-|99001|99002"])
         self.assertEqual(found["withdrawn.txt"], ["2|99004", "1|99001|99002"])
-        self.assertEqual(problem.words()[-4:], ["--part", "1", "--of", "10"])
+        self.assertIn("--part 1 --of 10", " ".join(problem.words()))
 
     def test_line_of_a_county(self) -> None:
         fields = geo_line(3, "37183", "Wa|ke\n").split("|")
@@ -188,6 +192,20 @@ class Problems(unittest.TestCase):
         told = repr(path_problem(cut=[("C", "D")], withdrawn=[("D", 2)]))
         self.assertIn("4 seats, 4 counties, 400 people, tolerance 1/20; adjacency: 3 pairs", told)
         self.assertIn("without a neighbour: D; withdrawn: 2 seats, 200 people: D", told)
+
+    def test_command_does_not_start_itself(self) -> None:
+        """A package without a program, whose command lies on the path, finds no program."""
+        with tempfile.TemporaryDirectory() as room:
+            command = Path(room) / "countygroups"
+            command.write_text("#!/bin/sh\nexit 7\n", encoding="ascii")
+            command.chmod(0o755)
+            nowhere = Path(room) / "nowhere"
+            with mock.patch.dict("os.environ", {"PATH": room}), mock.patch.multiple(
+                "countygroups.program", INSIDE=nowhere, DIST=nowhere
+            ):
+                os.environ.pop("COUNTYGROUPS", None)
+                self.assertIsNone(program_without_path())
+                self.assertEqual(find_program().command, (str(command),))
 
     def test_no_program(self) -> None:
         with self.assertRaisesRegex(ProgramNotFound, "no program /nowhere/countygroups"):

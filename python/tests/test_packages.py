@@ -3,10 +3,11 @@ from __future__ import annotations
 
 import importlib.util
 import unittest
+import warnings
 from typing import Any
 
 import countygroups
-from countygroups import InputError
+from countygroups import CountyGroupsWarning, InputError
 from countygroups.adjacency import adjacency_of
 from countygroups.counties import read_counties
 from countygroups.shapes import contacts_of
@@ -32,7 +33,8 @@ def outlines() -> Any:
 
 def senate() -> countygroups.Answer:
     """Returns the answer for the Senate, by the outlines and the pairs that have no edge there."""
-    return countygroups.solve(outlines(), setting.SENATE, added=setting.pairs_without_edge())
+    added = setting.pairs_without_edge()
+    return countygroups.solve(outlines(), setting.SENATE, adjacency="edges", added=added)
 
 
 def square(x: int, y: int) -> Any:
@@ -89,7 +91,7 @@ class Tables(unittest.TestCase):
             read_counties(table, people="TOTPOP")
 
 
-@needs("geopandas", "shapely")
+@needs("geopandas", "shapely", "matplotlib")
 class Shapes(unittest.TestCase):
     """Tests tables with shapes."""
 
@@ -122,7 +124,8 @@ class Shapes(unittest.TestCase):
         table = read_counties(outlines())
         listed = adjacency_of(setting.BORDERS, table)
         edges = adjacency_of("edges", table, added=setting.pairs_without_edge())
-        points = adjacency_of("points", table)
+        with self.assertWarnsRegex(CountyGroupsWarning, "differ"):
+            points = adjacency_of("points", table)
         self.assertEqual(len(edges.listed), 227)
         self.assertEqual(edges.pairs, listed.pairs)
         self.assertEqual(len(points.pairs - edges.listed), 19)
@@ -153,6 +156,64 @@ class Shapes(unittest.TestCase):
         self.assertEqual(frame.geometry.area.sum(), 4)
         with self.assertRaisesRegex(InputError, "'D' has no shape"):
             setting.solved_path().to_geodataframe(shapes=dict(list(shape_of.items())[:3]))
+
+    @needs_program
+    def test_senate_by_default(self) -> None:
+        """Without adjacency= the counties of North Carolina have the border list."""
+        with warnings.catch_warnings():
+            warnings.simplefilter("error", CountyGroupsWarning)
+            answer = countygroups.solve(outlines(), setting.SENATE)
+        self.assertEqual(answer.counts, setting.SENATE_COUNTS)
+        self.assertEqual(len(answer.adjacency.pairs), 244)
+        self.assertIn("North Carolina's border list", str(answer.adjacency))
+
+    def test_edges_of_carolina_are_warned_of(self) -> None:
+        table = read_counties(outlines())
+        with self.assertWarnsRegex(CountyGroupsWarning, "lack 17 .*Dare and Tyrrell.* add 0 .none"):
+            adjacency_of("edges", table)
+        with warnings.catch_warnings():
+            warnings.simplefilter("error", CountyGroupsWarning)
+            adjacency_of("edges", table, added=setting.pairs_without_edge())
+
+    def test_other_shapes_are_warned_of(self) -> None:
+        import geopandas
+
+        shapes = [square(x, y) for x in (0, 1) for y in (0, 1)]
+        frame = geopandas.GeoDataFrame({"people": [1] * 4, "NAME": list("abcd")}, geometry=shapes)
+        with self.assertWarnsRegex(CountyGroupsWarning, "over water, .*: a and d, b and c"):
+            adjacency_of(None, read_counties(frame))
+
+    @needs_program
+    def test_own_columns_stay(self) -> None:
+        frame = outlines().assign(GROUP="mine", COLOUR="red")
+        found = countygroups.solve(frame, setting.SENATE).to_geodataframe()
+        self.assertEqual(set(found["GROUP"]), {"mine"})
+        self.assertEqual(set(found["COUNTYGROUPS_GROUP"]), set(range(1, 27)))
+        self.assertEqual(found["SEATS"].max(), 6)
+
+    @needs_program
+    def test_precincts_with_shapes(self) -> None:
+        """Two squares for each county of the path, in a row, are joined by county."""
+        import geopandas
+
+        counties = [name for name in setting.PATH_PEOPLE for _ in range(2)]
+        people = [setting.PATH_PEOPLE[name] // 2 for name in counties]
+        shapes = [square(place, 0) for place in range(8)]
+        frame = geopandas.GeoDataFrame({"C": counties, "POP": people}, geometry=shapes)
+        with self.assertWarnsRegex(CountyGroupsWarning, "over water"):
+            answer = countygroups.solve(frame, 4, county="C", people="POP")
+        self.assertEqual(answer.adjacency.pairs, set(setting.PATH_PAIRS))
+        self.assertEqual((answer.counts, len(answer.to_geodataframe())), ((2, 1), 4))
+        self.assertEqual(answer.to_geodataframe().geometry.area.sum(), 8)
+
+    @needs_program
+    def test_map(self) -> None:
+        import matplotlib
+
+        matplotlib.use("Agg")
+        axes = senate().plot()
+        seats = [int(text.get_text()) for text in axes.texts]
+        self.assertEqual((len(seats), sum(seats)), (26, setting.SENATE))
 
 
 @needs("networkx")

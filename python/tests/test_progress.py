@@ -6,7 +6,8 @@ import time
 import unittest
 from pathlib import Path
 
-from countygroups.program import HAS_TERMINALS, CLEAR, Progress, Run, TerminalText, find_program
+from countygroups.program import CLEAR, Progress, Run, TerminalText, find_program
+from countygroups.running import HAS_TERMINALS
 
 LINE = "countygroups: groups of up to 9 counties, best counts so far 2 0 1 .., 50 of 100 steps"
 WANTED = Progress(9, (2, 0, 1), 50, 100, LINE)
@@ -57,12 +58,25 @@ class Runs(unittest.TestCase):
         self.assertEqual(
             self.run_script(script, told.append), Run(3, "answer best\n", ("a warning",))
         )
-        self.assertEqual(told, [WANTED])
+        self.assertEqual([one for one in told if one.line], [WANTED])
         self.assertEqual(self.run_script(script, None).status, 9)
+
+    def test_told_while_the_program_tells_nothing(self) -> None:
+        """The callback can end a program that writes no progress."""
+        told: list[Progress] = []
+
+        def stop(progress: Progress) -> None:
+            """Raises `Stopped` the second time."""
+            told.append(progress)
+            if len(told) == 2:
+                raise Stopped
+
+        self.assertRaises(Stopped, self.run_script, "exec sleep 30", stop)
+        self.assertEqual(told, [Progress(0, (), 0, 0, "")] * 2)
 
     def test_stopped_by_the_callback(self) -> None:
         def stop(_: Progress) -> None:
-            """Raises `Stopped` at the first line that is shown."""
+            """Raises `Stopped` at the first call."""
             raise Stopped
 
         begun = time.monotonic()

@@ -1,13 +1,18 @@
 # Counties and their codes.
 
-# Where the label, the people and the name of a county stand, if nothing else is said.
-label_column <- "GEOID"
+# Where the label, the people and the name of a county stand, if nothing else is said: the first of
+# these that is there. A label may also be the state's and the county's digits of two columns.
+label_columns <- c("GEOID", "GEOID20", "GEOID10", "GEO_ID", "GEOIDFQ", "GEOIDFQ20", "FIPS")
+state_and_county <- list(
+  c("STATEFP", "COUNTYFP"), c("STATEFP20", "COUNTYFP20"), c("STATEFP10", "COUNTYFP10"),
+  c("STATE", "COUNTY"), c("state", "county")
+)
 people_column <- "people"
-name_column <- "NAME"
+name_columns <- c("NAME", "NAME20", "NAME10")
 
 # No state has this code. It stands in codes that are made up.
 made_up_state <- 99
-most_counties <- 999
+most_counties <- 256
 
 # Returns a data frame with the columns `label`, `people` and `name`.
 #
@@ -21,23 +26,43 @@ read_counties <- function(counties, people = NULL, label = NULL, name = NULL) {
     stop_input("`counties` is no data frame, no sf object and no named vector of people.")
   }
   if (nrow(counties) == 0) stop_input("There is no county.")
-  labels <- column_of(counties, label, label_column)
+  labels <- column_of(counties, label, label_columns)
+  if (is.null(labels)) labels <- joined_codes(counties)
   if (is.null(labels)) labels <- row.names(counties)
   if (is.factor(labels)) labels <- as.character(labels)
-  names <- column_of(counties, name, name_column)
+  names <- column_of(counties, name, name_columns)
   if (is.null(names)) names <- labels
   found <- people_of(counties, people, labels)
   data.frame(label = labels, people = found, name = as.character(names), stringsAsFactors = FALSE)
 }
 
-# Returns the values of a column, or `NULL` if the usual one isn't there and none was asked.
+# Returns the values of the column that is asked, or else of the first usual one that is there, or
+# `NULL`.
 column_of <- function(counties, asked, usual) {
-  column <- if (is.null(asked)) usual else asked
-  if (!column %in% names(counties)) {
-    if (is.null(asked)) return(NULL)
-    stop_input("There is no column \"", column, "\".")
+  if (!is.null(asked)) {
+    if (!asked %in% names(counties)) stop_input("There is no column \"", asked, "\".")
+    return(counties[[asked]])
   }
-  counties[[column]]
+  found <- intersect(usual, names(counties))
+  if (length(found) == 0) return(NULL)
+  counties[[found[1]]]
+}
+
+# Returns the GEOIDs of a column of states and one of counties, or `NULL` if there are none. Stops
+# if a row is that of a whole state.
+joined_codes <- function(counties) {
+  for (pair in state_and_county) {
+    if (!all(pair %in% names(counties))) next
+    parts <- lapply(pair, function(name) as.character(counties[[name]]))
+    if (!all(grepl("^[0-9]+$", unlist(parts)))) next
+    codes <- sprintf("%02d%03d", as.integer(parts[[1]]), as.integer(parts[[2]]))
+    wrong <- which(endsWith(codes, "000"))
+    if (length(wrong) > 0) {
+      stop_input("Row ", wrong[1], " is that of a state, not of a county: leave it out.")
+    }
+    if (all(nchar(codes) == 5)) return(codes)
+  }
+  NULL
 }
 
 # Returns the people of each county as whole numbers.
@@ -50,7 +75,10 @@ people_of <- function(counties, people, labels) {
       stop_input("There is no column \"people\": say by `people =` where the people stand.")
     }
   }
-  numbers <- suppressWarnings(as.numeric(as.character(found)))
+  words <- trimws(as.character(found))
+  has_commas <- grepl("^[0-9]{1,3}(,[0-9]{3})+$", words)
+  words[has_commas] <- gsub(",", "", words[has_commas], fixed = TRUE)
+  numbers <- suppressWarnings(as.numeric(words))
   wrong <- which(!is.finite(numbers) | numbers < 0 | numbers != floor(numbers))
   if (length(wrong) > 0) {
     told <- paste0(" are ", found[wrong[1]], ", which is no whole number.")
@@ -65,8 +93,8 @@ people_of <- function(counties, people, labels) {
 # made up, in the order of the labels.
 codes_of <- function(labels) {
   if (length(labels) > most_counties) {
-    told <- paste0(" counties, and at most ", most_counties, " have codes.")
-    stop_input("There are ", length(labels), told)
+    told <- " counties, and the program takes at most 256. If these are precincts or blocks, add"
+    stop_input("There are ", length(labels), told, " up their people by county first.")
   }
   twice <- anyDuplicated(labels)
   if (twice > 0) stop_input("County ", labels[twice], " stands twice.")
@@ -80,13 +108,15 @@ codes_of <- function(labels) {
   )
 }
 
-# Returns the five digits of each label that is a GEOID, and `NA` for the others.
+# Returns the five digits of each label that is a GEOID, and `NA` for the others. A text may have
+# what data.census.gov writes before the digits, as in 0500000US37183.
 geoids_of <- function(labels) {
   if (is.numeric(labels)) {
     is_code <- labels == floor(labels) & labels >= 1001 & labels <= 99999
     return(ifelse(is_code, sprintf("%05.0f", labels), NA_character_))
   }
-  ifelse(grepl("^[0-9]{5}$", labels), labels, NA_character_)
+  digits <- sub("^050[0-9A-Z]{4}US", "", labels)
+  ifelse(grepl("^[0-9]{5}$", digits), digits, NA_character_)
 }
 
 # Returns the labels of codes.

@@ -2,14 +2,15 @@
 
 county_groups <- function(counties, seats, people = NULL, adjacency = NULL, added = NULL,
                           cut = NULL, withdrawn = NULL, tolerance = NULL, label = NULL,
-                          name = NULL, steps = NULL, progress = interactive(), program = NULL) {
+                          name = NULL, steps = NULL, timeout = Inf, progress = interactive(),
+                          program = NULL) {
   problem <- problem_of(
     counties, seats, people, adjacency, added, cut, withdrawn, tolerance, label, name, program
   )
   message("adjacency: ", adjacency_words(problem$adjacency))
   words <- c("--certificate", "certificate.txt")
-  if (!is.null(steps)) words <- c(words, "--steps", plain(steps))
-  run <- run_program(problem, "solve", words, progress = progress)
+  if (!is.null(steps)) words <- c(words, "--steps", plain(whole_number(steps, 0, 2^53, "steps")))
+  run <- run_program(problem, "solve", words, progress = progress, timeout = timeout)
   answer_of(problem, run, if (length(run$certificate) > 0) run$certificate)
 }
 
@@ -24,8 +25,27 @@ answer_of <- function(problem, run, certificate) {
       pairs = labelled_pairs(problem), source = adjacency_words(problem$adjacency)
     ),
     messages = run$messages,
+    ideal = ideal_of(problem),
+    district_bounds = bounds_of(problem),
     problem = problem
   ), class = "county_groups")
+}
+
+# Returns the ideal population of a district of the chamber: its people over its seats.
+ideal_of <- function(problem) {
+  sum(problem$table$people) / problem$seats
+}
+
+# Returns the least and the greatest number of people that a district may have. The products are
+# whole numbers that R counts exactly.
+bounds_of <- function(problem) {
+  people <- sum(problem$table$people)
+  part <- problem$tolerance[1]
+  whole <- problem$tolerance[2]
+  below <- people * (whole - part)
+  above <- people * (whole + part)
+  over <- whole * problem$seats
+  c(least = below %/% over + (below %% over > 0), greatest = above %/% over)
 }
 
 # Returns the pairs that count, by labels.
@@ -39,18 +59,35 @@ check_certificate <- function(answer, certificate = answer$certificate) {
   if (is.null(certificate)) {
     stop_with("countygroups_no_grouping", "The steps ran out, so there is no certificate.")
   }
-  run <- run_program(answer$problem, "check", certificate_words, certificate)
+  given <- list(certificate.txt = certificate)
+  run <- run_program(answer$problem, "check", certificate_words, given)
   answer_of(answer$problem, run, certificate)
 }
 
 best_groupings <- function(answer) {
-  read_list(run_list(answer)$output, answer$problem$codes)
+  run <- run_list(answer, c("--groupings", "groupings.csv"))
+  found <- read_list(run$output, answer$problem$codes)
+  found$groupings <- read_groupings(run$groupings, answer$problem$table, answer$problem$codes)
+  found
 }
 
 best_grouping <- function(answer, number) {
-  words <- c("--number", plain(number), "--out", "grouping.txt")
-  found <- run_list(answer, words)$grouping
-  read_grouping(found, answer$problem$table, answer$problem$codes)
+  groupings <- best_groupings(answer)$groupings
+  number <- whole_number(number, 1, length(groupings), "number")
+  groupings[[number]]
+}
+
+grouping_number <- function(answer, groups) {
+  wanted <- sorted_sets(groups)
+  is_equal <- vapply(best_groupings(answer)$groupings, function(one) {
+    identical(sorted_sets(one), wanted)
+  }, TRUE)
+  if (any(is_equal)) which(is_equal)[1] else NA_integer_
+}
+
+# Returns the sets of counties of groups, in an order of their own.
+sorted_sets <- function(groups) {
+  sort(vapply(groups$counties, function(one) paste(sort(as.character(one)), collapse = "\r"), ""))
 }
 
 # Returns the best grouping of a number, or without a number the groups of the answer.
@@ -70,7 +107,8 @@ run_list <- function(answer, words = character()) {
     told <- paste0("The outcome is ", answer$outcome, ", so no grouping is known as best.")
     stop_with("countygroups_no_grouping", told)
   }
-  run_program(answer$problem, "list", c(certificate_words, words), answer$certificate)
+  given <- list(certificate.txt = answer$certificate)
+  run_program(answer$problem, "list", c(certificate_words, words), given)
 }
 
 print.county_groups <- function(x, ...) {

@@ -16,6 +16,24 @@ stop_with <- function(class, message, ...) {
   stop(structure(list(message = message, call = NULL, ...), class = classes))
 }
 
+# Warns of what may be wrong though there is an answer.
+warn_user <- function(...) {
+  classes <- c("countygroups_warning", "warning", "condition")
+  warning(structure(list(message = paste0(...), call = NULL), class = classes))
+}
+
+# Warns of what the program warned of, with the labels of its codes. The package itself has warned
+# of counties without any border.
+warn_program <- function(messages, codes) {
+  sign <- "countygroups: warning: "
+  told <- substring(messages[startsWith(messages, sign)], nchar(sign) + 1)
+  for (one in told[!startsWith(told, "--adjacency ")]) {
+    one <- sub("^--([a-z]+) [a-z]+\\.txt:? ", "\\1: ", one)
+    legend <- legend_of(codes, one)
+    warn_user(one, if (length(legend) > 0) paste0(" (", paste(legend, collapse = ", "), ")"))
+  }
+}
+
 # Stops with the words of the program where it gave no answer. `run` has `status`, `output` and
 # `messages`. If codes stand for other labels, a line for each code of these words follows.
 stop_program <- function(run, codes) {

@@ -1,37 +1,53 @@
 # Files that are read and saved. `man/` has what these functions take and return.
 
 read_census <- function(geo, segment) {
-  rows <- fields_of(geo)
-  records <- fields_of(segment)
-  records <- records[lengths(records) >= 6]
-  people <- vapply(records, function(row) row[6], "")
-  names(people) <- vapply(records, function(row) row[5], "")
-  is_county <- vapply(rows, function(row) {
-    length(row) >= geo_fields["county"] &&
-      row[geo_fields["sumlev"]] == "050" && row[geo_fields["geocomp"]] == "00"
-  }, TRUE)
-  rows <- rows[is_county]
-  if (length(rows) == 0) stop_input("No line of ", geo, " is that of a county.")
-  field <- function(name) vapply(rows, function(row) row[geo_fields[name]], "")
-  geoid <- paste0(field("state"), field("county"))
-  found <- suppressWarnings(as.numeric(people[field("logrecno")]))
+  people <- people_of_segment(segment)
+  header <- header_of(geo)
+  header <- header[header$sumlev == "050" & header$geocomp == "00", ]
+  if (nrow(header) == 0) stop_input("No line of ", geo, " is that of a county.")
+  geoid <- paste0(header$state, header$county)
+  found <- suppressWarnings(as.numeric(people[header$logrecno]))
   if (anyNA(found)) {
     stop_input("County ", geoid[is.na(found)][1], " of ", geo, " has no people in ", segment, ".")
   }
-  name <- field("name")
-  data.frame(GEOID = geoid, NAME = ifelse(is.na(name) | name == "", geoid, name), people = found)
+  data.frame(GEOID = geoid, NAME = ifelse(header$name == "", geoid, header$name), people = found)
 }
 
-# Returns the fields at pipes of each line of a file in UTF-8. Stops if there is no file.
+# Returns the people of each record of segment 1, by the record's number: fields at pipes (2020) or
+# at commas (2010).
+people_of_segment <- function(path) {
+  records <- fields_of(path)
+  if (!any(lengths(records) >= 6)) records <- fields_of(path, ",")
+  records <- records[lengths(records) >= 6]
+  people <- vapply(records, function(row) row[6], "")
+  stats::setNames(people, vapply(records, function(row) row[5], ""))
+}
+
+# Returns the fields of a geographic header that are used: a data frame of texts.
+header_of <- function(path) {
+  rows <- fields_of(path)
+  fields <- if (any(lengths(rows) > 1)) {
+    lapply(geo_fields, function(place) {
+      words <- vapply(rows, function(row) row[place], "")
+      ifelse(is.na(words), "", words)
+    })
+  } else {
+    lines <- vapply(rows, function(row) if (length(row) > 0) row[1] else "", "")
+    lapply(geo_columns_2010, function(ends) trimws(substring(lines, ends[1], ends[2])))
+  }
+  data.frame(fields)
+}
+
+# Returns the fields at a sign of each line of a file in UTF-8. Stops if there is no file.
 #
 # Each byte that isn't UTF-8 becomes the sign U+FFFD: `strsplit` would lose such a line.
-fields_of <- function(path) {
+fields_of <- function(path, at = "|") {
   if (!file.exists(path)) stop_input("The file ", path, " can't be read.")
   sign <- "\ufffd"
   # (as a native text it isn't translated, whatever the locale)
   Encoding(sign) <- "unknown"
   lines <- readLines(path, warn = FALSE, encoding = "UTF-8")
-  strsplit(iconv(lines, "UTF-8", "UTF-8", sub = sign), "|", fixed = TRUE)
+  strsplit(iconv(lines, "UTF-8", "UTF-8", sub = sign), at, fixed = TRUE)
 }
 
 save_groups <- function(answer, folder) {
@@ -43,7 +59,9 @@ save_groups <- function(answer, folder) {
   )
   utils::write.csv(labels, file.path(folder, "labels.csv"), row.names = FALSE)
   lines <- c(summary_lines(answer), "", "The files of the problem, as the program reads them.")
-  if (nrow(answer$groups) > 0) write_lines(grouping_lines(answer), folder, "grouping.txt")
+  if (nrow(answer$groups) > 0) {
+    write_lines(grouping_lines(answer$groups, problem$codes), folder, "grouping.txt")
+  }
   if (!is.null(answer$certificate)) {
     write_lines(answer$certificate, folder, "certificate.txt")
     words <- c("countygroups check", problem_words(problem), certificate_words)
@@ -55,10 +73,11 @@ save_groups <- function(answer, folder) {
 }
 
 # Returns the lines of a grouping text.
-grouping_lines <- function(answer) {
-  codes <- answer$problem$codes
-  vapply(seq_len(nrow(answer$groups)), function(place) {
-    found <- codes$code[match(answer$groups$counties[[place]], codes$label)]
-    paste(c(plain(answer$groups$seats[place]), found), collapse = "|")
+grouping_lines <- function(groups, codes) {
+  vapply(seq_len(nrow(groups)), function(place) {
+    labels <- groups$counties[[place]]
+    found <- codes$code[match(as.character(labels), as.character(codes$label))]
+    if (anyNA(found)) stop_input("A group names ", labels[is.na(found)][1], ", which is no county.")
+    paste(c(plain(groups$seats[place]), found), collapse = "|")
   }, "")
 }

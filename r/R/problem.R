@@ -5,13 +5,18 @@ five_percent <- c(1, 20)
 # The fields of a line of a geographic header, from 1, and how many such a line has.
 geo_fields <- c(sumlev = 3, geocomp = 5, logrecno = 8, state = 13, county = 15, name = 88)
 most_geo_fields <- 97
+# Where a line of the header of 2010 has these fields: the first and the last sign, from 1.
+geo_columns_2010 <- list(
+  sumlev = c(9, 11), geocomp = c(12, 13), logrecno = c(19, 25), state = c(28, 29),
+  county = c(30, 32), name = c(227, 316)
+)
+# The field of a block's code of fifteen digits.
+block_field <- 10
 
 # Returns the problem of the words of `county_groups`.
 problem_of <- function(counties, seats, people, adjacency, added, cut, withdrawn, tolerance,
                        label, name, program) {
-  if (!is.numeric(seats) || length(seats) != 1 || !is.finite(seats) || seats != floor(seats)) {
-    stop_input("`seats` is no whole number.")
-  }
+  seats <- whole_number(seats, 1, 1000, "seats")
   table <- read_counties(counties, people, label, name)
   list(
     given = counties, table = table, seats = seats, codes = codes_of(table$label),
@@ -19,6 +24,18 @@ problem_of <- function(counties, seats, people, adjacency, added, cut, withdrawn
     withdrawn = lapply(withdrawn, withdrawn_set, table = table),
     tolerance = tolerance_of(tolerance), program = find_program(program)
   )
+}
+
+# Returns a whole number from `least` to `most`. Stops if it is none; `name` says what it is.
+whole_number <- function(given, least, most, name) {
+  if (!is.numeric(given) || length(given) != 1 || !is.finite(given) || given != floor(given)) {
+    stop_input("`", name, "` is no whole number.")
+  }
+  if (given < least || given > most) {
+    told <- paste0(", and has to be ", plain(least), " to ", plain(most), ".")
+    stop_input("`", name, "` is ", plain(given), told)
+  }
+  given
 }
 
 # Returns the seats and the places of a withdrawn set, given as `list(labels, seats)`.
@@ -42,6 +59,9 @@ tolerance_of <- function(given) {
   if (is.null(given)) return(five_percent)
   if (!is.numeric(given) || length(given) != 1 || !is.finite(given) || given < 0) {
     stop_input("`tolerance` is no number from 0 on.")
+  }
+  if (given > 0.5) {
+    stop_input("`tolerance` is ", given, ", and has to be 0 to 0.5; 0.05 is five percent.")
   }
   whole <- 1:1000
   part <- round(given * whole)
@@ -76,13 +96,17 @@ geo_lines <- function(table, codes) {
   apply(lines, 1, paste, collapse = "|")
 }
 
+# Returns the line of each county in segment 1.
+segment_lines <- function(table) {
+  sprintf("||||%07d|%s", seq_len(nrow(table)), plain(table$people))
+}
+
 # Writes the files of a problem to a folder, in the layouts of the program.
 write_problem <- function(problem, folder) {
   table <- problem$table
   code <- problem$codes$code
   write_lines(geo_lines(table, problem$codes), folder, "geo.pl")
-  segment <- sprintf("||||%07d|%s", seq_len(nrow(table)), plain(table$people))
-  write_lines(segment, folder, "segment1.pl")
+  write_lines(segment_lines(table), folder, "segment1.pl")
   listed <- problem$adjacency$listed
   write_lines(sprintf("|%s||%s", code[listed[, 1]], code[listed[, 2]]), folder, "adjacency.txt")
   if (has_links(problem)) write_lines(link_lines(problem), folder, "links.txt")
@@ -110,15 +134,17 @@ link_lines <- function(problem) {
   )
 }
 
-# Returns the words of a problem whose files lie in the working folder.
-problem_words <- function(problem) {
-  words <- c("--geo", "geo.pl", "--segment", "segment1.pl", "--adjacency", "adjacency.txt")
+# Returns the words of a problem for a command. The files of the problem lie in the working folder.
+problem_words <- function(problem, command = "solve") {
+  words <- c("--geo", "geo.pl", "--segment", "segment1.pl")
   words <- c(words, "--state", problem$codes$state, "--chamber", plain(problem$seats))
-  if (has_links(problem)) words <- c(words, "--links", "links.txt")
-  if (length(problem$withdrawn) > 0) words <- c(words, "--withdrawn", "withdrawn.txt")
   if (!identical(as.numeric(problem$tolerance), five_percent)) {
     tolerance <- plain(problem$tolerance)
     words <- c(words, "--part", tolerance[1], "--of", tolerance[2])
   }
+  if (command == "size") return(words)
+  words <- c(words, "--adjacency", "adjacency.txt")
+  if (has_links(problem)) words <- c(words, "--links", "links.txt")
+  if (length(problem$withdrawn) > 0) words <- c(words, "--withdrawn", "withdrawn.txt")
   words
 }

@@ -1,7 +1,7 @@
 # Finds the program and runs it.
 
-native_program <- file.path("dist", "countygroups-x86_64-linux")
-program_by_node <- file.path("dist", "countygroups.mjs")
+native_program <- "countygroups-x86_64-linux"
+program_by_node <- "countygroups.mjs"
 
 # Returns the words by which the program is started. `man/find_program.Rd` says where it is looked
 # for.
@@ -15,12 +15,14 @@ find_program <- function(program = NULL) {
   }
   system <- Sys.info()[c("sysname", "machine")]
   is_linux <- identical(unname(system), c("Linux", "x86_64"))
-  near <- c(if (is_linux) native_program, program_by_node)
+  names <- c(if (is_linux) native_program, program_by_node)
+  folders <- c(system.file("bin", package = "countygroups"), "dist")
+  near <- file.path(rep(folders[nzchar(folders)], each = length(names)), names)
   on_path <- unname(Sys.which("countygroups"))
   found <- c(near[file.exists(near)], on_path[nzchar(on_path)])
   if (length(found) > 0) return(started(found[1]))
   stop_no_program(
-    "There is no program in dist/ of the working folder, and no countygroups on the path: ",
+    "There is no program in this package, in dist/ of the working folder or on the path: ",
     "COUNTYGROUPS in the environment, or `program =`, names one."
   )
 }
@@ -30,46 +32,34 @@ started <- function(path) {
   path <- normalizePath(path)
   if (!grepl("\\.mjs$", path)) return(path)
   node <- unname(Sys.which("node"))
-  if (!nzchar(node)) stop_no_program(path, " needs Node, and there is no `node` on the path.")
+  if (!nzchar(node)) {
+    stop_no_program(path, " needs Node 20 or later, and there is no `node` on the path.")
+  }
   c(node, path)
 }
 
 # Runs a command over a problem in a folder of its own, with a certificate if given.
 #
+# `given` has the lines of more files by their names, and `timeout` bounds the run in seconds.
 # Returns `status`, `output` and `messages`, and the lines of the files that were stored as
-# `certificate` and `grouping`. If `progress`, standard error stays that of R, where the program
+# `certificate` and `groupings`. If `progress`, standard error stays that of R, where the program
 # shows its progress if it is a terminal. Stops with the program's words if it gives no answer.
-run_program <- function(problem, command, words, certificate = NULL, progress = FALSE) {
+run_program <- function(problem, command, words, given = list(), progress = FALSE, timeout = Inf) {
   room <- tempfile("countygroups")
   dir.create(room)
   on.exit(unlink(room, recursive = TRUE))
   write_problem(problem, room)
-  if (!is.null(certificate)) write_lines(certificate, room, "certificate.txt")
-  run <- run_in(room, problem$program, c(command, problem_words(problem), words), progress)
-  has_answer <- any(startsWith(run$output, "answer ")) && run$status %in% c(0, 1, 3)
-  if (!has_answer) stop_program(run, problem$codes)
+  for (name in names(given)) write_lines(given[[name]], room, name)
+  whole <- c(command, problem_words(problem, command), words)
+  run <- run_in(room, problem$program, whole, progress, timeout)
+  begins <- switch(command, size = "people ", audit = "findings ", c("answer ", "fault "))
+  is_answer <- vapply(begins, function(word) any(startsWith(run$output, word)), TRUE)
+  if (!any(is_answer) || !run$status %in% c(0, 1, 3)) stop_program(run, problem$codes)
+  warn_program(run$messages, problem$codes)
   run$certificate <- lines_of(file.path(room, "certificate.txt"))
-  run$grouping <- lines_of(file.path(room, "grouping.txt"))
+  run$groupings <- file.path(room, "groupings.csv")
+  if (file.exists(run$groupings)) {
+    run$groupings <- utils::read.csv(run$groupings, colClasses = "character")
+  }
   run
-}
-
-# Runs the program in a folder, and returns what it wrote.
-run_in <- function(folder, program, words, progress) {
-  texts <- c(tempfile("output"), tempfile("messages"))
-  here <- setwd(folder)
-  on.exit({
-    setwd(here)
-    unlink(texts)
-  })
-  errors <- if (progress) "" else texts[2]
-  kind <- if (.Platform$OS.type == "windows") "cmd" else "sh"
-  arguments <- shQuote(c(program[-1], words), type = kind)
-  status <- suppressWarnings(system2(program[1], arguments, stdout = texts[1], stderr = errors))
-  list(status = status, output = lines_of(texts[1]), messages = lines_of(texts[2]))
-}
-
-# Returns the lines of a file, or none if there is no file.
-lines_of <- function(path) {
-  if (!file.exists(path)) return(character())
-  readLines(path, warn = FALSE, encoding = "UTF-8")
 }

@@ -44,7 +44,9 @@ group_columns <- function(answer, number) {
   of_sets <- vapply(problem$withdrawn, function(one) one$seats, 0)
   seats <- c(groups$seats, of_sets)
   people <- tapply(problem$table$people, place, sum)
-  names <- c(sprintf("%d", seq_len(nrow(groups))), sprintf("W%d", seq_along(of_sets)))
+  # (numbers, so that a legend sorts them; with withdrawn sets all are texts)
+  names <- seq_len(nrow(groups))
+  if (length(of_sets) > 0) names <- c(sprintf("%d", names), sprintf("W%d", seq_along(of_sets)))
   colours <- set_colours(place, pairs_that_count(problem$adjacency))
   data.frame(
     GROUP = names[place], SEATS = seats[place], GROUP_POPULATION = as.vector(people[place]),
@@ -66,7 +68,7 @@ as_sf.county_groups <- function(answer, number = NULL, shapes = NULL, ...) {
   if (is.null(shapes)) {
     if (!inherits(given, "sf")) stop_input("The counties have no shapes: give `shapes =`, an sfc.")
     found <- group_columns(answer, number)
-    for (column in names(found)) given[[column]] <- found[[column]]
+    for (column in names(found)) given[[own_name(column, given)]] <- found[[column]]
     return(given)
   }
   frame <- as.data.frame(answer, number = number)
@@ -76,8 +78,21 @@ as_sf.county_groups <- function(answer, number = NULL, shapes = NULL, ...) {
   sf::st_sf(frame, geometry = shapes)
 }
 
-plot.county_groups <- function(x, number = NULL, shapes = NULL, main = NULL, ...) {
+# Returns the name that a column gets beside those of the user's table.
+own_name <- function(column, given) {
+  if (column %in% names(given)) paste0("COUNTYGROUPS_", column) else column
+}
+
+# Returns the frame of an answer with the columns of the groups by their usual names.
+drawn_frame <- function(x, number, shapes) {
   frame <- as_sf(x, number = number, shapes = shapes)
+  found <- group_columns(x, number)
+  for (column in names(found)) frame[[column]] <- found[[column]]
+  frame
+}
+
+plot.county_groups <- function(x, number = NULL, shapes = NULL, main = NULL, ...) {
+  frame <- drawn_frame(x, number, shapes)
   if (is.null(main)) {
     main <- paste(x$problem$seats, "seats in", length(unique(frame$GROUP)), "groups of counties")
   }

@@ -79,10 +79,18 @@ read_list <- function(lines, codes) {
   list(number = number, shared = shared, regions = regions)
 }
 
-# Returns the groups of a grouping text.
-read_grouping <- function(lines, table, codes) {
-  rows <- strsplit(lines, "|", fixed = TRUE)
-  counties <- lapply(rows, function(row) labels_of(codes, row[-1]))
-  people <- vapply(counties, function(one) sum(table$people[match(one, table$label)]), 0)
-  group_frame(seats = field_of(rows, 1), people = people, counties = counties)
+# Returns the groups of each grouping of the program's table, in their order: a list of data frames.
+# Withdrawn sets, such as W1, are left out.
+read_groupings <- function(found, table, codes) {
+  numbers <- unique(as.integer(found$GROUPING))
+  rows <- found[!startsWith(found$GROUP, "W"), ]
+  lapply(sort(numbers), function(number) {
+    one <- rows[as.integer(rows$GROUPING) == number, ]
+    groups <- sort(unique(as.integer(one$GROUP)))
+    place <- match(as.integer(one$GROUP), groups)
+    counties <- unname(split(labels_of(codes, one$GEOID), factor(place, seq_along(groups))))
+    people <- vapply(counties, function(set) sum(table$people[match(set, table$label)]), 0)
+    seats <- as.numeric(one$SEATS[match(groups, as.integer(one$GROUP))])
+    group_frame(seats = seats, people = people, counties = counties)
+  })
 }

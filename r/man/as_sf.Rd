@@ -29,7 +29,9 @@ counties came as an \code{sf} object}
 }
 \value{
 A copy of the \code{sf} object that was given, or a data frame, with these columns: \code{GROUP}
-(\code{"1"} on, and \code{"W1"} on for withdrawn sets), \code{SEATS} and \code{GROUP_POPULATION} of
-the group, and \code{COLOUR}, a number from 0 on that differs for adjacent groups. \code{plot}
-returns it invisibly.
+(a number from 1 on; if sets are withdrawn, the texts \code{"1"} on for groups and \code{"W1"} on for
+these sets), \code{SEATS} and \code{GROUP_POPULATION} of the group, and \code{COLOUR}, a number from 0
+on that differs for adjacent groups. If the \code{sf} object has a column of such a name, that column
+stays, and the new one is called \code{COUNTYGROUPS_GROUP} and so on. \code{plot} returns it
+invisibly.
 }

@@ -9,7 +9,8 @@ certificate, by the program \code{countygroups}.
 \usage{
 county_groups(counties, seats, people = NULL, adjacency = NULL, added = NULL,
               cut = NULL, withdrawn = NULL, tolerance = NULL, label = NULL,
-              name = NULL, steps = NULL, progress = interactive(), program = NULL)
+              name = NULL, steps = NULL, timeout = Inf, progress = interactive(),
+              program = NULL)
 
 \method{print}{county_groups}(x, ...)
 }
@@ -20,17 +21,22 @@ county_groups(counties, seats, people = NULL, adjacency = NULL, added = NULL,
 is said}
 \item{adjacency}{\code{"edges"} (shapes with an edge in common), \code{"points"} (also those that
 touch in a point), the path of a file in the layout of the Census Bureau's county adjacency file, a
-matrix or data frame of two columns of labels, a list of neighbours by label, or a list of
-neighbours by place as \code{sf} and \code{spdep} have them. If nothing is said, shapes have their
-common edges.}
+matrix or data frame of two columns of labels, a square matrix with a row for each county, a graph of
+\code{igraph}, a list of neighbours by label, or a list of neighbours by place as \code{sf},
+\code{spdep} and \code{redist} have them. If nothing is said, counties of North Carolina have the list
+of this package (see \code{\link{borders_source}}), and other shapes their common edges.}
 \item{added, cut}{pairs of labels that are then added and cut: two columns}
 \item{withdrawn}{a list of the sets that are taken out beforehand, each \code{list(labels, seats)}}
 \item{tolerance}{how much of the ideal population a district may miss; 0.05 if nothing is said. It
 has to be a fraction of at most 500 over at most 1000.}
-\item{label}{the column that labels counties; \code{"GEOID"} where it is there, else the row names.
+\item{label}{the column that labels counties. If nothing is said, it is the first of \code{"GEOID"},
+\code{"GEOID20"}, \code{"GEOID10"}, \code{"GEO_ID"} and \code{"FIPS"} that is there, or the codes of
+\code{"STATEFP"} and \code{"COUNTYFP"} or of \code{"state"} and \code{"county"}, or the row names.
 Labels that aren't GEOIDs of one state get codes for the program, and come back as labels.}
 \item{name}{the column of names for people to read; \code{"NAME"} where it is there, else the labels}
 \item{steps}{the most steps of the search; the program has 10,000,000}
+\item{timeout}{the most seconds of the search; then the error has the class
+\code{countygroups_time_limit}}
 \item{progress}{whether the program's lines for a person go to the terminal, with its progress once a
 second. If not, they are kept as \code{messages}.}
 \item{program}{the path of the program; see \code{\link{find_program}}}
@@ -40,7 +46,11 @@ second. If not, they are kept as \code{messages}.}
 \details{
 A message says which adjacency was taken. Shapes are compared in the plane of their coordinates.
 Shapes that were simplified one by one have lost their common edges, and shapes don't meet over
-water.
+water. So a warning of the class \code{countygroups_warning} names each pair in which shapes of North
+Carolina differ from the list of this package, and says of other shapes what they can't show. What
+the program warns of comes as such a warning, too.
+
+The law bounds a district by the ideal population of the chamber, and not by the mean of its group.
 
 If something can't be used, the error has the class \code{countygroups_input_error}. If the program
 gives no answer, the error has its words, with \code{status}, \code{line} and \code{messages}, and
@@ -56,6 +66,8 @@ and \code{"open"} if the steps ran out}
 \item{certificate}{the lines of the text that proves the outcome, or \code{NULL}}
 \item{adjacency}{the pairs that count, and their source in words}
 \item{messages}{what the program told a person}
+\item{ideal}{the ideal population of a district: the chamber's people over its seats}
+\item{district_bounds}{the least and the greatest number of people that a district may have}
 \item{problem}{what was asked}
 }
 \section{North Carolina's Senate}{
@@ -65,8 +77,7 @@ data <- "data/nc2020"
 census <- read_census(file.path(data, "nc2020geo.pl"), file.path(data, "nc000012020.pl"))
 outlines <- sf::st_read(file.path(data, "county_outlines.geojson"), quiet = TRUE)
 counties <- merge(outlines, census[c("GEOID", "people")])
-over_water <- read.delim(file.path(data, "borders_without_an_edge.txt"), sep = "|")[c(2, 4)]
-senate <- county_groups(counties, seats = 50, added = over_water)
+senate <- county_groups(counties, seats = 50)
 best_groupings(senate)$number   # 16, as published
 plot(senate)
 }

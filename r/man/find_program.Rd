@@ -3,7 +3,8 @@
 \title{Which program is run}
 \description{
 Finds the program: the one that is given, that of the variable \code{COUNTYGROUPS} of the
-environment, that of \code{dist/} in the working folder, or \code{countygroups} on the path.
+environment, that inside this package, that of \code{dist/} in the working folder, or
+\code{countygroups} on the path.
 }
 \usage{
 find_program(program = NULL)

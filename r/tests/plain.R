@@ -30,7 +30,33 @@ test("codes", {
   }
   expect_equal(input$legend_of(input$codes_of(c("Wake", "Lee")), "refused 99002"), "99002 is Lee")
   expect_refusal(input$codes_of(c("a", "a")), "a stands twice")
-  expect_refusal(input$codes_of(1:1000), "1000 counties")
+  expect_refusal(input$codes_of(1:257), "257 counties, and the program takes at most 256")
+})
+
+# The columns and texts of the Census Bureau's files, for the path of four counties.
+test("columns that have a county's code", {
+  geoids <- c("37001", "37003", "37005", "37007")
+  codes <- function(frame) input$codes_of(input$read_counties(frame)$label)$code
+  people <- unname(path_people)
+  for (name in c("GEOID", "GEOID20", "GEOID10", "FIPS")) {
+    expect_equal(codes(stats::setNames(data.frame(geoids, people), c(name, "people"))), geoids)
+  }
+  long <- data.frame(GEO_ID = paste0("0500000US", geoids), people = people)
+  expect_equal(codes(long), geoids)
+  expect_equal(input$read_counties(long)$label[1], "0500000US37001")
+  two <- data.frame(STATEFP = "37", COUNTYFP = substr(geoids, 3, 5), people = people)
+  expect_equal(codes(two), geoids)
+  numbers <- data.frame(state = 37, county = c(1, 3, 5, 7), people = people)
+  expect_equal(codes(numbers), geoids)
+  numbers$county[2] <- 0
+  expect_refusal(input$read_counties(numbers), "Row 2 is that of a state")
+})
+
+test("people with commas", {
+  frame <- data.frame(GEOID = c("a", "b"), people = c("1,129,410", " 12 "))
+  expect_equal(input$read_counties(frame)$people, c(1129410, 12))
+  frame$people[1] <- "1,12"
+  expect_refusal(input$read_counties(frame), "no whole number")
 })
 
 test("adjacency", {
@@ -55,8 +81,52 @@ test("adjacency", {
   refused(cbind("Alder", "Elm"), "names Elm, which is no county")
   refused("no such file", "takes GEOIDs")
   refused(5, "says nothing")
-  refused(places[1:2], "says nothing")
+  refused(list("x", "y"), "says nothing")
   refused(structure(list(0L), class = "nb"), "has 1 counties, not 4")
+})
+
+test("places from 0 and from 1, matrices, and files with tabs", {
+  table <- input$read_counties(path_people)
+  wanted <- cbind(1:3, 2:4)
+  listed <- function(given, counties = path_people, of = table) {
+    found <- input$adjacency_of(given, counties, of)$listed
+    found[order(found[, 1]), ]
+  }
+  expect_equal(listed(list(1, c(0, 2), c(1, 3), 2)), wanted)
+  expect_equal(listed(list(2, c(1, 3), c(2, 4), 3)), wanted)
+  expect_refusal(listed(list(2, 3, 2, 1)), "from 0 or from 1")
+  matrix <- matrix(0, 4, 4)
+  matrix[wanted] <- 1
+  expect_equal(listed(matrix), wanted)
+  path <- tempfile()
+  lines <- c("\"A\"\t37001\t\"A\"\t37001", "\t\t\"B\"\t37003", "\"B\"\t37003\t\"C\"\t37005")
+  writeLines(c(lines, "\t\t\"A\"\t37001", "\"C\"\t37005\t\"D\"\t37007"), path)
+  geoids <- stats::setNames(path_people, c("37001", "37003", "37005", "37007"))
+  expect_equal(listed(path, geoids, input$read_counties(geoids)), wanted)
+})
+
+if (requireNamespace("igraph", quietly = TRUE)) {
+  test("graphs of igraph", {
+    table <- input$read_counties(path_people)
+    named <- igraph::graph_from_edgelist(path_pairs, directed = FALSE)
+    found <- input$adjacency_of(named, path_people, table)$listed
+    expect_equal(found[order(found[, 1]), ], cbind(1:3, 2:4))
+    places <- igraph::graph_from_edgelist(cbind(1:3, 2:4), directed = FALSE)
+    expect_equal(input$adjacency_of(places, path_people, table)$listed, cbind(1:3, 2:4))
+    few <- igraph::graph_from_edgelist(cbind(1, 2), directed = FALSE)
+    expect_refusal(input$adjacency_of(few, path_people, table), "2 vertices without names")
+  })
+}
+
+test("the border list of North Carolina", {
+  known <- input$carried_geoids()
+  if (!is.null(known)) {
+    labels <- sort(unique(as.vector(known)))
+    expect_equal(c(length(labels), nrow(input$carried_pairs(labels))), c(100, 244))
+    table <- data.frame(label = labels, people = 1, name = labels)
+    expect_equal(nrow(input$adjacency_of(NULL, NULL, table)$listed), 244)
+    expect_equal(input$carried_pairs(c("37001", "45001")), NULL)
+  }
 })
 
 test("files that aren't UTF-8", {
@@ -82,12 +152,34 @@ test("files that aren't UTF-8", {
   expect_equal(found$listed, cbind(1, 2))
 })
 
+# The columns are those of the technical documentation of 2010.
+test("census files of 2010, also packed by gzip", {
+  line <- rep(" ", 500)
+  put <- function(place, text) {
+    line[seq(place, length.out = nchar(text))] <<- strsplit(text, "")[[1]]
+  }
+  put(9, "050")
+  put(12, "00")
+  put(19, "0000007")
+  put(28, "37183")
+  put(227, "Wake County")
+  geo <- tempfile(fileext = ".gz")
+  file <- gzfile(geo, "w")
+  writeLines(paste(line, collapse = ""), file)
+  close(file)
+  segment <- tempfile()
+  writeLines("PLST,NC,000,01,0000007,900993,900993", segment)
+  found <- read_census(geo, segment)
+  expect_equal(unlist(found[1, ]), c("37183", "Wake County", "900993"))
+})
+
 test("tolerance, seats and withdrawn sets", {
   expect_equal(input$tolerance_of(NULL), c(1, 20))
   expect_equal(input$tolerance_of(0.05), c(1, 20))
   expect_equal(input$tolerance_of(1 / 3), c(1, 3))
   expect_refusal(input$tolerance_of(-1), "tolerance")
-  expect_refusal(input$tolerance_of(pi), "no fraction")
+  expect_refusal(input$tolerance_of(pi), "has to be 0 to 0.5")
+  expect_refusal(input$tolerance_of(0.12345), "no fraction")
   table <- input$read_counties(path_people)
   expect_refusal(input$withdrawn_set("Alder", table), "a list of its counties")
   expect_refusal(input$withdrawn_set(list("Elm", 1), table), "names Elm")
@@ -110,7 +202,9 @@ if (has_program) {
     expect_equal(printed[6], "3: 1 seat, 100 people: Alder, Birch")
     expect_equal(any(grepl("without a neighbour", printed)), FALSE)
     expect_refusal(as_sf(answer), "no shapes")
-    expect_refusal(best_grouping(answer, 2), "no such grouping", "countygroups_program_error")
+    expect_refusal(best_grouping(answer, 2), "`number` is 2, and has to be 1 to 1")
+    expect_equal(grouping_number(answer, answer$groups), 1)
+    expect_equal(c(answer$ideal, answer$district_bounds), c(100, 95, 105))
   })
 
   test("withdrawn sets", {
@@ -138,8 +232,96 @@ if (has_program) {
     expect_equal(sets_of(best_grouping(answer, 2)), c("A D", "B C"))
   })
 
+  test("warnings", {
+    expect_warning <- function(code, words) {
+      found <- tryCatch(code, countygroups_warning = conditionMessage)
+      if (!is.character(found) || !grepl(words, found)) stop("wanted a warning: ", words)
+    }
+    sets <- list(list("Dogwood", 1))
+    told <- "^withdrawn: the set of 1 seat .*99004 is Dogwood"
+    expect_warning(solved(path_people, 4, adjacency = path_pairs, withdrawn = sets), told)
+    apart <- cbind("A", "A")
+    expect_warning(solved(c(A = 50, B = 50), 1, adjacency = apart), "No two of the 2 counties")
+  })
+
+  # Returns a folder with a program that doesn't end. It writes its process to `started.txt`.
+  endless_program <- function() {
+    folder <- tempfile()
+    dir.create(file.path(folder, "room"), recursive = TRUE)
+    program <- file.path(folder, "program")
+    lines <- c("#!/bin/sh", "echo $$ >../part", "mv ../part ../started.txt", "exec sleep 600")
+    writeLines(lines, program)
+    Sys.chmod(program)
+    folder
+  }
+
+  # Waits until a call gives true. Stops after 20 seconds.
+  wait_until <- function(is_so) {
+    for (turn in 1:400) {
+      if (is_so()) return(invisible())
+      Sys.sleep(0.05)
+    }
+    stop("it took 20 seconds")
+  }
+
+  # Waits until the endless program of a folder is gone, and its room, too.
+  expect_nothing_left <- function(folder) {
+    process <- readLines(file.path(folder, "started.txt"))
+    is_there <- function(...) system2("kill", c("-0", process), stderr = FALSE) == 0
+    wait_until(function() !suppressWarnings(is_there()) && !dir.exists(file.path(folder, "room")))
+  }
+
+  test("time that is over leaves no program", {
+    folder <- endless_program()
+    program <- file.path(folder, "program")
+    call <- function() input$run_in(file.path(folder, "room"), program, character(), FALSE, 0.5)
+    expect_refusal(call(), "no answer after 0.5 seconds", "countygroups_time_limit")
+    expect_nothing_left(folder)
+  })
+
+  test("R that is killed or interrupted leaves no program", {
+    for (signal in c("-KILL", "-TERM", "-INT")) {
+      folder <- endless_program()
+      code <- paste0(
+        "setwd('", folder, "'); cat(Sys.getpid(), file = 'caller.txt');",
+        "countygroups:::run_in('", folder, "/room', '", folder, "/program', 'x', FALSE)"
+      )
+      # (one that is started in the background may have been told to ignore interrupts)
+      words <- c("--default-signal=INT", file.path(R.home("bin"), "Rscript"), "-e", shQuote(code))
+      system2("env", words, wait = FALSE, stdout = FALSE, stderr = FALSE)
+      wait_until(function() file.exists(file.path(folder, "started.txt")))
+      system2("kill", c(signal, readLines(file.path(folder, "caller.txt"), warn = FALSE)))
+      expect_nothing_left(folder)
+    }
+  })
+
+  test("seats by county, the judge, and an audit", {
+    sizes <- seat_sizes(path_people, 4)
+    expect_equal(sizes$least_seats, c(NA, NA, 1, 2))
+    answer <- solved(path_people, 4, adjacency = path_pairs)
+    expect_equal(judge_groups(answer, answer$groups)$outcome, "best")
+    lesser <- data.frame(seats = c(2, 2))
+    lesser$counties <- list(c("Alder", "Birch", "Cedar"), "Dogwood")
+    expect_equal(judge_groups(answer, lesser)$outcome, "lawful")
+    lesser$seats <- c(3, 2)
+    expect_equal(startsWith(judge_groups(answer, lesser)$fault, "OutOfWindow"), TRUE)
+    plan <- c(p = "x", q = "x", r = "y", s = "z", t = "w")
+    counties <- c("Alder", "Birch", "Cedar", "Dogwood", "Dogwood")
+    people <- c(50, 50, 100, 100, 100)
+    expect_equal(nrow(audit_plan(answer, plan, counties, people)), 0)
+    expect_equal(nrow(audit_plan(answer, factor(plan), counties, people)), 0)
+    plan["r"] <- "x"
+    found <- audit_plan(answer, plan, counties, people)
+    expect_equal(sort(unique(found$kind)), c("Crosses", "DistrictSize"))
+    expect_equal(found$told[found$kind == "DistrictSize"], "x people 200")
+    plan["t"] <- NA
+    found <- audit_plan(answer, plan, counties, people)
+    expect_equal(found$told[found$kind == "Unassigned"], "t")
+    expect_refusal(audit_plan(answer, plan, counties, people + 1), "Alder have 51 people")
+  })
+
   test("no lawful grouping, and steps that run out", {
-    none <- solved(c(A = 50, B = 50), 1, adjacency = cbind("A", "A"))
+    none <- suppressWarnings(solved(c(A = 50, B = 50), 1, adjacency = cbind("A", "A")))
     expect_equal(none$outcome, "impossible")
     expect_equal(capture.output(print(none))[3], "without a neighbour: A, B")
     expect_equal(check_certificate(none)$outcome, "impossible")
@@ -156,8 +338,10 @@ if (has_program) {
     kind <- "countygroups_program_error"
     found <- expect_refusal(call(4, withdrawn = twice), "99001 is Alder", kind)
     expect_equal(found$status, 4)
-    expect_refusal(call(4, tolerance = 0.75), "refused problem BadWindow", "countygroups_error")
-    expect_refusal(call(0), "0 is not in 1..=1000", kind)
+    expect_refusal(call(4, tolerance = 0.75), "has to be 0 to 0.5; 0.05 is five percent")
+    expect_refusal(call(0), "`seats` is 0, and has to be 1 to 1000")
+    expect_refusal(call(4, steps = 0.5), "`steps` is no whole number")
+    expect_equal(call(4, steps = 1e6)$outcome, "best")
     other <- call(5)
     expect_refusal(
       check_certificate(other, call(4)$certificate), "no TargetFault",
@@ -190,7 +374,8 @@ if (has_program && nzchar(data)) {
     found <- c(best$number, nrow(best$shared), sum(best$shared$most_seats))
     expect_equal(found, published[[as.character(seats)]])
     expect_equal(sum(answer$groups$seats), seats)
-    expect_equal(sets_of(best_grouping(answer, number)), enacted(name))
+    expect_equal(length(best$groupings), best$number)
+    expect_equal(sets_of(best$groupings[[number]]), enacted(name))
   }
 
   test("the Senate of 2020", judge(50, senate_counts, 6, "senate"))

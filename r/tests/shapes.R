@@ -21,6 +21,17 @@ if (requireNamespace("sf", quietly = TRUE)) {
     expect_equal(ordered(found$points), rbind(c(1, 4), c(2, 3)))
   })
 
+  test("what shapes don't show", {
+    shapes <- sf::st_sfc(square(0, 0), square(0, 1), square(1, 0), square(1, 1))
+    frame <- sf::st_sf(people = 1, NAME = letters[1:4], geometry = shapes)
+    table <- input$read_counties(frame)
+    told <- tryCatch(
+      input$adjacency_of(NULL, frame, table),
+      countygroups_warning = conditionMessage
+    )
+    expect_equal(grepl("over water, .*: a and d, b and c", told), TRUE)
+  })
+
   test("a shape that crosses itself, and one that is none", {
     crossed <- sf::st_polygon(list(cbind(c(0, 1, 1, 0, 0), c(0, 1, 0, 1, 0))))
     found <- input$contacts_of(sf::st_sfc(crossed, square(1, 0), square(5, 5)))
@@ -44,15 +55,25 @@ if (requireNamespace("sf", quietly = TRUE) && nzchar(data)) {
     edges <- pairs("edges", added = pairs_without_edge())
     expect_equal(nrow(edges$listed), 227)
     expect_equal(ordered(input$pairs_that_count(edges)), ordered(listed$listed))
-    expect_equal(nrow(pairs("points")$listed), 227 + 19)
+    quietly <- function(...) suppressWarnings(pairs(...))
+    expect_equal(nrow(quietly("points")$listed), 227 + 19)
     shapes <- sf::st_make_valid(sf::st_set_crs(sf::st_geometry(counties), NA))
-    expect_equal(nrow(pairs(sf::st_intersects(shapes))$listed), 227 + 19)
+    expect_equal(nrow(quietly(sf::st_intersects(shapes))$listed), 227 + 19)
+    told <- tryCatch(pairs("edges"), countygroups_warning = conditionMessage)
+    expect_equal(grepl("lack 17 \\(.*Dare and Tyrrell.* add 0 \\(none", told), TRUE)
   })
 
   if (has_program) {
     test("the Senate by its outlines", {
-      answer <- solved(counties, seats = 50, added = pairs_without_edge())
+      edges <- solved(counties, 50, adjacency = "edges", added = pairs_without_edge())
+      answer <- solved(counties, seats = 50)
+      expect_equal(edges$counts, senate_counts)
       expect_equal(answer$counts, senate_counts)
+      expect_equal(nrow(answer$adjacency$pairs), 244)
+      counties$GROUP <- "mine"
+      own <- as_sf(solved(counties, seats = 50))
+      expect_equal(unique(own$GROUP), "mine")
+      expect_equal(sort(unique(own$COUNTYGROUPS_GROUP)), 1:26)
       expect_equal(best_groupings(answer)$number, published[["50"]][1])
       frame <- as_sf(answer, number = 6)
       found <- tapply(frame$GEOID, frame$GROUP, paste, collapse = " ")
@@ -70,7 +91,7 @@ if (requireNamespace("sf", quietly = TRUE) && nzchar(data)) {
     test("a map", {
       picture <- tempfile(fileext = ".png")
       grDevices::png(picture, 1100, 520)
-      plot(solved(counties, seats = 50, added = pairs_without_edge()))
+      plot(solved(counties, seats = 50))
       grDevices::dev.off()
       expect_equal(file.size(picture) > 20000, TRUE)
     })

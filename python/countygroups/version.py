@@ -1,0 +1,3 @@
+"""The version of this package, from which its releases take it."""
+
+VERSION = "1.0.0"

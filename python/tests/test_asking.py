@@ -1,0 +1,178 @@
+"""Tests of what comes after an answer: bounds, seats by county, precincts, the judge, an audit."""
+from __future__ import annotations
+
+import unittest
+from fractions import Fraction
+from typing import Any
+
+import countygroups
+from countygroups import Finding, InputError, NoBestGrouping
+from tests import setting
+from tests.setting import needs_program, solved_path
+
+
+class Graph:
+    """Is a graph with what precincts need of networkx: nodes, edges, neighbours, subgraphs."""
+
+    def __init__(self, nodes: dict[Any, dict[str, Any]], edges: list[tuple[Any, Any]]) -> None:
+        self.nodes = nodes
+        self.edges = edges
+
+    def neighbors(self, node: Any) -> list[Any]:
+        """Returns the neighbours of a node."""
+        return [end for edge in self.edges if node in edge for end in edge if end != node]
+
+    def subgraph(self, nodes: list[Any]) -> "Graph":
+        """Returns the graph of these nodes."""
+        kept = {node: self.nodes[node] for node in self.nodes if node in nodes}
+        edges = [edge for edge in self.edges if set(edge) <= kept.keys()]
+        return Graph(kept, edges)
+
+
+def precincts() -> Graph:
+    """Returns two precincts for each county of the path, on a line, with half of its people."""
+    counties = [name for name in setting.PATH_PEOPLE for _ in range(2)]
+    nodes = {
+        number: {"COUNTY": name, "TOTPOP": setting.PATH_PEOPLE[name] // 2}
+        for number, name in enumerate(counties)
+    }
+    return Graph(nodes, [(number, number + 1) for number in range(7)])
+
+
+# The district of each precinct: A and B have one, C one, D two.
+PLAN = {0: "ab", 1: "ab", 2: "ab", 3: "ab", 4: "c", 5: "c", 6: "d", 7: "e"}
+
+
+@needs_program
+class Chamber(unittest.TestCase):
+    """Tests the numbers of the chamber."""
+
+    def test_bounds(self) -> None:
+        answer = solved_path()
+        self.assertEqual((answer.people, answer.ideal), (400, Fraction(100)))
+        self.assertEqual(answer.district_bounds, (95, 105))
+        self.assertEqual(answer.group_of["B"].counties, ("A", "B"))
+        self.assertEqual(answer.group_of["B"].mean, 100)
+
+    def test_bounds_are_those_of_the_program(self) -> None:
+        for seats in (setting.SENATE, setting.HOUSE):
+            problem = countygroups.problem_of(setting.carolina(), seats, adjacency=setting.BORDERS)
+            sizes = countygroups.size(setting.carolina(), seats)
+            self.assertEqual(sizes.district, problem.district_bounds)
+
+    def test_no_grouping(self) -> None:
+        answer = countygroups.solve({"A": 94, "B": 106}, 2, adjacency=[("A", "B")], steps=0)
+        if answer.outcome != "best":
+            self.assertRaises(NoBestGrouping, lambda: answer.group_of)
+
+    def test_size(self) -> None:
+        sizes = countygroups.size(setting.PATH_PEOPLE, 4)
+        wanted = {"A": None, "B": None, "C": (1, 1), "D": (2, 2)}
+        self.assertEqual((sizes.district, sizes.seats), ((95, 105), wanted))
+
+
+@needs_program
+class Precincts(unittest.TestCase):
+    """Tests precincts as the counties that are given, and those of a group."""
+
+    def test_counties_of_precincts(self) -> None:
+        answer = countygroups.solve(precincts(), 4, county="COUNTY", people="TOTPOP")
+        self.assertEqual(answer.counts, (2, 1))
+        self.assertEqual(answer.adjacency.pairs, set(setting.PATH_PAIRS))
+
+    def test_labels_beside_a_county(self) -> None:
+        with self.assertRaisesRegex(InputError, "leave out label= and name="):
+            countygroups.solve(precincts(), 4, county="COUNTY", people="TOTPOP", label="GEOID")
+
+    def test_precinct_without_a_county(self) -> None:
+        graph = precincts()
+        del graph.nodes[3]["COUNTY"]
+        with self.assertRaisesRegex(InputError, 'Precinct 3 has no "COUNTY"'):
+            countygroups.solve(graph, 4, county="COUNTY", people="TOTPOP")
+
+    def test_subgraph(self) -> None:
+        group = solved_path().group_of["A"]
+        part = group.subgraph(precincts(), "COUNTY", "TOTPOP")
+        self.assertEqual(list(part.nodes), [0, 1, 2, 3])
+        self.assertEqual(len(part.edges), 3)
+
+    def test_subgraph_by_the_last_digits(self) -> None:
+        group = countygroups.Group(("37001", "37003"), 1, 4)
+        nodes = {place: {"COUNTYFP": county} for place, county in enumerate(("001", "003", "005"))}
+        part = group.subgraph(Graph(nodes, [(0, 1), (1, 2)]), "COUNTYFP")
+        self.assertEqual(list(part.nodes), [0, 1])
+
+    def test_refused_subgraphs(self) -> None:
+        group = solved_path().group_of["A"]
+        whole = precincts()
+        apart = Graph(whole.nodes, [edge for edge in whole.edges if edge != (1, 2)])
+        with self.assertRaisesRegex(InputError, "aren't connected: 2 lie apart"):
+            group.subgraph(apart, "COUNTY")
+        with self.assertRaisesRegex(InputError, "whose \"PLACE\" is that of county 'A'"):
+            group.subgraph(whole, "PLACE")
+        whole.nodes[0]["TOTPOP"] = 26
+        with self.assertRaisesRegex(InputError, "have 101 people by 'TOTPOP', and the group has 1"):
+            group.subgraph(whole, "COUNTY", "TOTPOP")
+
+
+@needs_program
+class Judging(unittest.TestCase):
+    """Tests the judge."""
+
+    def test_best_and_lawful(self) -> None:
+        answer = solved_path()
+        groups = [(["A", "B"], 1), (["C"], 1), (["D"], 2)]
+        self.assertEqual(countygroups.judge(groups, answer).outcome, "best")
+        self.assertEqual(countygroups.judge(groups, answer.problem).outcome, "lawful")
+        lesser = [(["A", "B", "C"], 2), (["D"], 2)]
+        self.assertEqual(countygroups.judge(lesser, answer).outcome, "lawful")
+
+    def test_enacted(self) -> None:
+        answer = countygroups.solve(setting.carolina(), setting.SENATE, adjacency=setting.BORDERS)
+        self.assertEqual(countygroups.judge(setting.enacted("senate"), answer).outcome, "best")
+
+    def test_faults(self) -> None:
+        answer = solved_path()
+        verdict = countygroups.judge([(["A"], 1), (["B", "C"], 1), (["D"], 2)], answer)
+        self.assertEqual(verdict.outcome, "fault")
+        self.assertTrue(verdict.fault.startswith("OutOfWindow"), verdict)
+        with self.assertRaisesRegex(InputError, "no county is 'X'"):
+            countygroups.judge([(["X"], 1)], answer)
+
+
+@needs_program
+class Audits(unittest.TestCase):
+    """Tests audits of plans of precincts."""
+
+    def audit(self, plan: Any, **words: Any) -> tuple[Finding, ...]:
+        """Audits a plan of the precincts."""
+        whole: dict[str, Any] = {"precincts": precincts(), "people": "TOTPOP", "county": "COUNTY"}
+        return countygroups.audit(plan, solved_path(), **{**whole, **words})
+
+    def test_nothing_is_found(self) -> None:
+        self.assertEqual(self.audit(PLAN), ())
+
+    def test_district_across_two_groups(self) -> None:
+        found = self.audit({**PLAN, 4: "ab"})
+        self.assertEqual({one.kind for one in found}, {"Crosses", "WrongNumber", "DistrictSize"})
+        crossing = next(one.told for one in found if one.kind == "Crosses")
+        self.assertTrue(crossing.startswith("ab group "), crossing)
+        sizes = [one.told for one in found if one.kind == "DistrictSize"]
+        self.assertEqual(sorted(sizes), ["ab people 150", "c people 50"])
+
+    def test_precinct_without_a_district(self) -> None:
+        plan = {unit: district for unit, district in PLAN.items() if unit != 7}
+        self.assertIn(Finding("Unassigned", "7"), self.audit(plan))
+        self.assertIn(Finding("Unassigned", "7"), self.audit({**PLAN, 7: None}))
+
+    def test_refused(self) -> None:
+        with self.assertRaisesRegex(InputError, "names 'x', which is no precinct"):
+            self.audit({**PLAN, "x": "c"})
+        other = precincts()
+        other.nodes[0]["TOTPOP"] = 26
+        with self.assertRaisesRegex(InputError, "of A have 51 people, and the county has 50"):
+            self.audit(PLAN, precincts=other)
+
+
+if __name__ == "__main__":
+    unittest.main()

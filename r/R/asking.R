@@ -1,0 +1,105 @@
+# What else the program is asked: seats by county, a grouping, a plan. `man/` has what each of these
+# functions takes and returns.
+
+seat_sizes <- function(counties, seats, people = NULL, tolerance = NULL, label = NULL, name = NULL,
+                       program = NULL) {
+  table <- read_counties(counties, people, label, name)
+  none <- matrix(integer(), ncol = 2)
+  problem <- list(
+    given = counties, table = table, seats = whole_number(seats, 1, 1000, "seats"),
+    codes = codes_of(table$label), adjacency = list(listed = none, added = none, cut = none),
+    withdrawn = list(), tolerance = tolerance_of(tolerance), program = find_program(program)
+  )
+  lines <- run_program(problem, "size", character())$output
+  rows <- strsplit(lines[grepl("|", lines, fixed = TRUE)], "|", fixed = TRUE)
+  number <- function(place) {
+    vapply(rows, function(row) if (length(row) < 4) NA_real_ else as.numeric(row[place]), 0)
+  }
+  data.frame(
+    label = labels_of(problem$codes, vapply(rows, function(row) row[1], "")),
+    people = as.numeric(vapply(rows, function(row) row[2], "")),
+    least_seats = number(3), most_seats = number(4)
+  )
+}
+
+judge_groups <- function(answer, groups) {
+  given <- list(grouping.txt = grouping_lines(groups, answer$problem$codes))
+  words <- c("--grouping", "grouping.txt")
+  if (identical(answer$outcome, "best")) {
+    given$certificate.txt <- answer$certificate
+    words <- c(words, certificate_words)
+  }
+  run <- run_program(answer$problem, "judge", words, given)
+  outcome <- behind(run$output, "answer")
+  fault <- behind(run$output, "fault")
+  messages <- run$messages
+  if (nzchar(fault)) messages <- c(messages, legend_of(answer$problem$codes, messages))
+  list(outcome = if (nzchar(fault)) "fault" else outcome, fault = fault, messages = messages)
+}
+
+audit_plan <- function(answer, plan, counties, people, number = NULL) {
+  problem <- answer$problem
+  plan <- stats::setNames(as.character(plan), names(plan))
+  units <- plan_units(problem, plan, counties, people)
+  districts <- unique(plan[!is.na(plan)])
+  is_given <- !is.na(plan)
+  assigned <- paste(units$code[is_given], match(plan[is_given], districts), sep = "|")
+  first <- nrow(problem$table) + seq_along(plan)
+  given <- list(
+    geo.pl = c(geo_lines(problem$table, problem$codes), block_lines(first, units$code)),
+    segment1.pl = c(segment_lines(problem$table), sprintf("||||%07d|%s", first, plain(people))),
+    grouping.txt = grouping_lines(groups_at(answer, number), problem$codes),
+    assignments.csv = assigned
+  )
+  words <- c("--grouping", "grouping.txt", "--assignments", "assignments.csv")
+  lines <- run_program(problem, "audit", words, given)$output[-1]
+  findings_of(lines, districts, units)
+}
+
+# Returns the code that each precinct gets, and its name, in a data frame. Stops if the vectors
+# don't fit, or if the people of a county's precincts aren't those of the answer.
+plan_units <- function(problem, plan, counties, people) {
+  if (length(counties) != length(plan) || length(people) != length(plan)) {
+    stop_input("`plan`, `counties` and `people` have a value for each precinct, and differ.")
+  }
+  labels <- problem$table$label
+  geoids <- geoids_of(labels)
+  place <- match(as.character(counties), as.character(labels))
+  if (!anyNA(geoids)) place <- ifelse(is.na(place), match(counties, substr(geoids, 3, 5)), place)
+  if (anyNA(place)) {
+    told <- paste0(" lies in ", counties[is.na(place)][1], ", which is no county.")
+    stop_input("Precinct ", which(is.na(place))[1], told)
+  }
+  sums <- vapply(seq_along(labels), function(one) sum(people[place == one]), 0)
+  wrong <- which(sums != problem$table$people)
+  if (length(wrong) > 0) {
+    one <- problem$table[wrong[1], ]
+    told <- paste0(" people, and the county has ", with_commas(one$people), ".")
+    stop_input("The precincts of ", one$name, " have ", with_commas(sums[wrong[1]]), told)
+  }
+  names <- if (is.null(names(plan))) as.character(seq_along(plan)) else names(plan)
+  data.frame(code = sprintf("%s%010d", problem$codes$code[place], seq_along(plan)), name = names)
+}
+
+# Returns the line of each block in a geographic header.
+block_lines <- function(record, code) {
+  lines <- matrix("", length(code), most_geo_fields)
+  lines[, geo_fields["sumlev"]] <- "750"
+  lines[, geo_fields["geocomp"]] <- "00"
+  lines[, geo_fields["logrecno"]] <- sprintf("%07d", record)
+  lines[, block_field] <- code
+  lines[, geo_fields["state"]] <- substr(code, 1, 2)
+  apply(lines, 1, paste, collapse = "|")
+}
+
+# Returns the findings of an audit's lines, with the labels of districts and precincts.
+findings_of <- function(lines, districts, units) {
+  words <- strsplit(lines, " ", fixed = TRUE)
+  kind <- vapply(words, function(one) one[1], "")
+  told <- vapply(words, function(one) {
+    if (one[1] %in% c("Crosses", "DistrictSize")) one[2] <- districts[as.integer(one[2])]
+    if (one[1] == "Unassigned") one[2] <- units$name[match(one[2], units$code)]
+    paste(one[-1], collapse = " ")
+  }, "")
+  data.frame(kind = kind, told = told)
+}
