@@ -179,6 +179,8 @@ test_programs() { # PROGRAM ..
     python3 tools/test_guides.py --program "$1"
     python3 tools/test_manual_page.py --program "$1"
     python3 tools/test_completions.py --program "$1"
+    heading "a proof shared by workers"
+    python3 tools/test_share.py --program "$1"
     heading "borders in dispute"
     python3 tools/test_what_if_table.py --program "$1"
     heading "the program at a terminal"
