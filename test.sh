@@ -119,6 +119,10 @@ test_scripts() {
     python3 tools/crate_table.py
     python3 tools/test_passing_over.py
     python3 tools/test_workshop.py
+    python3 tools/prose.py
+    python3 tools/doc_links.py
+    python3 tools/test_prose.py
+    python3 tools/test_doc_links.py
     python3 tools/test_gate_room.py
     python3 tools/test_compare_dist.py
     python3 tools/test_release.py

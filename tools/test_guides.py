@@ -27,6 +27,9 @@ from script_words import ScriptWords
 
 PAGES = (
     "README.md",
+    "docs/tutorial.md",
+    "docs/explanation/borders.md",
+    "docs/explanation/certificates.md",
     "docs/guide_plan_desk.md",
     "docs/guide_auditor.md",
     "docs/guide_staffer.md",
