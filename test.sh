@@ -123,6 +123,7 @@ test_scripts() {
     python3 tools/doc_links.py
     python3 tools/test_prose.py
     python3 tools/test_doc_links.py
+    python3 tools/test_speed_bars.py
     python3 tools/test_gate_room.py
     python3 tools/test_compare_dist.py
     python3 tools/test_release.py
@@ -193,6 +194,12 @@ test_programs() { # PROGRAM ..
     python3 tools/test_worker.py --program "$1"
     heading "a search that goes on at a board"
     python3 tools/test_resuming.py --program "$1"
+}
+
+# Counts what small chambers take, beside their bars.
+test_speed() { # PROGRAM
+    heading "bars of speed"
+    python3 bench/speed_bars.py --jobs "$few" "$1"
 }
 
 # Changes cases at random for a time.
@@ -284,6 +291,7 @@ prove_and_test() {
     fi
     start_beside changes change_cases "$seconds" "$seed" "$built"
     test_programs "${programs[@]}"
+    test_speed "$built"
     test_packages "$built"
     test_web --native "$built" --wasm "$wasm" --refusing "$refusing" "${all[@]}"
     test_desk "$built" "$wasm"
@@ -316,6 +324,7 @@ else
     fi
     test_scripts
     test_programs "$program"
+    [ "$is_given" = yes ] || test_speed "$program"
     end_beside "${parts[@]}" changes
 fi
 end_tests

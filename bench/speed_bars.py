@@ -5,7 +5,7 @@ usage: bench/speed_bars.py PROGRAM [--jobs N] [--store]
 
 It counts the machine instructions of `solve` and `check` on small chambers by callgrind, which is
 part of valgrind. That takes less than a minute, and the count doesn't depend on what else the
-machine does. The bars stand in bench/speed_bars.json.
+machine does. The bars stand in bench/speed_bars.json. Without valgrind it passes over.
 
 A run fails if it takes more than half as many instructions again as its bar. So a loss by a factor
 of two is seen, and what the C library or the compiler changes isn't. If `check` isn't far below
@@ -20,7 +20,6 @@ from __future__ import annotations
 import json
 import os
 import re
-import shutil
 import subprocess
 import sys
 import tempfile
@@ -30,6 +29,7 @@ from dataclasses import dataclass
 from chambers import DATA, words_of
 
 sys.path.insert(0, os.path.join(os.path.dirname(DATA), "tools"))
+from installed import NotThere, program_there  # noqa: E402
 from script_words import ScriptWords  # noqa: E402
 
 BARS = os.path.join(os.path.dirname(os.path.abspath(__file__)), "speed_bars.json")
@@ -85,6 +85,13 @@ def count(program: str, words: list[str]) -> Count:
         return Count(solve, instructions(program, folder, ["check", *words, *certificate]))
 
 
+def read_bars() -> dict[str, dict[str, int]]:
+    """Returns the stored bars: for each chamber the instructions of its commands."""
+    with open(BARS, encoding="utf-8") as file:
+        bars: dict[str, dict[str, int]] = json.load(file)
+    return bars
+
+
 def faults(name: str, now: Count, bars: dict[str, dict[str, int]]) -> list[str]:
     """Returns what is wrong with the counts of a chamber, a line each."""
     found = []
@@ -104,9 +111,11 @@ def main() -> int:
     parser.add_argument("--jobs", type=int, default=2)
     parser.add_argument("--store", action="store_true")
     given = parser.parse_args()
-    if not shutil.which("valgrind"):
-        print("speed_bars.py: there is no `valgrind`: Debian has it as the package valgrind")
-        return 2
+    try:
+        program_there("valgrind")
+    except NotThere as why:
+        print(f"speed_bars.py: passed over: {why}")
+        return 0
     program = os.path.realpath(given.program)
     with ThreadPoolExecutor(given.jobs) as pool:
         runs = pool.map(lambda words: count(program, words), CHAMBERS.values())
@@ -118,8 +127,7 @@ def main() -> int:
             json.dump({name: vars(now) for name, now in counts.items()}, file, indent=4)
             file.write("\n")
         return 0
-    with open(BARS, encoding="utf-8") as file:
-        bars = json.load(file)
+    bars = read_bars()
     wrong = [line for name, now in counts.items() for line in faults(name, now, bars)]
     print("\n".join(wrong) or "all runs are within their bars")
     return 1 if wrong else 0

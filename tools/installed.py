@@ -15,6 +15,7 @@ PACKAGES = {
     "man": "man-db",
     "node": "nodejs",
     "tsc": "node-typescript",
+    "valgrind": "valgrind",
     "zsh": "zsh",
 }
 
