@@ -73,7 +73,7 @@ cd "$(dirname "$0")"
 
 processors=$(nproc)
 jobs=$((processors < 4 ? processors : 4))
-# How many classes of the tests of the desk and of the WebAssembly build run at once. Each starts
+# How many classes of the tests of the page and of the WebAssembly build run at once. Each starts
 # browsers or programs of its own.
 few=$(((jobs + 1) / 2))
 room=$(mktemp -d)
@@ -147,17 +147,17 @@ test_web() { # [OPTION ..]
     python3 tools/test_web.py --jobs "$few" "$@"
 }
 
-# Tests the desk: docs/desk.html, or a desk that is made of a build.
-test_desk() { # PROGRAM [WASM]
+# Tests docs/page.html, or a page that is made of a build.
+test_page() { # PROGRAM [WASM]
     local words=(--program "$1")
-    heading "the desk in a browser"
+    heading "the page in a browser"
     if [ $# -gt 1 ]; then
-        if [ -f docs/desk.html ]; then
-            python3 tools/test_desk.py --only made_of_these_sources
+        if [ -f docs/page.html ]; then
+            python3 tools/test_page_in_browser.py --only made_of_these_sources
         fi
-        words+=(--wasm "$2" --page "$room/desk.html")
+        words+=(--wasm "$2" --page "$room/page.html")
     fi
-    python3 tools/test_desk.py --jobs "$few" "${words[@]}"
+    python3 tools/test_page_in_browser.py --jobs "$few" "${words[@]}"
 }
 
 # Tests the packages for Python and R, and all packages of what dist/ has.
@@ -188,6 +188,8 @@ test_programs() { # PROGRAM ..
     python3 tools/test_share.py --program "$1"
     heading "borders in dispute"
     python3 tools/test_what_if_table.py --program "$1"
+    heading "how close an answer is"
+    python3 tools/test_closeness.py --program "$1"
     heading "the program at a terminal"
     python3 tools/test_terminal.py --program "$1"
     heading "a worker that answers at once"
@@ -237,10 +239,10 @@ end_beside() { # NAME ..
     done
 }
 
-# Starts the tests of the WebAssembly build and of the desk, which mostly wait, beside the rest.
+# Starts the tests of the WebAssembly build and of the page, which mostly wait, beside the rest.
 start_web() { # PROGRAM [WASM [OPTION ..]]
     start_beside web test_web --native "$1" ${2:+--wasm "$2"} "${@:3}"
-    start_beside desk test_desk "$1" ${2:+"$2"}
+    start_beside page test_page "$1" ${2:+"$2"}
 }
 
 # Copies each program that was proved and built, and what it wrote, to its crate here.
@@ -294,7 +296,7 @@ prove_and_test() {
     test_speed "$built"
     test_packages "$built"
     test_web --native "$built" --wasm "$wasm" --refusing "$refusing" "${all[@]}"
-    test_desk "$built" "$wasm"
+    test_page "$built" "$wasm"
     if [ "$is_all" = yes ]; then
         sweep
         heading "the real files, with the first calls refused"
@@ -320,7 +322,7 @@ else
     parts=(packages)
     if [ "$is_given" = no ] || [ -n "$wasm" ]; then
         start_web "$program" "$wasm" ${refusing:+--refusing "$refusing"}
-        parts+=(web desk)
+        parts+=(web page)
     fi
     test_scripts
     test_programs "$program"

@@ -112,7 +112,7 @@ def solved(program: str, folder: str, seats: int, steps: int) -> tuple[Optional[
         return None, seconds
     said = run(program, "check", seats, [*words, "--budget", str(2**64 - 1)], folder)
     if said != report:
-        told = f"the checker says another thing than the desk: {said[:200]!r}"
+        told = f"the checker says another thing than the solver: {said[:200]!r}"
         sys.exit(f"{seats} seats: {told}")
     with open(os.path.join(folder, "certificate"), "rb") as file:
         return file.read().count(b"\n"), seconds

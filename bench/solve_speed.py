@@ -1,5 +1,5 @@
 """Measures `solve` and `check` on the Senate and the House of North Carolina 2020: the steps that
-the desk takes (the least that suffice), the lines and bytes of the certificate, the seconds of
+the solver takes (the least that suffice), the lines and bytes of the certificate, the seconds of
 processor time and the peak memory; and the same of checking, with the least budget that suffices.
 Each certificate is checked to give the report that `solve` gave.
 
@@ -33,7 +33,7 @@ class Run(NamedTuple):
     memory: float
 
 
-class Desk(NamedTuple):
+class Solver(NamedTuple):
     """The program, the folder where it runs, and the seats of the chamber."""
 
     program: str
@@ -68,16 +68,16 @@ def least(enough: int, suffices: Callable[[int], bool]) -> int:
     return most
 
 
-def measure(desk: Desk) -> None:
+def measure(solver: Solver) -> None:
     """Prints a line of `solve` and a line of `check`."""
-    report, seconds, memory = desk.run("solve", CERTIFICATE)
-    steps = least(ENOUGH, desk.is_solved)
-    with open(os.path.join(desk.folder, "certificate"), "rb") as file:
+    report, seconds, memory = solver.run("solve", CERTIFICATE)
+    steps = least(ENOUGH, solver.is_solved)
+    with open(os.path.join(solver.folder, "certificate"), "rb") as file:
         text = file.read()
     told = f"{text.count(10)} lines, {len(text)} bytes, {seconds:.2f} seconds, {memory:.0f} MB"
-    print(f"{desk.seats} seats: {steps} steps, {told}")
-    said, seconds, memory = desk.check(ENOUGH)
-    budget = least(ENOUGH, lambda tried: desk.check(tried).text != b"budget\n")
+    print(f"{solver.seats} seats: {steps} steps, {told}")
+    said, seconds, memory = solver.check(ENOUGH)
+    budget = least(ENOUGH, lambda tried: solver.check(tried).text != b"budget\n")
     same = "the same report" if said == report else "ANOTHER REPORT"
     print(f"checked: {same}, least budget {budget}, {seconds:.2f} seconds, {memory:.0f} MB")
 
@@ -88,7 +88,7 @@ def main() -> None:
         sys.exit(__doc__)
     with tempfile.TemporaryDirectory() as folder:
         for chamber in (50, 120):
-            measure(Desk(os.path.abspath(sys.argv[1]), folder, chamber))
+            measure(Solver(os.path.abspath(sys.argv[1]), folder, chamber))
 
 
 if __name__ == "__main__":

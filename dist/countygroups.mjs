@@ -1,6 +1,5 @@
 #!/usr/bin/env node
 import fs from "node:fs";
-import v8 from "node:v8";
 import tty from "node:tty";
 const module_errno = (() => {
 /**
@@ -651,22 +650,6 @@ function runProcess({ module, words, store }) {
 /** @typedef {(count: number, words: bigint) => number} Main C's `main`. */
 return { runProcess };
 })();
-const module_wasm64 = (() => {
-/** Whether an engine has 64-bit WebAssembly, which the program is compiled for. */
-
-/** A module that has nothing but a memory with 64-bit addresses. */
-const SMALLEST = new Uint8Array([0, 97, 115, 109, 1, 0, 0, 0, 5, 3, 1, 4, 0]);
-
-/**
- * Returns whether this engine runs 64-bit WebAssembly.
- *
- * @returns {boolean}
- */
-function hasWasm64() {
-  return typeof WebAssembly === "object" && WebAssembly.validate(SMALLEST);
-}
-return { hasWasm64 };
-})();
 const module_launcher = (() => {
 /**
  * The program by Node: the same words, files and statuses as the program that is built for a
@@ -678,7 +661,6 @@ const module_launcher = (() => {
 
 const { NodeFiles } = module_node_files;
 const { runProcess } = module_process;
-const { hasWasm64 } = module_wasm64;
 
 // (`process` is the global one: an import of "node:process" would make Node's own standard streams,
 // which set pipes not to wait)
@@ -691,18 +673,6 @@ const NOT_STARTED = 126;
 
 /** What stands in a word for bytes that are no UTF-8. */
 const REPLACED = "\ufffd";
-
-/**
- * Returns whether this Node runs 64-bit WebAssembly. Node 20 and 22 do once a flag is set.
- *
- * @returns {boolean}
- */
-function canRun() {
-  if (!hasWasm64()) {
-    v8.setFlagsFromString("--experimental-wasm-memory64");
-  }
-  return hasWasm64();
-}
 
 /**
  * Returns the words after the name of this file. Node replaces bytes that are no UTF-8, so where
@@ -752,9 +722,6 @@ function readModule() {
 
 /** Runs the program with the words of this process, and ends as it ends. */
 function main() {
-  if (!canRun()) {
-    refuse(`Node ${process.versions.node} has no 64-bit WebAssembly: use Node 24`, NOT_STARTED);
-  }
   const module = readModule();
   let status = ABORTED;
   try {

@@ -6,7 +6,7 @@ usage() {
     cat <<'TEXT'
 usage: tools/check_python.sh
 
-Checks the Python files of cases/, tools/, bench/, web/test/ and web/desk/test/ by the settings of
+Checks the Python files of cases/, tools/, bench/, web/test/ and web/page/test/ by the settings of
 pyproject.toml. It takes some ten seconds.
 
 - the layout by `black` of release 23, with lines of 100 columns;
@@ -31,7 +31,7 @@ for word in "$@"; do
 done
 cd "$(dirname "$0")/.."
 
-folders=(cases tools bench web/test web/desk/test)
+folders=(cases tools bench web/test web/page/test)
 
 # Returns whether a program is installed. If it isn't, says which package has it.
 is_there() { # PROGRAM WHAT

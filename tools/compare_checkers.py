@@ -14,7 +14,8 @@ stored. If the case hasn't it, the run is left out, since that needs a program. 
 memory: the second checker holds a whole text.
 --program FILE makes certificates of North Carolina's two chambers (data/nc2020; --chamber: of
 these) too. Both checkers check them, and each of them with one line changed at random, N times
-(--mutations, 20 unless said otherwise; --seed, 1).
+(--mutations, 20 unless said otherwise; --seed, 1). Then they check those by the counts of 2010 and
+of 2000.
 --states beside it makes certificates of the chambers of ten states (data/states) too, if the
 program answers best within its default steps. Both checkers check them as they are, and a line has
 the seconds of processor time of each. The second checker takes minutes for the longest.
@@ -228,11 +229,31 @@ def both_checkers(
     return why, (between - began, children_seconds() - between)
 
 
+def problem(year: int, chamber: int) -> list[str]:
+    """Returns the words of a chamber of North Carolina by the census of a year."""
+    counts = f"{TOP}/data/nc{year}"
+    words = ["--geo", f"{counts}/nc{year}geo.pl", "--segment", f"{counts}/nc00001{year}.pl"]
+    words += ["--adjacency", f"{TOP}/data/nc2020/county_borders.txt"]
+    return [*words, "--chamber", str(chamber)]
+
+
+def compare_censuses(program: str, chamber: int, tally: Tally) -> None:
+    """Compares both checkers over a chamber's certificates by the censuses of 2010 and 2000."""
+    for year in (2010, 2000):
+        words = [*problem(year, chamber), "--certificate", "certificate"]
+        with tempfile.TemporaryDirectory(prefix="compare-") as room:
+            _, status = ran(program, ["solve", *words], room)
+            if status != 0:
+                program_runs.stop(f"{program} didn't solve chamber {chamber} of {year}: {status}")
+            why, (first, second) = both_checkers(program, ["check", *words], room)
+            tally.add(f"chamber {chamber} of {year}", why)
+            told = f"the program took {first:.2f} seconds, the second checker {second:.2f}"
+            print(f"chamber {chamber} of {year}: {told}", flush=True)
+
+
 def compare_chamber(program: str, chamber: int, asked: argparse.Namespace, tally: Tally) -> None:
     """Compares both checkers over a chamber's certificate, as it is and changed at random."""
-    common = ["--geo", f"{cases.DATA}/nc2020geo.pl", "--segment", f"{cases.DATA}/nc000012020.pl"]
-    common += ["--adjacency", f"{cases.DATA}/county_borders.txt", "--chamber", str(chamber)]
-    common += ["--certificate", "certificate"]
+    common = [*problem(2020, chamber), "--certificate", "certificate"]
     with tempfile.TemporaryDirectory(prefix="compare-") as room:
         _, status = ran(program, ["solve", *common], room)
         if status != 0:
@@ -291,6 +312,7 @@ def main() -> int:
     if asked.program:
         for chamber in asked.chamber or (120, 50):
             compare_chamber(os.path.realpath(asked.program), chamber, asked, tally)
+            compare_censuses(os.path.realpath(asked.program), chamber, tally)
     if asked.states:
         compare_states(os.path.realpath(asked.program), tally)
     if not tally.agree + tally.differ:

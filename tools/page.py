@@ -1,5 +1,5 @@
 #!/usr/bin/env python3
-"""Makes a page of a state's best groupings: the desk of docs/desk.html for other files.
+"""Makes a page of a state's best groupings: docs/page.html for other files.
 
 usage: python3 tools/page.py TABLE LIST OUTLINES RECORD OUT.html
            [--enacted YEAR GROUPING] [--borders FILE]
@@ -24,7 +24,7 @@ import sys
 from pathlib import Path
 from typing import Any
 
-import desk_page
+import page_file
 import page_checks
 from county_outlines import read_outlines
 from county_table import Group, read_table
@@ -74,13 +74,13 @@ def carried_files(record: Record) -> tuple[dict[str, Any], str]:
         content = file_of(line)
         if content is None or key in ("out", "table"):
             continue
-        carried[key] = desk_page.carried_file(os.path.basename(line.name), content)
+        carried[key] = page_file.carried_file(os.path.basename(line.name), content)
         if key == "adjacency":
             borders = content.decode("utf-8", "replace")
     wanted = NEEDED | {line.option for line in record.read} & {"links", "withdrawn"}
     if not wanted <= set(carried) or not WASM.is_file():
         return {}, borders
-    carried["program"] = desk_page.carried_file(WASM.name, WASM.read_bytes())
+    carried["program"] = page_file.carried_file(WASM.name, WASM.read_bytes())
     return carried, borders
 
 
@@ -134,8 +134,8 @@ def page_of(groups: list[Group], record: Record, asked: argparse.Namespace) -> s
         "state": {"code": min(geoids)[:2]},
         "chambers": [chamber],
         "enactedYear": int(year),
-        "outlines": desk_page.slim_outlines(shapes, geoids),
-        "borders": desk_page.border_lines(borders, geoids),
+        "outlines": page_file.slim_outlines(shapes, geoids),
+        "borders": page_file.border_lines(borders, geoids),
         "build": {"isProved": None, "text": ""},
     }
     text = chamber["list"].replace("&", "&amp;").replace("<", "&lt;")
@@ -146,8 +146,8 @@ def page_of(groups: list[Group], record: Record, asked: argparse.Namespace) -> s
         "description": "Best county groups",
     }
     if asked.borders:
-        parts["borders-note"] = desk_page.as_paragraph(read_words(asked.borders))
-    return desk_page.page_html(data, carried, parts)
+        parts["borders-note"] = page_file.as_paragraph(read_words(asked.borders))
+    return page_file.page_html(data, carried, parts)
 
 
 def read_arguments(words: list[str]) -> argparse.Namespace:

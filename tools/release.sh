@@ -1,5 +1,5 @@
 #!/usr/bin/env bash
-# Makes dist/ of a program that is proved and built, and the desk of dist/. See `tools/release.sh --help`.
+# Makes dist/ of a program that is proved and built, and the page of dist/. See `tools/release.sh --help`.
 set -euo pipefail
 
 usage() {
@@ -16,7 +16,8 @@ it, and makes dist/ of it:
     BUILD                       the git tree of crates/, the kit, and the last line of `rt ci`
     SHA256SUMS                  the sums of these files
 
-Then it makes docs/desk.html and the maps of docs/ with these programs. Nothing else writes to dist/
+Then it makes docs/page.html and the maps of docs/ with these programs, and tries for the page how
+few people change the answers. Nothing else writes to dist/
 or makes them. It needs the Rattle kit, git, python3 and Node, and takes hours.
 --room, --log, --module: takes what `tools/prove.sh FOLDER LOG --all-edits --module FILE` left. Its
 crates have to be those of this commit, with every edit.
@@ -72,7 +73,8 @@ mkdir -p dist
 find dist -mindepth 1 -delete
 cp -p "$made/dist/"* dist/
 python3 tools/compare_dist.py --program "$program" --wasm "$wasm"
-python3 tools/make_desk.py --program dist/countygroups-x86_64-linux --build-file dist/BUILD --maps docs
-python3 tools/test_desk.py --program dist/countygroups-x86_64-linux
+python3 tools/make_page.py --program dist/countygroups-x86_64-linux --build-file dist/BUILD \
+    --maps docs --closeness "$made/closeness"
+python3 tools/test_page_in_browser.py --program dist/countygroups-x86_64-linux
 echo "dist/ is made:"
 cat dist/BUILD

@@ -17,7 +17,7 @@ from page_samples import GROUPS, OUTLINES, SIX_WITHDRAWN, TWO, TWO_LISTED, WITHD
 from page_samples import PageRoom, file_line, record_of, small_table, written
 from sample_listings import SIX
 
-import desk_page
+import page_file
 import page as county_page
 from county_table import HEADER
 
@@ -305,7 +305,7 @@ class Made(PageRoom):
         lines = ("Name|GEOID|Name|GEOID", "A|37001|B|37003", "B|37003|A|37001", "B|37003|C|37005")
         for end in ("\n", "\r\n"):
             text = "".join(line + end for line in lines)
-            pairs = desk_page.border_lines(text, {"37001", "37003"})
+            pairs = page_file.border_lines(text, {"37001", "37003"})
             self.assertEqual(pairs, "37001 37003")
 
     def test_several_numbers_of_seats(self) -> None:

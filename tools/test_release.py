@@ -80,12 +80,12 @@ LAUNCHER = """import sys
 for name in ("countygroups.mjs", "countygroups.cmd"):
     open(f"{sys.argv[1]}/{name}", "w").close()
 """
-DESK = """import os
+PAGE = """import os
 os.makedirs("docs", exist_ok=True)
-open("docs/desk.html", "w").close()
+open("docs/page.html", "w").close()
 """
-DESK_TEST = """import os
-assert os.path.exists("docs/desk.html")
+PAGE_TEST = """import os
+assert os.path.exists("docs/page.html")
 """
 
 
@@ -112,8 +112,8 @@ class TestRelease(InRepository):
             shutil.copy(f"{TOOLS}/{name}", self.folder("tools"))
         write(f"{self.top}/tools/wasm.sh", WASM, True)
         write(f"{self.top}/tools/launcher.py", LAUNCHER)
-        write(f"{self.top}/tools/make_desk.py", DESK)
-        write(f"{self.top}/tools/test_desk.py", DESK_TEST)
+        write(f"{self.top}/tools/make_page.py", PAGE)
+        write(f"{self.top}/tools/test_page_in_browser.py", PAGE_TEST)
         write(f"{self.top}/test.sh", "#!/bin/sh\n", True)
         for name in ("countygroups", "other"):
             write(f"{self.top}/crates/{name}/src/main.rt", name)
@@ -188,7 +188,7 @@ class TestRelease(InRepository):
         tree = self.run_words("git", "rev-parse", "HEAD:crates").stdout
         wanted = f"crates {tree}kit rattle-kit-0 logic 0\nproof 9 passed, 0 failed\n"
         self.assertEqual(read(f"{self.top}/dist/BUILD"), wanted)
-        self.assertTrue(os.path.exists(f"{self.top}/docs/desk.html"))
+        self.assertTrue(os.path.exists(f"{self.top}/docs/page.html"))
         sums = self.run_words("sh", "-c", "cd dist && sha256sum --strict -c SHA256SUMS")
         self.assertEqual(sums.returncode, 0, sums.stdout)
 

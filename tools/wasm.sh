@@ -8,7 +8,9 @@ usage: tools/wasm.sh MODULE.bc OUT.wasm [REFUSING.wasm]
 
 Compiles the LLVM module of the program, which tools/module.sh keeps, and web/heap.c for 64-bit
 WebAssembly, and links both, by the clang and the linker of the kit alone (some two minutes on one
-core). What is still missing then has to be a host call of web/host/calls.txt.
+core). What is still missing then has to be a host call of web/host/calls.txt. Then Binaryen
+(`wasm-opt` of Debian's package `binaryen`, version 108) lowers the memory to 32-bit addresses,
+which every browser and every Node has, and optimizes.
 REFUSING.wasm is the same program over web/test/refusing_heap.c, which refuses the request that a
 test names.
 Statuses: 0 all is stored, 1 it can't be compiled or linked, 2 these words can't be run.
@@ -26,6 +28,7 @@ if [ $# -lt 2 ] || [ $# -gt 3 ]; then
     exit 2
 fi
 [ -r "$1" ] || refuse "$1 can't be read"
+command -v wasm-opt >/dev/null || refuse "there is no \`wasm-opt\`: install Debian's \`binaryen\`"
 command -v rt >/dev/null || refuse "there is no \`rt\` on the path; it comes with the Rattle kit"
 web=$(cd "$(dirname "$0")/../web" && pwd)
 clang=$(dirname "$(rt doc)")/toolchain/bin/clang
@@ -44,7 +47,8 @@ link() { # HEAP.o OUT.wasm LINKER-WORD..
     "$room/wasm-ld" -mwasm64 --no-entry --export=main \
         --allow-undefined-file="$web/host/calls.txt" --gc-sections --strip-all \
         -z stack-size=16777216 "$@" -o "$room/linked.wasm" "$room/program.o" "$heap" || exit 1
-    mv "$room/linked.wasm" "$out"
+    "$(dirname "$0")/lowered_wasm.sh" "$room/linked.wasm" "$room/lowered.wasm" || exit 1
+    mv "$room/lowered.wasm" "$out"
 }
 
 "$clang" "${target[@]}" -Os -fintegrated-cc1 -Wno-override-module \

@@ -28,11 +28,11 @@ static word heap_end, memory_end;
 #define IS_REFUSED() 0
 #endif
 
-/* Makes the memory at least `end` bytes long. Answers whether it is. */
+/* Answers whether the memory now has `end` bytes. A lowered memory fails by the low word alone. */
 static _Bool reach(word end) {
     if (end <= memory_end) return 1;
     word more = (end - memory_end + GROWTH - 1) / GROWTH * GROWTH;
-    if (__builtin_wasm_memory_grow(0, more / PAGE) == ~0ul) return 0;
+    if ((unsigned)__builtin_wasm_memory_grow(0, more / PAGE) == ~0u) return 0;
     memory_end += more;
     return 1;
 }

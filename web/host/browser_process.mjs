@@ -1,6 +1,5 @@
 /** The page's side of a process, which runs in a worker of its own. */
 
-import { hasWasm64 } from "./wasm64.mjs";
 import { workerSource } from "./worker_source.mjs";
 
 /**
@@ -18,9 +17,8 @@ import { workerSource } from "./worker_source.mjs";
  */
 
 /** The sentence for a browser that can't run the program. */
-export const NO_WASM64 =
-  "This browser can't run the program: it has no 64-bit WebAssembly, " +
-  "as Chrome and Edge have it from version 133 on and Firefox from 134 on.";
+const NO_ENGINE =
+  "This browser can't run the program: it has no WebAssembly, or can't unpack what the page has.";
 
 /** Why a process has no end of its own. */
 export class ProcessError extends Error {
@@ -41,7 +39,8 @@ export class ProcessError extends Error {
  * @returns {string | null}
  */
 export function reasonAgainstRunning() {
-  return hasWasm64() ? null : NO_WASM64;
+  const canRun = typeof WebAssembly === "object" && typeof DecompressionStream === "function";
+  return canRun ? null : NO_ENGINE;
 }
 
 /**

@@ -7,10 +7,8 @@
  */
 
 import fs from "node:fs";
-import v8 from "node:v8";
 import { NodeFiles } from "./node_files.mjs";
 import { runProcess } from "./process.mjs";
-import { hasWasm64 } from "./wasm64.mjs";
 
 // (`process` is the global one: an import of "node:process" would make Node's own standard streams,
 // which set pipes not to wait)
@@ -23,18 +21,6 @@ const NOT_STARTED = 126;
 
 /** What stands in a word for bytes that are no UTF-8. */
 const REPLACED = "\ufffd";
-
-/**
- * Returns whether this Node runs 64-bit WebAssembly. Node 20 and 22 do once a flag is set.
- *
- * @returns {boolean}
- */
-function canRun() {
-  if (!hasWasm64()) {
-    v8.setFlagsFromString("--experimental-wasm-memory64");
-  }
-  return hasWasm64();
-}
 
 /**
  * Returns the words after the name of this file. Node replaces bytes that are no UTF-8, so where
@@ -84,9 +70,6 @@ function readModule() {
 
 /** Runs the program with the words of this process, and ends as it ends. */
 function main() {
-  if (!canRun()) {
-    refuse(`Node ${process.versions.node} has no 64-bit WebAssembly: use Node 24`, NOT_STARTED);
-  }
   const module = readModule();
   let status = ABORTED;
   try {

@@ -8,9 +8,6 @@
  */
 
 import fs from "node:fs";
-import v8 from "node:v8";
-
-v8.setFlagsFromString("--experimental-wasm-memory64");
 
 /** @typedef {(high: bigint, low: bigint, places: number) => void} Shift */
 /** @typedef {(high: bigint, low: bigint, byHigh: bigint, byLow: bigint) => void} Operation */
@@ -196,7 +193,8 @@ function testLimit(heap) {
  * @param {Heap} heap
  */
 function testHugeSizes(heap) {
-  for (const size of [LARGEST, LARGEST + 1n, 1n << 63n, WORD - 15n, WORD]) {
+  const past = [(1n << 32n) - 16n, 1n << 32n, (1n << 32n) + 1n, 1n << 33n, 1n << 39n];
+  for (const size of [...past, LARGEST, LARGEST + 1n, 1n << 63n, WORD - 15n, WORD]) {
     check(heap.test_alloc(size) === 0n, `a block of ${size} bytes is refused`);
   }
   check(heap.test_alloc(0n) !== 0n, "a block of no bytes is there");

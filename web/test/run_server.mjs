@@ -9,10 +9,7 @@
 
 import fs from "node:fs";
 import readline from "node:readline";
-import v8 from "node:v8";
 import { pathToFileURL } from "node:url";
-
-v8.setFlagsFromString("--experimental-wasm-memory64");
 
 /**
  * A run that is asked for.

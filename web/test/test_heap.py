@@ -6,9 +6,9 @@ import tempfile
 import unittest
 from pathlib import Path
 
-from web_setting import SETTING, WEB, run_node
+from web_setting import SETTING, TOP, WEB, run_node
 
-from installed import NotThere
+from installed import NotThere, program_there
 
 TEST = WEB / "test"
 EXPORTS = TEST / "heap_exports.c"
@@ -27,7 +27,7 @@ def clang() -> str:
 
 
 def compile_heap(heap: Path, room: Path) -> Path:
-    """Returns a module of the functions of `heap`, whose memory has at most 64 MB."""
+    """Returns a lowered module of the functions of `heap`, whose memory has at most 64 MB."""
     compiled, linker, module = room / "heap.o", room / "wasm-ld", room / "heap.wasm"
     words = [clang(), *FLAGS, f'-DHEAP="{heap}"', "-c", str(EXPORTS), "-o", str(compiled)]
     subprocess.run(words, check=True)
@@ -35,7 +35,10 @@ def compile_heap(heap: Path, room: Path) -> Path:
     names = sorted(set(re.findall(r"\b(test_\w+)\(", EXPORTS.read_text(encoding="ascii"))))
     words = [str(linker), "-mwasm64", "--no-entry", *(f"--export={name}" for name in names)]
     words += [f"--max-memory={MOST_MEMORY}", "-z", "stack-size=65536"]
-    subprocess.run([*words, "-o", str(module), str(compiled)], check=True)
+    linked = room / "linked.wasm"
+    subprocess.run([*words, "-o", str(linked), str(compiled)], check=True)
+    program_there("wasm-opt")
+    subprocess.run([TOP / "tools" / "lowered_wasm.sh", linked, module], check=True)
     return module
 
 
@@ -87,8 +90,8 @@ FAULTS = {
         "free_blocks[block->shift] = 0;\n",
     ),
     "a memory that can't grow counts as grown": (
-        "== ~0ul) return 0;",
-        "== ~0ul) return 1;",
+        "== ~0u) return 0;",
+        "== ~0u) return 1;",
     ),
     "a block that is refused is lost": (
         "    if (!moved) return answer(0);\n",

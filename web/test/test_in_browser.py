@@ -217,11 +217,11 @@ class Selected(InPage):
 
 
 class Unable(InPage):
-    """A browser without 64-bit WebAssembly."""
+    """A browser without WebAssembly."""
 
     def test_it_is_told_in_one_sentence(self) -> None:
         self.assertIsNone(self.browser.value("reasonAgainstRunning()"))
-        self.open_page(page_of("WebAssembly.validate = () => false;"))
+        self.open_page(page_of("globalThis.WebAssembly = undefined;"))
         told = self.browser.value("reasonAgainstRunning()")
         self.assertRegex(told, r"\AThis browser can't run the program: [^.]*\.\Z")
         self.assertEqual(self.browser.faults, [])

@@ -243,19 +243,14 @@ class Alone(Launched):
         """Returns what the launcher says of its version, by a Node with these options."""
         return run_node(*options, self.room / "dist" / "countygroups.mjs", "--version")
 
-    def test_a_node_that_has_wasm64_from_the_start(self) -> None:
-        flag = "--experimental-wasm-memory64"
-        if run_node(flag, "--version").returncode:
-            raise NotThere("this Node has no flag for 64-bit WebAssembly, since it always has it")
-        done = self.version_by(flag)
+    def test_a_node_without_a_flag(self) -> None:
+        done = self.version_by()
         self.assertEqual((done.returncode, done.stdout[:13]), (0, "countygroups "))
 
-    def test_a_node_without_wasm64(self) -> None:
-        without = "data:text/javascript,WebAssembly.validate=()=>false"
-        done = self.version_by("--import", without)
+    def test_a_node_without_webassembly(self) -> None:
+        done = self.version_by("--import", "data:text/javascript,delete globalThis.WebAssembly")
         self.assertEqual((done.returncode, done.stdout), (126, ""))
-        told = r"\Acountygroups: Node [\d.]+ has no 64-bit WebAssembly: use Node 24\n\Z"
-        self.assertRegex(done.stderr, told)
+        self.assertRegex(done.stderr, r"\Acountygroups: countygroups.wasm beside .*\n\Z")
 
     def test_the_launcher_for_windows(self) -> None:
         text = (self.room / "dist" / "countygroups.cmd").read_bytes()

@@ -44,7 +44,7 @@ def sources(*patterns: str) -> list[Path]:
 
 def python_files() -> list[Path]:
     """Returns the Python files that `tools/check_python.sh` checks."""
-    return sources("cases/*.py", "tools/*.py", "bench/*.py", "web/test/*.py", "web/desk/test/*.py")
+    return sources("cases/*.py", "tools/*.py", "bench/*.py", "web/test/*.py", "web/page/test/*.py")
 
 
 class Sources(unittest.TestCase):
@@ -57,7 +57,7 @@ class Sources(unittest.TestCase):
 
     def test_functions_are_short(self) -> None:
         seen = 0
-        for path in sources("web/host/*.mjs", "web/desk/*.mjs", "web/test/*.mjs"):
+        for path in sources("web/host/*.mjs", "web/page/*.mjs", "web/test/*.mjs"):
             for name, length in functions_of(path.read_text(encoding="utf-8")):
                 seen += 1
                 self.assertLessEqual(length, MOST_LINES, f"{path.name}: {name}")
@@ -75,6 +75,14 @@ class Sources(unittest.TestCase):
         for path in [*own, *python_files()]:
             for number, line in enumerate(path.read_text(encoding="utf-8").split("\n"), 1):
                 self.assertLessEqual(len(line), MOST_COLUMNS, f"{path.name}, line {number}")
+
+    def test_html_is_made_by_one_template(self) -> None:
+        pages = [path for path in sources("web/page/*.mjs") if path.name != "html.mjs"]
+        self.assertGreater(len(pages), 40)
+        for path in pages:
+            text = path.read_text(encoding="utf-8")
+            for way in ("innerHTML", "outerHTML", "insertAdjacentHTML", "document.write"):
+                self.assertNotIn(way, text, path.name)
 
     def test_heap_is_short(self) -> None:
         self.assertLess(len((WEB / "heap.c").read_text(encoding="utf-8").splitlines()), 150)

@@ -93,9 +93,9 @@ def with_limit(module: bytes, pages: int) -> bytes:
         at = begin + length
     length, begin = number_at(module, at + 1)
     held = module[begin : begin + length]
-    assert held[:2] == b"\1\4", "one memory of 64 bits, without a limit"
+    assert held[:2] == b"\1\0", "one memory of 32 bits, without a limit"
     limit = bytes((pages >> shift & 127) | (128 if shift < 28 else 0) for shift in range(0, 35, 7))
-    new = b"\1\5" + held[2:] + limit
+    new = b"\1\1" + held[2:] + limit
     return module[: at + 1] + bytes([len(new)]) + new + module[begin + length :]
 
 
