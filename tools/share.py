@@ -37,6 +37,7 @@ import argparse
 import contextlib
 import fcntl
 import heapq
+import importlib
 import importlib.util
 import logging
 import os
@@ -60,7 +61,8 @@ import share_worker
 from refusal import Refused
 from script_words import ScriptWords
 from share_proof import Event, Piece, Proof, judged, store, tell
-from share_worker import Answer, Prover, Task, end_provers, prove, prove_with, read_answer, replies
+from share_worker import Answer, Prover, Task, end_provers, end_tests, prove, prove_with
+from share_worker import read_answer, replies
 
 # The steps of the first piece. They double until this many pieces wait for each worker.
 FIRST_STEPS, ENOUGH_WAITING = 2000, 16
@@ -179,6 +181,8 @@ class Coordinator:
         if asked not in self.asked:
             return
         self.asked.remove(asked)
+        # (so that Dask frees the answer at once)
+        asked.future = None
         asked.piece.tasks -= not asked.events
         if answer is None or not asked.piece.is_needed or self.faults[asked.name] >= MOST_FAULTS:
             pass
@@ -448,6 +452,7 @@ class Coordinator:
             self.check.kill()
         for prover in self.provers.values():
             prover.process.kill()
+        end_tests()
         if self.client:
             words = end_provers, self.run_name
             ending = threading.Thread(target=self.client.run, args=words, daemon=True)
@@ -457,12 +462,10 @@ class Coordinator:
 
 def cluster_of(asked: argparse.Namespace) -> Any:
     """Returns the cluster that is started for the words of the command, or None."""
-    import distributed
-
+    distributed = importlib.import_module("distributed")
     if asked.slurm:
-        from dask_jobqueue import SLURMCluster
-
-        cluster = SLURMCluster(cores=1, processes=1, memory="2GB")
+        jobqueue = importlib.import_module("dask_jobqueue")
+        cluster = jobqueue.SLURMCluster(cores=1, processes=1, memory="2GB")
         cluster.scale(jobs=asked.jobs)
         return cluster
     if asked.ssh:
@@ -598,9 +601,7 @@ def locked(folder: str) -> BinaryIO:
 
 def share(asked: argparse.Namespace) -> None:
     """Does what the words ask for."""
-    from distributed import Client
-    from distributed.diagnostics.progressbar import TextProgressBar
-
+    distributed = importlib.import_module("distributed")
     for form, module in (("slurm", "dask_jobqueue"), ("ssh", "asyncssh")):
         if getattr(asked, form) and not importlib.util.find_spec(module):
             raise Refused(f"--{form} needs the Python module {module}: see --help")
@@ -612,14 +613,17 @@ def share(asked: argparse.Namespace) -> None:
     cluster = cluster_of(asked)
     signal.signal(signal.SIGINT, stop_by_signal)
     try:
-        coordinator.client = Client(cluster or asked.scheduler)
+        coordinator.client = distributed.Client(cluster or asked.scheduler)
         coordinator.client.upload_file(share_worker.__file__)
         if importlib.util.find_spec("bokeh"):
             tell(f"Dask's dashboard is {coordinator.client.dashboard_link}")
         if sys.stdout.isatty():
-            coordinator.bar = TextProgressBar([], start=False)
+            bars = importlib.import_module("distributed.diagnostics.progressbar")
+            coordinator.bar = bars.TextProgressBar([], start=False)
         ready = time.monotonic()
         coordinator.run()
+        if coordinator.bar:
+            coordinator.bar._draw_stop()
         checked, proved = time.monotonic(), coordinator.proved_at
         tell(
             f"proved: start {ready - began:.1f} s, proof {proved - ready:.1f} s, "

@@ -1,6 +1,7 @@
 """What runs at the workers of `tools/share.py`: a process of the program, and what it answers."""
 from __future__ import annotations
 
+import importlib
 import os
 import re
 import select
@@ -25,6 +26,8 @@ TREE_LINE = re.compile(
 # The words that may begin a tree, that stand in a bound leaf, and that go on with a branch.
 BEGINS, ROWS = (b"branch", b"stuck", b"seats", b"bound", b"open"), (b"room", b"weigh")
 NEXT = (b"take", b"mark")
+# The tests of answers that this process runs.
+TESTS: set[subprocess.Popen[bytes]] = set()
 GROUPS = re.compile(rb"(group \d+( \d{5})+\n)*")
 
 
@@ -187,9 +190,7 @@ def prove_with(provers: dict[tuple[str, int], Prover], by: str, task: Task) -> A
 
 def prove(task: Task) -> Answer:
     """Proves a piece at a worker of Dask, which keeps its provers. Raises `Fault` behind the end."""
-    from distributed import get_worker
-
-    worker = get_worker()
+    worker = importlib.import_module("distributed").get_worker()
     if task.run in vars(worker).get("ended", ()):
         raise Fault("the run has ended")
     return prove_with(vars(worker).setdefault("provers", {}), str(worker.name), task)
@@ -201,6 +202,13 @@ def end_provers(run: str, dask_worker: Any) -> None:
     for key, prover in list(vars(dask_worker).get("provers", {}).items()):
         if key[0] == run:
             prover.process.kill()
+    end_tests()
+
+
+def end_tests() -> None:
+    """Ends the tests of answers that this process runs, which then count for nothing."""
+    for process in list(TESTS):
+        process.kill()
 
 
 def replies(command: list[str], limit: int, grouping: bytes, events: bytes) -> list[str]:
@@ -221,8 +229,10 @@ def replies(command: list[str], limit: int, grouping: bytes, events: bytes) -> l
         with subprocess.Popen(words, stdin=null, stdout=pipe, stderr=null) as process:
             timer = threading.Timer(TEST_SECONDS, process.kill)
             timer.start()
+            TESTS.add(process)
             assert process.stdout
             told = process.stdout.read(MOST_LINES)
+            TESTS.discard(process)
             timer.cancel()
             process.kill()
     return told.decode(errors="replace").splitlines()

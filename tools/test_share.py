@@ -15,6 +15,7 @@ from __future__ import annotations
 
 import argparse
 import contextlib
+import fcntl
 import io
 import os
 import random
@@ -31,7 +32,7 @@ from typing import Any, Optional
 
 from help_texts import TOP
 from share import begin
-from share_worker import Prover, prove, prove_with
+from share_worker import Prover, end_tests, prove, prove_with
 from tested_program import TESTED, run_tests
 
 SHARE = os.path.join(TOP, "tools", "share.py")
@@ -190,9 +191,11 @@ class StandIn:
 
     def run(self, _: Any, run: str) -> None:
         """Ends the processes of the workers."""
-        for provers in self.provers.values():
-            for prover in list(provers.values()):
+        for name, threads in self.threads.items():
+            threads.shutdown(wait=False, cancel_futures=True)
+            for prover in list(self.provers[name].values()):
                 prover.process.kill()
+        end_tests()
 
 
 class Workers(unittest.TestCase):
@@ -265,19 +268,20 @@ class Folders(Shared):
     def test_a_stop(self) -> None:
         """A signal ends it with 3, without files that are half written, and it goes on."""
         for number in (signal.SIGINT, signal.SIGTERM):
-            process = self.started(3)
+            process = self.started(len(self.answers()) + 3)
             process.send_signal(number)
             status, told, _ = self.end(process)
             self.assertEqual(status, 3, told)
         self.expect_best(self.start())
 
     def test_two_at_once(self) -> None:
-        """A second one is refused in the folder."""
-        process = self.started(1)
-        status, told, _ = self.end(self.start())
+        """A folder in which another one is at work is refused."""
+        os.makedirs(self.folder)
+        with open(f"{self.folder}/lock", "wb") as lock:
+            fcntl.flock(lock, fcntl.LOCK_EX)
+            status, told, _ = self.end(self.start())
         self.assertEqual(status, 2)
         self.assertIn("another run is at work", told)
-        self.expect_best(process)
 
     def test_another_problem(self) -> None:
         """The folder of another grouping is refused."""
