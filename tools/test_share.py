@@ -8,7 +8,8 @@ usage: python3 tools/test_share.py [--program FILE] [--long] [TEST ..]
 
 Two workers prove that North Carolina's Senate of 2023 is a best grouping. Of these one has a false
 program, in 21 ways. Each certificate has to be best by `check`, within ten times the seconds of two
-honest workers, and the coordinator's memory stays below 300 MB. In most tests threads stand in for
+honest workers, or a minute if that is more, because a machine may be busy with other tests. The
+coordinator's memory stays below 300 MB. In most tests threads stand in for
 the workers of Dask. Those with Dask are passed over if it isn't installed, which a line tells.
 """
 from __future__ import annotations
@@ -237,16 +238,23 @@ class Workers(unittest.TestCase):
         os.chmod(path, 0o755)
         folder = tempfile.mkdtemp(dir=self.room)
         seconds, told = self.shared(folder, {"liar": path, "honest": TESTED.program})
-        self.assertLess(seconds, 10 * self.honest_seconds, told)
+        if seconds > max(60, 10 * self.honest_seconds):
+            # (the machine may have become busier since)
+            self.honest_seconds = self.honest()
+        self.assertLess(seconds, max(60, 10 * self.honest_seconds), told)
         self.assertIn(expected, told)
         self.assertNotIn("worker honest", told)
         usage = resource.getrusage(resource.RUSAGE_SELF)
         self.assertLess(usage.ru_maxrss, MOST_KILOBYTES)
 
+    def honest(self) -> float:
+        """Returns the seconds of two honest workers."""
+        honest = {"one": TESTED.program, "two": TESTED.program}
+        return self.shared(tempfile.mkdtemp(dir=self.room), honest)[0]
+
     def test_lies(self) -> None:
         """One answers lies, or doesn't answer, or finds what is right wrong."""
-        honest = {"one": TESTED.program, "two": TESTED.program}
-        self.honest_seconds, _ = self.shared(f"{self.room}/honest", honest)
+        self.honest_seconds = self.honest()
         for name, (lie, told) in LIES.items():
             with self.subTest(name):
                 self.expect_against(f"LIE = {lie!r}\n{LIAR}", told)
