@@ -222,6 +222,7 @@ def made_page(given: argparse.Namespace, room: Path) -> str:
         "state-name": "North Carolina",
         "sources": SOURCES,
         "description": DESCRIPTION,
+        "share-picture": '<meta property="og:image" content="page.png">',
         "borders-note": page_file.as_paragraph(borders_note),
     }
     return page_file.page_html(data, carried_files(room, Path(given.wasm)), parts)

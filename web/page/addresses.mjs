@@ -90,13 +90,19 @@ function withOption(page, address, text) {
 }
 
 /**
- * Returns an address with its county.
+ * Returns an address with its county, and with the chamber of the group that it asks for, if it asks
+ * for one.
  * @param {Page} page
  * @param {Address} address
  * @param {string} code
  */
 function withCounty(page, address, code) {
-  if (page.geography.placeOf.has(code)) return { ...address, county: code };
-  const told = unescaped(code).slice(0, 20);
-  return { ...address, fault: `No county of ${page.geography.name} has the code ${told}.` };
+  const [chamber = "", codes = ""] = address.query.split("/");
+  const all = [code, ...codes.split("-").filter(Boolean)];
+  const unknown = all.find((one) => !page.geography.placeOf.has(one));
+  if (unknown !== undefined) {
+    const told = unescaped(unknown).slice(0, 20);
+    return { ...address, fault: `No county of ${page.geography.name} has the code ${told}.` };
+  }
+  return withChamber(page, { ...address, county: code }, chamber);
 }

@@ -33,8 +33,7 @@ export function paintCounty(page, state, query) {
     fill(place, NOTHING);
     return;
   }
-  const [key = "", codes = ""] = query.split("/");
-  if (page.answers.some((answer) => answer.key === key)) state.chamber = key;
+  const [, codes = ""] = query.split("/");
   const others = codes.split("-").map((code) => page.geography.placeOf.get(code));
   const chosen = others.filter((one) => one !== undefined && one !== county);
   fill(place, countyHtml(page, county, /** @type {number[]} */ (chosen), state.chamber));

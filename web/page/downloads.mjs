@@ -74,7 +74,7 @@ export function optionsText(page, state) {
 
 /**
  * Returns the HTML by which another page shows the map of the option in a frame. A page that was
- * saved names the place where the reader has to put it.
+ * saved is named as it has to lie beside the other page.
  * @param {Page} page
  * @param {ViewState} state
  */
@@ -82,7 +82,7 @@ export function embedText(page, state) {
   const { answer, option } = current(page, state);
   const hash = hashOf(page, `embed/${answer.key}/${option}`);
   const isSaved = location.protocol === "file:";
-  const address = isSaved ? "https://WHERE.YOU.PUT/page.html" : location.href.split("#")[0];
+  const address = isSaved ? "page.html" : location.href.split("#")[0];
   const title = `${page.geography.name} ${answer.name}: county groups`;
   const frame = html`
     <iframe src="${address}${hash}" title="${title}" width="100%" height="640"

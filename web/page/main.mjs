@@ -50,7 +50,8 @@ function route(page, state) {
     && !find("#answer").hidden;
   if (address.option && isSame) showOption(page, state, address.option);
   else if (address.option) state.option.set(address.chamber, address.option);
-  if (address.view === "answer" && address.chamber && !address.isEmbedded) nameOption(page, state);
+  const isOption = address.view === "answer" && address.chamber !== "" && !address.county;
+  if (isOption && !address.isEmbedded) nameOption(page, state);
   if (!address.option || !isSame) showView(page, state, address);
 }
 

@@ -164,9 +164,8 @@ async function runChecks(page, answer, steps, files, certificate, isSpoiled) {
   }
   step.end(true, `Checked ${numberText(lines)} lines, one by one`);
   step = steps.begin("Listing every best grouping, and comparing with the map");
-  const listed = await runProgram(["list", ...words], files);
+  const { listed, which } = await listedWith(page, answer, words, files);
   const isSame = listed.status === 0 && showsTheSame(page, answer, listed.output);
-  const which = isSame ? await enactedNumber(page, answer, words, files) : answer.enacted;
   step.end(isSame, isSame
     ? `The page shows the same ${numberText(answer.number)} groupings that the program lists`
     : "The page shows other groupings than the program lists");
@@ -202,19 +201,21 @@ function goodVerdict(answer, which, isSpoiled, seconds) {
 }
 
 /**
- * Returns the number that `list --which` gives for the enacted grouping, or 0 if it isn't one of
- * the best, or if the page has none.
+ * Returns the list of a certificate, and the number that it gives the enacted grouping if the page
+ * marks one: 0 if it isn't one of the best.
  * @param {Page} page
  * @param {Answer} answer
  * @param {string[]} words  of the problem and the certificate
  * @param {import("./program.mjs").Files} files
  */
-async function enactedNumber(page, answer, words, files) {
-  const { enacted } = textsFor(page, answer.key);
-  if (!enacted) return 0;
-  const all = withFile(files, "which", enacted);
-  const run = await runProgram(["list", ...words, "--which", "which"], all);
-  return Number(run.output.match(/^number (\d+)$/m)?.[1] ?? 0);
+async function listedWith(page, answer, words, files) {
+  if (!answer.enacted) return { listed: await runProgram(["list", ...words], files), which: 0 };
+  const all = withFile(files, "which", textsFor(page, answer.key).enacted);
+  const listed = await runProgram(["list", ...words, "--which", "which"], all);
+  if (listed.status === 0) {
+    return { listed, which: Number(listed.output.match(/^number (\d+)$/m)?.[1] ?? 0) };
+  }
+  return { listed: await runProgram(["list", ...words], files), which: 0 };
 }
 
 /**

@@ -41,7 +41,14 @@ class Options(InPage):
 
     def test_links_that_name_nothing(self) -> None:
         self.open("#senate/3")
-        for mark in ("#senate/99", "#senate/1.5", "#house/0", "#senat", "#county/99999"):
+        for mark in (
+            "#senate/99",
+            "#senate/1.5",
+            "#house/0",
+            "#senat",
+            "#county/99999",
+            "#county/37063/senate/37999",
+        ):
             with self.subTest(mark):
                 self.go(mark)
                 self.assertIn("This link can’t be read", self.text("#unreadable"))

@@ -80,6 +80,11 @@ class Text(unittest.TestCase):
         style = (page_file.MODULES / "page.css").read_text(encoding="utf-8")
         self.assertTrue(f"<style>{style}</style>" in text, "the style is another")
 
+    def test_the_folder_opens_the_page(self) -> None:
+        text = (TOP / "docs" / "index.html").read_text(encoding="utf-8")
+        self.assertIn('location.replace("page.html" + location.search + location.hash)', text)
+        self.assertIn('<a href="page.html">', text)
+
 
 class Page(InPage):
     """What holds of the whole page."""
