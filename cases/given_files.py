@@ -71,10 +71,12 @@ def serve(path: str, sources: List[str], spare: str) -> None:
     """Gives the bytes of one source at each opening of the pipe `path`, and then none, for ever.
 
     Each opening is of a pipe of its own: the next one stands under the name before the first byte
-    is given.
+    is given. It ends where the run has stored a file under the name before it opens the pipe.
     """
     while True:
         pipe = os.open(path, os.O_WRONLY)
+        if not stat.S_ISFIFO(os.fstat(pipe).st_mode):
+            return
         os.mkfifo(spare)
         os.rename(spare, path)
         copy_once(sources.pop(0) if sources else os.devnull, pipe)
