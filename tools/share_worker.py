@@ -98,7 +98,9 @@ def read_answer(by: str, number: int, state: bytes, text: bytes) -> Answer:
     """Returns the answer that a `text` spells. Raises `Fault` if it spells none."""
     head, _, body = text.partition(b"\n")
     kind = head.split(b" ")[0].decode(errors="replace")
-    if text in (b"open\n", b"wider 1\n", b"no such piece\n"):
+    if text == b"no such piece\n":
+        return Answer(by, "no such piece")
+    if text in (b"open\n", b"wider 1\n"):
         return Answer(by, kind)
     if kind == "better" and GROUPS.fullmatch(body):
         return Answer(by, kind, body)
