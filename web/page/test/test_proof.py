@@ -112,12 +112,12 @@ class Proof(InPage):
             self.verdict("senate")
             times.append(self.value("took"))
         print(f"the Senate's check: {min(times) / 1000:.2f} s", flush=True)
-        self.assertLess(min(times), max(2000, 2000 * self.native_seconds()))
+        self.assertLess(min(times), max(2000, 10_000 * self.native_seconds()))
 
     def native_seconds(self) -> float:
         """Returns how long the program of this machine takes to solve the Senate, in seconds.
 
-        A machine on which that takes more than a second is given more time for the check.
+        A machine on which that takes more than a fifth of a second is given more time for the check.
         """
         times = []
         for _ in range(3):
