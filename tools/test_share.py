@@ -236,8 +236,12 @@ class Workers(unittest.TestCase):
         with open(path, "w") as file:
             file.write(f"#!{sys.executable} -S\nimport os, sys, time\n{program}\n")
         os.chmod(path, 0o755)
-        folder = tempfile.mkdtemp(dir=self.room)
-        seconds, told = self.shared(folder, {"liar": path, "honest": TESTED.program})
+        for _ in range(4):
+            folder = tempfile.mkdtemp(dir=self.room)
+            seconds, told = self.shared(folder, {"liar": path, "honest": TESTED.program})
+            # (a proof may end before the false program is heard often enough)
+            if expected in told:
+                break
         if seconds > max(60, 10 * self.honest_seconds):
             # (the machine may have become busier since)
             self.honest_seconds = self.honest()
