@@ -90,8 +90,8 @@ function withOption(page, address, text) {
 }
 
 /**
- * Returns an address with its county, and with the chamber of the group that it asks for, if it asks
- * for one.
+ * Returns an address with its county, and with the chamber of the group that it asks for, if it
+ * asks for one.
  * @param {Page} page
  * @param {Address} address
  * @param {string} code

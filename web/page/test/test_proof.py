@@ -117,7 +117,7 @@ class Proof(InPage):
     def native_seconds(self) -> float:
         """Returns how long the program of this machine takes to solve the Senate, in seconds.
 
-        A machine on which that takes more than a fifth of a second is given more time for the check.
+        A machine that takes more than a fifth of a second is given more time for the check.
         """
         times = []
         for _ in range(3):
