@@ -24,7 +24,7 @@ WAY = 0.005
 
 
 class Shared(NamedTuple):
-    """The pieces of a proof: the seconds of each, which pieces each of them opened, and the root."""
+    """The pieces of a proof: the seconds of each, which pieces each opened, and the root."""
 
     seconds: dict[str, float]
     opened: dict[str, list[str]]

@@ -281,7 +281,7 @@ class Coordinator:
         self.look_through()
 
     def blame(self, name: str, why: str) -> None:
-        """Counts a fault of a worker. Behind the last one it is left out, with its untested answers."""
+        """Counts a fault of a worker. After the last one its untested answers are left out, too."""
         self.faults[name] += 1
         tell(f"worker {name}: {why}")
         if name == "here":
@@ -425,9 +425,8 @@ class Coordinator:
         if self.bar:
             self.bar._draw_bar(remaining=waiting + asked, all=answered + waiting + asked)
         else:
-            tell(
-                f"{answered} pieces answered, {waiting} wait, {asked} at {len(self.workers)} workers"
-            )
+            workers = len(self.workers)
+            tell(f"{answered} pieces answered, {waiting} wait, {asked} at {workers} workers")
 
     def run(self) -> None:
         """Runs the loop until the grouping is proved best."""

@@ -135,7 +135,7 @@ class Proof:
             ahead += ahead.pop().children
 
     def chunks(self, piece: Piece) -> Iterator[tuple[Piece, bytes]]:
-        """Yields the lines of a joined tree, some at a time, with the piece whose answer has them."""
+        """Yields the lines of a joined tree in parts, with the piece whose answer has them."""
         children = iter(piece.children)
         for at, lines in enumerate(re.split(rb"(?m)^open\n", self.text(piece))):
             if at > 0:

@@ -191,7 +191,10 @@ def prove_with(provers: dict[tuple[str, int], Prover], by: str, task: Task) -> A
 
 
 def prove(task: Task) -> Answer:
-    """Proves a piece at a worker of Dask, which keeps its provers. Raises `Fault` behind the end."""
+    """Proves a piece at a worker of Dask, which keeps its provers.
+
+    Raises `Fault` if it is called after the end of the run.
+    """
     worker = importlib.import_module("distributed").get_worker()
     if task.run in vars(worker).get("ended", ()):
         raise Fault("the run has ended")
