@@ -127,6 +127,8 @@ class InFirefox(unittest.TestCase):
     def test_the_check(self) -> None:
         for key, button in (("senate", "#check"), ("house", "#check"), ("house", "#spoil")):
             self.open(f"#proof/{key}")
+            # (line 6 has a group of the target)
+            self.value("document.querySelector('#spoil-line').value = '6'")
             self.value(f"document.querySelector('{button}').click()")
             told = self.wait("#check-verdict")
             wanted = "The certificate proves it." if button == "#check" else "The checker says no."

@@ -49,11 +49,6 @@ class Modules(unittest.TestCase):
             )
             self.assertIn(f"line {line}, has “37183050100100”", told)
 
-    def test_the_letters_of_choices(self) -> None:
-        script = "[0, 25, 26, 27, 51, 52, 701, 702].map(choiceLetters)"
-        letters = ["A", "Z", "AA", "AB", "AZ", "BA", "ZZ", "AAA"]
-        self.assertEqual(given_by("words.mjs", "choiceLetters", script), letters)
-
     def test_borders_by_both_line_ends(self) -> None:
         placed = 'new Map([["37001", 0], ["37003", 1]])'
         for end in ("\\n", "\\r\\n"):
