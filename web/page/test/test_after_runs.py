@@ -47,8 +47,9 @@ class AfterRuns(InPage):
         self.wait_words("#check-verdict", "The certificate proves it.")
 
     def refusal(self, **how: Any) -> None:
-        """Spoils a line of the House."""
+        """Spoils a group of the House's target."""
         self.open("#proof/house", **how)
+        self.value("document.querySelector('#spoil-line').value = '6'; null")
         self.press_button("#spoil")
         self.wait_words("#check-verdict", "The checker says no.")
 
