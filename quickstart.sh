@@ -145,7 +145,7 @@ prove() { # PROGRAM
 # Says what to do where the program of dist/ can't run, and ends.
 refuse_machine() { # WHY
     echo "the same program runs by Node 20 or later: \`node dist/countygroups.mjs --help\`" >&2
-    refuse "$1 (docs/guide.md says how to run it, system by system)"
+    refuse "$1 (docs/reference/commands.md says how to run it, system by system)"
 }
 
 # Checks that the program of dist/ is what was built, and that it runs here.

@@ -113,24 +113,11 @@ end_tests() {
 test_scripts() {
     heading "the scripts"
     tools/check_python.sh
-    python3 cases/cases.py --test
-    python3 cases/fuzz.py --test
     python3 tools/trust_lines.py
     python3 tools/crate_table.py
-    python3 tools/test_passing_over.py
-    python3 tools/test_workshop.py
     python3 tools/prose.py
     python3 tools/doc_links.py
-    python3 tools/test_prose.py
-    python3 tools/test_doc_links.py
-    python3 tools/test_speed_bars.py
-    python3 tools/test_gate_room.py
-    python3 tools/test_compare_dist.py
-    python3 tools/test_release.py
-    python3 tools/test_border_check.py
-    python3 tools/test_page.py
-    python3 tools/test_assignments.py
-    python3 tools/test_grouping.py
+    python3 tools/run_tests.py --jobs "$few" --scripts
 }
 
 # Tests what dist/ says of itself, and that it is what was proved and built.
@@ -178,24 +165,10 @@ test_programs() { # PROGRAM ..
     python3 cases/cases.py --jobs "$jobs" "${words[@]}"
     heading "the second checker"
     python3 tools/compare_checkers.py
-    heading "tables of other programs, the guides, the man page and the completions"
-    python3 tools/test_assignments.py --program "$1"
-    python3 tools/test_grouping.py --program "$1"
+    heading "the guides"
     python3 tools/test_guides.py --program "$1"
-    python3 tools/test_manual_page.py --program "$1"
-    python3 tools/test_completions.py --program "$1"
-    heading "a proof shared by workers"
-    python3 tools/test_share.py --program "$1"
-    heading "borders in dispute"
-    python3 tools/test_what_if_table.py --program "$1"
-    heading "how close an answer is"
-    python3 tools/test_closeness.py --program "$1"
-    heading "the program at a terminal"
-    python3 tools/test_terminal.py --program "$1"
-    heading "a worker that answers at once"
-    python3 tools/test_worker.py --program "$1"
-    heading "a search that goes on at a board"
-    python3 tools/test_resuming.py --program "$1"
+    heading "what tools make, terminals, shared proofs, and other tests of the program"
+    python3 tools/run_tests.py --jobs "$few" --program "$1"
 }
 
 # Counts what small chambers take, beside their bars.
@@ -281,13 +254,23 @@ prove_and_test() {
     fi
     [ "$is_all" = no ] || start_beside edits try_edits
     heading "every crate is proved"
-    tools/prove.sh "$room/proved" "$room/log" "${edits[@]}" --module "$room/module.bc"
+    tools/prove.sh "$room/proved" "$room/log" "${edits[@]}" --module "$room/module.bc" \
+        --object "$room/program.o"
     take_programs "$room/proved"
     wasm=$room/countygroups.wasm
     refusing=$room/refusing.wasm
     tools/wasm.sh "$room/module.bc" "$wasm" "$refusing"
-    compare_dist --program "$built" --wasm "$wasm"
     programs=("$built")
+    static=("$room/static")
+    if [ -r /usr/lib/x86_64-linux-musl/libc.a ]; then
+        tools/static_program.sh "$room/program.o" "${static[0]}"
+        export COUNTYGROUPS_STATIC=${static[0]}
+        programs+=("${static[0]}")
+    else
+        tools/pass_over.sh "the program that is linked with musl: Debian has musl as musl-dev"
+        static=()
+    fi
+    compare_dist --program "$built" --wasm "$wasm" ${static:+--static "${static[0]}"}
     if [ -x "$built.by-rattle" ]; then
         programs+=("$built.by-rattle")
     fi

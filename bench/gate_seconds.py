@@ -1,5 +1,5 @@
 """Runs a command, as the gate, and prints the processor seconds of all that it ran, those of each
-crate's checks, and the figure of docs/gate.md: all of them divided by those of `place_sets`.
+crate's checks, and the figure of docs/benchmarks.md: all of them divided by those of `place_sets`.
 
 python3 bench/gate_seconds.py .ci/run
 

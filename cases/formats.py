@@ -1,12 +1,14 @@
-"""What the command writes, by docs/formats.md: whole texts with their status, and stored files.
+"""What the command writes, by docs/reference/formats.md: texts with their status, and files.
 
 Each table is made anew here from the files of a run, and from its report where it has one. The
-number behind a listing is found anew too. Of a record everything is compared but the version.
+number behind a listing is found anew too. Of a record everything is compared but the version. The
+object of a run with `--json` is compared with that of its text (`json_answers.py`).
 """
 from __future__ import annotations
 
 import hashlib
 import itertools
+import json
 import os
 import re
 import sys
@@ -14,6 +16,7 @@ from typing import Dict, Iterable, List, Mapping, NamedTuple, Optional, Sequence
 
 sys.path.append(f"{os.path.dirname(os.path.realpath(__file__))}/../tools")
 import check  # noqa: E402
+import json_answers  # noqa: E402
 from sweeps import named_by  # noqa: E402
 
 NUMBER, CODE, SET = r"(?:0|[1-9][0-9]*)", r"[0-9]{5}", r"(?:group|withdrawn) [1-9][0-9]*"
@@ -53,25 +56,25 @@ TREE_KIND = (
 TARGET_KIND = r"TargetFault (?:UnknownCounty|Twice|Missing|NotConnected|OutOfWindow|SeatsTotal)"
 FILE_KIND = (
     r"(?:TooFewFields|BadCode|BadNumber|DoubleRecord|NoRecord|DoubleCounty|DoubleBlock"
-    r"|NoCounties|NoBlocks|TooMany|BadSign|BadSeats|BadLabel|LineTooLong|TooManyLines)"
+    r"|NoCounties|NoBlocks|TooMany|BadSign|BadSeats|BadLabel|BadLine|LineTooLong|TooManyLines)"
 )
 PROBLEM_KIND = (
     rf"(?:BadWindow|TooManyCounties|NoPeople|UnknownWithdrawn {CODE}|WithdrawnTwice {CODE}"
     rf"|WithdrawnSeats|EmptyWithdrawn {NUMBER}|UnknownPair {CODE} {CODE})"
 )
 BOARD_KIND = r"(?:DepthOutOfRange|Target|LimitTooSmall|LimitTooLarge|TooManyPieces)"
-REFUSED_FILE = r"(?:geo|segment1|adjacency|links|withdrawn|grouping|assignments)"
+REFUSED_FILE = r"(?:geo|segment1|people|adjacency|links|withdrawn|grouping|assignments)"
 REFUSED = [
     (4, rf"refused {REFUSED_FILE} {FILE_KIND} line {NUMBER}\n"),
     (4, rf"refused events {WORD_KIND} line {NUMBER}\n"),
-    (4, rf"refused geo BadName line {NUMBER}\n"),
+    (4, rf"refused (?:geo|people) BadName line {NUMBER}\n"),
     (4, rf"refused problem {PROBLEM_KIND}\n"),
     (4, r"refused case TooLarge line 0\n"),
     (5, r"device [^\n]* (?:Missing|TooLarge|Device)\n"),
     (5, r"memory\n"),
     (2, r""),
     (2, r"(?:error: |.*Usage: countygroups).*"),
-    (0, r".*Usage: countygroups.*|countygroups [^\n]*\n"),
+    (0, r".*Usage: countygroups.*|countygroups [^\n]*\nlogic [0-9a-f]{16}\n"),
 ]
 NO = (1, rf"no (?:Text {WORD_KIND}|{TREE_KIND}|{TARGET_KIND}) line {NUMBER}\n")
 BUDGET, BOARD = (3, r"budget\n"), (4, rf"refused board {BOARD_KIND}\n")
@@ -108,7 +111,11 @@ TEXTS = {
             rf"(?:{CODE}\|{NUMBER}\|{SEAT_RANGE}\n)+",
         )
     ],
-    "judge": [(0, rf"{HEAD}answer (?:lawful|best)\n{GROUPS}"), (1, rf"fault {FAULT}\n")],
+    "judge": [
+        (0, rf"{HEAD}answer (?:lawful|best)\n{GROUPS}"),
+        (1, rf"{HEAD}answer lawful\n{GROUPS}greater counts(?: {NUMBER})+\n"),
+        (1, rf"fault {FAULT}\n"),
+    ],
     "solve": [
         (0, BEST),
         (1, IMPOSSIBLE),
@@ -228,15 +235,23 @@ def withdrawn_by(words: Words, files: Files) -> List[SetOfCounties]:
 
 def people_by(words: Words, files: Files) -> Dict[str, int]:
     """Returns the people of each listed county of a run, by its code."""
+    state = number_by(words, "--state", 37)
+    if named_by(words, "--people") is not None:
+        return check.read_people(held_by(words, files, "--people"), state)
     geo, segment = (held_by(words, files, it) for it in ("--geo", "--segment"))
-    return check.read_counties(geo, segment, number_by(words, "--state", 37))
+    return check.read_counties(geo, segment, state)
 
 
 def names_by(words: Words, files: Files) -> Dict[str, bytes]:
     """Returns the NAME of each listed county of a run, by its code.
 
-    It is field 88 of the county's line, or nothing if the line has fewer fields.
+    It is field 88 of the county's line, or nothing if the line has fewer fields. In a people file
+    it is the third field.
     """
+    if named_by(words, "--people") is not None:
+        table = held_by(words, files, "--people")
+        listed = check.read_named_people(table, number_by(words, "--state", 37))
+        return {code: name for code, (_, name) in listed.items()}
     state = b"%02d" % number_by(words, "--state", 37)
     names: Dict[str, bytes] = {}
 
@@ -247,6 +262,35 @@ def names_by(words: Words, files: Files) -> Dict[str, bytes]:
 
     check.read_file("geo", held_by(words, files, "--geo"), 15, read_name)
     return names
+
+
+# ---- the object of a run ----
+
+
+def object_line(words: Words, files: Files, text: str) -> bytes:
+    """Returns the line that a run with `--json` prints, by the text that it prints without."""
+    numbers = (("--part", 1), ("--of", 20))
+    tolerance = [number_by(words, option, otherwise) for option, otherwise in numbers]
+    names: Optional[Dict[str, str]] = None
+    if words[0] in json_answers.WITH_NAMES and text.startswith("people "):
+        names = {code: name.decode() for code, name in names_by(words, files).items()}
+    return json_answers.compact(json_answers.object_of(words[0], text, tolerance, names))
+
+
+def wrong_object(words: Words, files: Files, line: bytes) -> Optional[str]:
+    """Returns what is wrong with the object of a run, or None.
+
+    It is to be that of its own text, whose form is judged as that of any text.
+    """
+    try:
+        wanted = object_line(words, files, json_answers.text_of(line))
+    except (json_answers.NoAnswer, check.End, check.Fault, ValueError, KeyError) as error:
+        return f"object: {line[:160]!r} is none of a run: {error!r}"
+    if line != wanted:
+        same = len(os.path.commonprefix([line, wanted]))
+        one, other = line[same:][:80], wanted[same:][:80]
+        return f"object: behind {same} bytes it has {one!r}, wanted {other!r}"
+    return None
 
 
 # ---- the listing ----
@@ -501,18 +545,16 @@ def districts_table_of(words: Words, files: Files) -> bytes:
 
 # The words of a record for files which are read, each with the option that names the file, in the
 # order in which the files are read.
-INPUTS = [
-    ("geo", "--geo"),
-    ("segment1", "--segment"),
-    ("adjacency", "--adjacency"),
-    ("links", "--links"),
-    ("withdrawn", "--withdrawn"),
+CENSUS = [("geo", "--geo"), ("segment1", "--segment")]
+MAP = [("adjacency", "--adjacency"), ("links", "--links"), ("withdrawn", "--withdrawn")]
+PLAN = [
     ("grouping", "--grouping"),
     ("grouping", "--which"),
     ("certificate", "--certificate"),
     ("events", "--events"),
     ("assignments", "--assignments"),
 ]
+INPUTS = [*CENSUS, ("people", "--people"), *MAP, *PLAN]
 INPUT = "|".join(dict.fromkeys(file for file, _ in INPUTS))
 # The words of files whose option names a file to store, by the commands where it does.
 STORED = {"certificate": ("solve", "share"), "events": ("solve",)}
@@ -538,9 +580,12 @@ def escaped(text: bytes) -> bytes:
 def answer_of(text: bytes) -> bytes:
     """Returns the answer that a text gives.
 
-    It is the first line that begins with `answer `, without this word, and else the first line.
+    Of an object it is the member `answer`. Of another text it is the first line that begins with
+    `answer `, without this word, and else the first line.
     """
     lines = text.split(b"\n")
+    if text.startswith(b'{"answer":'):
+        return str(json.loads(lines[0])["answer"]).encode()
     answers = [it[len(b"answer ") :] for it in lines if it.startswith(b"answer ")]
     return (answers or lines)[0]
 
@@ -556,7 +601,9 @@ def read_lines(words: Words, files: Files, record: bytes) -> List[bytes]:
     A file that was left is taken as far as the record says.
     """
     lines = []
-    for file, option in INPUTS:
+    has_people = named_by(words, "--people") is not None
+    inputs = [("people", "--people"), *MAP, *CENSUS, *PLAN] if has_people else INPUTS
+    for file, option in inputs:
         name = named_by(words, option)
         if name is None or words[0] in STORED.get(file, ()):
             continue

@@ -15,6 +15,7 @@ A program gets it as a case on standard input, or as files in a folder. A find i
                 bad access
     format      the text isn't one that the command writes with this status (TEXTS of formats.py),
                 or the status is none that docs/formats.md names
+    object      with `--json` the line isn't the object of its text, or an answer is no object
     listing     a listing doesn't tell as many groupings as it says, or they don't ascend, or the
                 number behind it isn't that of the grouping of `--which`
     stored      a file afterwards is neither as it was nor whole in its format, another file lies
@@ -29,7 +30,8 @@ A program gets it as a case on standard input, or as files in a folder. A find i
 
 If each program stores tables and records (`--table`, `--groupings`, `--districts`, `--record`),
 some runs are asked for them. Each table is made anew from the files and the report. If each has
-`--which`, some lists are asked for the number of a grouping.
+`--which`, some lists are asked for the number of a grouping, and if each has `--json`, some runs
+for an object. An object is made a text, which is judged as that of any run.
 
 A program that `rt try` built tells bad accesses, sums that wrap and a false `prove!`. A search gets
 few steps and a check a small budget, so that a turn is short. The same seed and turn make the same
@@ -68,13 +70,14 @@ sys.path[:0] = [HERE, f"{HERE}/../tools"]
 import cases  # noqa: E402
 import compare_checkers  # noqa: E402
 import given_files  # noqa: E402
+import json_answers  # noqa: E402
 import program_runs  # noqa: E402
 import sample_listings  # noqa: E402
 from formats import TEXTS, are_resuming, assignments_in, districts_table_of  # noqa: E402
 from formats import groupings_in  # noqa: E402
 from formats import groupings_table_of, is_certificate, is_grouping, is_of_format  # noqa: E402
 from formats import is_record, is_told, read_lines, table_of  # noqa: E402
-from formats import sum_of, wrong_listing, wrong_record  # noqa: E402
+from formats import sum_of, wrong_listing, wrong_object, wrong_record  # noqa: E402
 from script_words import ScriptWords  # noqa: E402
 from sweeps import named_by  # noqa: E402
 
@@ -83,6 +86,8 @@ Files = Dict[str, bytes]
 # A text of a check, and its status, which is None if the second checker ended by an error.
 Answer = Tuple[bytes, Optional[int]]
 MOST_BYTES, QUICK_SECONDS = 40_000, 3
+# The line of standard error behind which the answer stands, if a store failed.
+ANSWER_IS = b"countygroups: the answer is:\n"
 # What these options have which commands store, in order of storing.
 STORING = {
     "certificate": ("solve", "share"),
@@ -103,6 +108,7 @@ MORE = {
     "events": "solve",
     "record": "solve",
     "which": "list",
+    "json": "size",
 }
 # The options that keep a turn short, by the command.
 LIMITS: Dict[str, Tuple[str, ...]] = {
@@ -130,7 +136,7 @@ FILE_OPTIONS = ["--links", "--withdrawn", "--certificate", "--out", "--events", 
 FILE_OPTIONS += ["--groupings", "--districts"]
 # The options of a check that the second checker is given.
 CHECK_OPTIONS = ["--geo", "--segment", "--chamber", "--state", "--part", "--of", "--adjacency"]
-CHECK_OPTIONS += ["--links", "--withdrawn", "--certificate", "--table"]
+CHECK_OPTIONS += ["--people", "--links", "--withdrawn", "--certificate", "--table"]
 
 # ---- what is changed ----
 
@@ -287,10 +293,20 @@ def add_outputs(run: Given, options: Iterable[str], chance: random.Random) -> No
         is_free = run.whole is None and named_by(run.words, f"--{option}") is None
         if option == "which":
             add_which(run, is_free, chance)
+        elif option == "json":
+            add_json(run, chance)
         elif is_free and run.words[0] in STORING[option] and chance.random() < 0.3:
             other = chance.choice(run.words[1:] or [option])
             name = chance.choice((option, option, f"\\\u00e9{option}", other))
             run.words = [*run.words, f"--{option}", name]
+
+
+def add_json(run: Given, chance: random.Random) -> None:
+    """Has a run print an object, most often behind its other words."""
+    can_ask = run.whole is None and run.words[0] in json_answers.COMMANDS
+    if can_ask and "--json" not in run.words and chance.random() < 0.3:
+        place = len(run.words) if chance.random() < 0.8 else 1
+        run.words = [*run.words[:place], "--json", *run.words[place:]]
 
 
 def add_which(run: Given, is_free: bool, chance: random.Random) -> None:
@@ -533,13 +549,50 @@ MILD_CHANGES: Tuple[Change, ...] = (with_changed_number, with_another_code, with
 class Made:
     """What a run made: its text, its status, standard error, and the files afterwards.
 
-    Of a told run, those are the files that its text shows as stored.
+    Of a told run, those are the files that its text shows as stored. If it printed an object, that
+    is its `line`, the text is that of the object, and `fault` is what is wrong with it.
     """
 
     text: bytes
     status: int
     told: bytes
     files: Files
+    line: Optional[bytes] = None
+    fault: Optional[str] = None
+
+    def printed(self) -> bytes:
+        """Returns what the run printed: its object, or its text."""
+        return self.text if self.line is None else self.line
+
+
+def is_alone(text: bytes, status: int) -> bool:
+    """Returns whether a text is printed as it is with `--json`, too: it is no answer to words."""
+    is_help = b"Usage:" in text or text.startswith(b"countygroups ")
+    return is_help or status in (2, 5) and not text.startswith((b"{", b"device"))
+
+
+def with_text(run: Given, made: Made) -> Made:
+    """Returns what a run made, with texts in the place of its objects."""
+    if not json_answers.asks_for_object(run.words) or made.text.startswith(b"refused case "):
+        return made
+    if is_alone(made.text, made.status) or made.status >= 128:
+        return made
+    fault = wrong_object(run.words, run.all_files(), made.text)
+    text = made.text if fault else json_answers.text_of(made.text).encode()
+    return dataclasses.replace(
+        made, text=text, line=made.text, told=told_with_text(made.told), fault=fault
+    )
+
+
+def told_with_text(told: bytes) -> bytes:
+    """Returns standard error with the text of the object that stands behind a failed store."""
+    head, mark, rest = told.partition(ANSWER_IS)
+    line, end, last = rest.partition(b"\n")
+    try:
+        answer = json_answers.text_of(line).encode()
+    except json_answers.NoAnswer:
+        return told
+    return head + mark + answer + last if end else told
 
 
 def made_by(
@@ -561,7 +614,7 @@ def made_by(
     wrote, files = made.wrote, program_runs.files_below(folder)
     if run.is_told and not files:
         wrote, files = parted(wrote, outputs_of(run.words).values())
-    return Made(wrote, made.status, made.told, files)
+    return with_text(run, Made(wrote, made.status, made.told, files))
 
 
 def pipes_of(run: Given) -> List[str]:
@@ -584,7 +637,7 @@ def wrong_pipes(run: Given, plain: Made, piped: Made) -> Optional[str]:
     at once than a file. So a run that leaves a file before its end may have read more or less of
     it. Its record may say so, since each record is that of its own run.
     """
-    if (plain.text, plain.status) != (piped.text, piped.status):
+    if (plain.printed(), plain.status) != (piped.printed(), piped.status):
         return f"pipes: {answer_told(piped)}; of plain files {answer_told(plain)}"
     record = outputs_of(run.words).get("record")
     for name in sorted({*plain.files, *piped.files}):
@@ -602,7 +655,7 @@ def stored_told(held: Optional[bytes]) -> str:
 
 def answer_told(made: Made) -> str:
     """Returns the status and the beginning of the text of a run, for a person."""
-    return f"status {made.status}, `{shown(made.text)}`"
+    return f"status {made.status}, `{shown(made.printed())}`"
 
 
 def outputs_of(words: Words) -> Dict[str, str]:
@@ -647,6 +700,8 @@ def wrong_ending(run: Given, made: Made, asked: argparse.Namespace) -> Optional[
         return f"memory: more than {asked.memory} megabytes"
     if made.status >= 128:
         return f"signal {made.status - 128}: `{shown(made.told)}`"
+    if made.fault is not None:
+        return f"{made.fault}; status {made.status}"
     if not is_told(run.words[0], made.told.decode("utf-8", "replace")):
         return f"report: status {made.status}, `{shown(made.told)}`"
     if not is_of_format(run.words[0], made.text.decode("latin-1"), made.status):
@@ -671,7 +726,7 @@ def wrong_files(run: Given, made: Made) -> Optional[str]:
 
 def answer_in(made: Made) -> bytes:
     """Returns the answer of a run: its text, or what standard error has behind a failed store."""
-    _, mark, answer = made.told.partition(b"countygroups: the answer is:\n")
+    _, mark, answer = made.told.partition(ANSWER_IS)
     return answer if mark else made.text
 
 
@@ -726,7 +781,7 @@ def wrong_outputs(run: Given, made: Made) -> Optional[str]:
         return None
     others = [(option, name, made.files[name]) for option, name in stored.items()]
     files, found = run.all_files(), made.files[record]
-    return wrong_record(run.words, files, others, made.text, made.status, found)
+    return wrong_record(run.words, files, others, made.printed(), made.status, found)
 
 
 class TooSlow(Exception):
@@ -767,14 +822,16 @@ def timed_answer(words: Words, files: Files) -> Answer:
 def words_of_check(words: Words) -> Words:
     """Returns the words of a check of the same problem and certificate.
 
-    Of a list the table of all groupings becomes a table: with either, names are read.
+    Of a list the table of all groupings becomes a table: with either, names are read. They are read
+    for an object, too.
     """
     kept = ["check"]
     for option in CHECK_OPTIONS:
         name = named_by(words, option)
         kept += [option, name] if name is not None else []
     groupings = named_by(words, "--groupings") if words[0] == "list" else None
-    return kept + (["--table", groupings] if groupings is not None else [])
+    kept += ["--table", groupings] if groupings is not None else []
+    return kept + (["--json"] if json_answers.asks_for_object(words) else [])
 
 
 def asked_of_second(run: Given, made: Made) -> Optional[Tuple[Words, Files]]:
@@ -836,19 +893,31 @@ def agrees(command: str, text: bytes, status: int, found: Answer) -> bool:
     return is_best and (not is_listing or is_same)
 
 
+def has_agreed(run: Given, made: Made, found: Answer) -> bool:
+    """Returns whether what a run made agrees with the answer of the second checker.
+
+    The objects of a check are to be the same. Of other commands the texts of objects are compared.
+    """
+    command = run.words[0]
+    if command == "check" or made.line is None or found[1] is None:
+        return agrees(command, made.printed(), made.status, found)
+    text = json_answers.text_of(found[0]).encode()
+    return agrees(command, made.text, made.status, (text, found[1]))
+
+
 def denial(run: Given, made: Made) -> Tuple[Optional[str], Optional[Answer]]:
     """Returns what the second checker says against a run, and its whole answer, or nothing."""
     asked = asked_of_second(run, made)
     found = second_answer(*asked) if asked else None
-    if found is None or agrees(run.words[0], made.text, made.status, found):
+    if found is None or has_agreed(run, made, found):
         return None, None
     second = f"tools/check.py says `{shown(found[0])}`, status {found[1]}"
-    return f"checker: {second}; the program `{shown(made.text)}`, status {made.status}", found
+    return f"checker: {second}; the program {answer_told(made)}", found
 
 
 def differ(runs: Sequence[Made]) -> bool:
     """Returns whether programs answered otherwise, though none of them was refused memory."""
-    answers = [(it.text, it.status, it.files) for it in runs]
+    answers = [(it.printed(), it.status, it.files) for it in runs]
     is_refused = any(it.text == b"memory\n" for it in runs)
     return any(it != answers[0] for it in answers) and not is_refused
 
@@ -918,6 +987,7 @@ def tests() -> Tests:
     yield from tests_of_case_texts()
     yield from tests_of_stored_files()
     yield from tests_of_endings()
+    yield from tests_of_objects()
     yield from tests_of_second()
     yield from tests_of_pipes()
     yield from tests_of_places()
@@ -1027,6 +1097,93 @@ def tests_of_endings() -> Tests:
     yield "the answer of another command behind a failed store", is_told("size", other), False
     other = "countygroups: x\nfindings 0\n"
     yield "an answer without its line", is_told("audit", other), False
+
+
+def sized_run() -> Tuple[Given, bytes]:
+    """Returns a run of `size` that asks for an object, and the object."""
+    words = "size --people p --chamber 2 --json".split()
+    line = b'{"answer":"sizes","people":1,"chamber":2,"tolerance":[1,20],"district":null,'
+    line += b'"sizes":[{"county":"37001","people":1,"seats":{"least":2,"greatest":2}}],'
+    return Given(words, {"p": '37001,1,"Do\u00f1a, A"\n'.encode()}), line + (
+        '"names":{"37001":"Do\u00f1a, A"}}\n'.encode()
+    )
+
+
+def wrong_objects(line: bytes) -> Dict[str, bytes]:
+    """Returns lines that aren't this object, each by what it has."""
+    first, swapped = b'"people":1,"chamber":2', b'"chamber":2,"people":1'
+    return {
+        "a blank": line.replace(b",", b", ", 1),
+        "another name": line.replace(b"A", b"B"),
+        "another tolerance": line.replace(b"[1,20]", b"[2,40]"),
+        "members in another order": line.replace(first, swapped),
+        "no line feed": line[:-1],
+        "a further member": line.replace(b'{"answer"', b'{"kind":1,"answer"'),
+        "bytes that aren't UTF-8": line.replace(b"\xc3\xb1", b"\xf1"),
+        "no brace": b"people 1\nchamber 2\ndistrict none\n37001|1|2|2\n",
+    }
+
+
+def tests_of_objects() -> Tests:
+    """Yields tests of runs that ask for an object."""
+    run, line = sized_run()
+    limits = argparse.Namespace(limit=20, memory=1024)
+
+    def of(text: bytes, status: int, told: bytes = b"") -> Tuple[bytes, Optional[str]]:
+        """Returns the text of what a run printed, and how what is wrong with it begins."""
+        made = with_text(run, Made(text, status, told, {}))
+        why = wrong_ending(run, made, limits)
+        return made.text, why and why[:7]
+
+    text = b"people 1\nchamber 2\ndistrict none\n37001|1|2|2\n"
+    yield "an object", of(line, 0), (text, None)
+    for name, other in wrong_objects(line).items():
+        yield f"an object with {name}", of(other, 0)[1], "object:"
+    yield "an object of another status", of(line, 1)[1], "format:"
+    message = b'{"message":"refused people BadName line 3"}\n'
+    yield "a message", of(message, 4), (b"refused people BadName line 3\n", None)
+    yield "a refusal that is no object", of(b"refused people BadName line 3\n", 4)[1], "object:"
+    for alone, status in ((b"memory\n", 5), (b"error: x\n", 2), (b"x\nUsage: countygroups\n", 0)):
+        yield f"what stays a text, {alone!r}", of(alone, status), (alone, None)
+    failed = b"countygroups: x\n" + ANSWER_IS + line
+    yield "an object behind a failed store", of(b'{"message":"device r Device"}\n', 5, failed)[
+        1
+    ], None
+    found = answer_in(with_text(run, Made(b'{"message":"device r Device"}\n', 5, failed, {})))
+    yield "its text", found, text
+    yield from tests_of_asked_objects(run, line)
+
+
+def tests_of_asked_objects(run: Given, line: bytes) -> Tests:
+    """Yields tests of the record and the second checker of runs that ask for an object."""
+    made = with_text(run, Made(line, 0, b"", {}))
+    found = begun(wrong_pipes(run, made, dataclasses.replace(made, line=line.replace(b"A", b"B"))))
+    yield "another name of pipes", found, 'pipes: status 0, `{"ans'
+    lines = b"countygroups record 1\nversion 1\n" + b"".join(
+        b"word %s\n" % it.encode() for it in run.words
+    )
+    lines += b"read people %s p\nstatus 0\nanswer " % sum_of(run.files["p"])
+    for printed, answer in ((line, b"sizes\n"), (b'{"message":"x"}\n', b'{"message":"x"}\n')):
+        wrong = wrong_record(run.words, run.files, (), printed, 0, lines + answer)
+        yield f"a record of {answer!r}", wrong, None
+    words = words_of_check(["list", "--geo", "g", "--json", "--which", "w"])
+    yield "the words of a check", words, ["check", "--geo", "g", "--json"]
+    best = (
+        b'{"answer":"best","people":1,"chamber":1,"tolerance":[1,20],"seats_left":1,"counties":0,'
+    )
+    best += b'"counts":[],"groups":[],"names":{}}\n'
+    judged = Given(["judge", "--json"], {})
+    said = dataclasses.replace(made, line=best, text=json_answers.text_of(best).encode())
+    yield "an object of both", has_agreed(judged, said, (best, 0)), True
+    other = (best.replace(b'"people":1', b'"people":2'), 0)
+    yield "another object", has_agreed(judged, said, other), False
+    renamed = (best.replace(b'"names":{}', b'"names":{"37001":""}'), 0)
+    checked = Given(["check", "--json"], {})
+    yield "other names of a check", has_agreed(checked, said, renamed), False
+    asked = [Given("size --geo g".split(), {}) for _ in range(100)]
+    for turn, one in enumerate(asked):
+        add_json(one, random.Random(turn))
+    yield "some runs ask", {it.words.count("--json") for it in asked}, {0, 1}
 
 
 def tests_of_second() -> Tests:
@@ -1552,7 +1709,7 @@ def has_option(program: str, command: str, option: str) -> bool:
     """Returns whether a program's command has an option, by what it says of itself."""
     asked = [program, command, "--help"]
     ran = subprocess.run(asked, stdout=subprocess.PIPE, stderr=subprocess.DEVNULL)
-    return b" --%s " % option.encode() in ran.stdout
+    return re.search(rb" --%s\s" % option.encode(), ran.stdout) is not None
 
 
 def chance_of(asked: argparse.Namespace, turn: int, what: str = "") -> random.Random:
@@ -1606,7 +1763,7 @@ class Tally:
         if pipes:
             why = wrong_pipes(run, runs[0], made_by(programs[0], run, room, asked, pipes))
             if why is not None:
-                faults, wanted = [why], (runs[0].text, runs[0].status)
+                faults, wanted = [why], (runs[0].printed(), runs[0].status)
         for made in runs:
             self.statuses[made.status] += 1
         self.finds += bool(faults)

@@ -12,6 +12,7 @@ from typing import Collection, Dict, Iterable, Iterator, List, Optional, Protoco
 from typing import Union
 
 from given_files import Forms, as_given
+from json_answers import NoAnswer, asks_for_object, text_of
 from program_runs import EIO, EINTR, Followed, Refusal, files_below, fresh_folder, run
 
 # ---- events that `share` was refused memory for ----
@@ -87,6 +88,8 @@ def without_places(events: Sequence[bytes], places: Collection[int]) -> bytes:
 # Of a run that is sampled, how many calls at either end are refused, and how many between them.
 AT_AN_END, BETWEEN = 20, 60
 Files = Dict[str, bytes]
+# The names of files beside outputs, which a run opens before it searches.
+PART_FILE = re.compile(r"\.countygroups[2-9]?\.part$")
 
 
 def sampled(numbers: Sequence[int], seed: str) -> List[int]:
@@ -340,25 +343,37 @@ class Sweep:
         what = f"call {number} of {len(plain.calls)}, `{call}`, {said}"
         ordinary = (made.wrote, made.status) == (plain.wrote, plain.status)
         self.met += not ordinary
-        if how == EIO and not ordinary and not is_device(made, plain, call):
+        has_object = asks_for_object(self.words_of(upto))
+        if how == EIO and not ordinary and not is_device(made, plain, call, has_object):
             why = "neither status 5 with its line nor the ordinary answer"
             self.fault(upto, what, why, made)
         if how != EIO and not ordinary:
             self.fault(upto, what, "not the ordinary answer", made)
         found = files_below(folder)
+        if how == EIO and call.startswith("unlink"):
+            # (the file beside an output stays, and a later run takes it over)
+            found = {name: held for name, held in found.items() if not PART_FILE.search(name)}
         wrong = self.left_behind(found, before, after, plain, calls=number)
-        if wrong and not (how == EIO and call.startswith("unlink")):
+        if wrong:
             self.fault(upto, what, wrong, made)
         elif ordinary and found != after:
             self.fault(upto, what, "the ordinary answer without its files", made)
 
 
-def is_device(made: Followed, plain: Followed, call: str) -> bool:
+def is_device(made: Followed, plain: Followed, call: str, has_object: bool) -> bool:
     """Returns whether a run says with status 5 that a device failed.
 
-    If a write to standard output was refused, the run may end in the midst of its answer.
+    If its words ask for an object (`has_object`), the line is the message of one, unless the case
+    couldn't be read. If a write to standard output was refused, the run may end in the midst of its
+    answer.
     """
-    is_line = re.fullmatch(rb"device [^\n]* Device\n", made.wrote) is not None
+    said = made.wrote
+    if has_object and not said.startswith(b"device case "):
+        try:
+            said = text_of(said).encode()
+        except NoAnswer:
+            said = b""
+    is_line = re.fullmatch(rb"device [^\n]* Device\n", said) is not None
     is_output = plain.wrote.startswith(made.wrote) and call.split()[-1] == "stdout"
     return made.status == 5 and (is_line or is_output)
 
@@ -431,6 +446,7 @@ def tests() -> Iterator[Test]:
     yield "no such file", file_in_case(case, "g"), None
     yield "a file without bytes", file_in_case(b"share\nfile e\nfile f\nx", "e"), (13, 13)
     yield from tests_of_refused_events(events)
+    yield from tests_of_devices()
     yield from tests_of_samples()
 
 
@@ -463,6 +479,21 @@ def tests_of_refused_events(events: List[bytes]) -> Iterator[Test]:
     stored.earlier[1] = {"f": b"hand 1\nhand 2\n"}
     found_events = ("f", [b"hand 1\n", b"hand 2\n"])
     yield "an events file of an earlier run", stored.events_of(1), found_events
+
+
+def tests_of_devices() -> Iterator[Test]:
+    """Yields what is tested of the answer to a device that failed."""
+
+    def of(wrote: bytes, has_object: bool, call: str = "read g") -> bool:
+        """Returns whether a run says that a device failed, in place of its answer."""
+        return is_device(Followed(wrote, status=5), Followed(b"people 1\n"), call, has_object)
+
+    line, message = b"device g Device\n", b'{"message":"device g Device"}\n'
+    yield "a device that failed", (of(line, False), of(message, True)), (True, True)
+    yield "a device in the other form", (of(line, True), of(message, False)), (False, False)
+    yield "a case that can't be read", of(b"device case Device\n", True), True
+    yield "an answer in part", (of(b"peo", False), of(b"peo", True)), (False, False)
+    yield "an answer in part to standard output", of(b"peo", True, "write stdout"), True
 
 
 def tests_of_samples() -> Iterator[Test]:

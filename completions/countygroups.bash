@@ -1,4 +1,4 @@
-# Made by tools/completions.py of what `countygroups --help` says.
+# Made by tools/completions.py of what the help of countygroups says.
 # Bash 4 or later completes the words of countygroups once it has read this file.
 
 _countygroups() {
@@ -13,53 +13,53 @@ _countygroups() {
         before=${COMP_WORDS[COMP_CWORD - 2]}
     fi
     if [ "$COMP_CWORD" -eq 1 ]; then
-        mapfile -t COMPREPLY < <(compgen -W "size judge solve check audit list share piece worker -h --help -V --version" -- "$word")
+        mapfile -t COMPREPLY < <(compgen -W "solve check judge list size audit share piece worker -h --help -V --version" -- "$word")
         return
     fi
     case $command in
-        size)
-            options="--geo --segment --chamber --state --part --of --record -h --help"
-            with_file="--geo --segment --record"
-            with_value="--chamber --state --part --of"
-            ;;
-        judge)
-            options="--geo --segment --chamber --state --part --of --record --adjacency --links --withdrawn --grouping --certificate --budget --table -h --help"
-            with_file="--geo --segment --record --adjacency --links --withdrawn --grouping --certificate --table"
-            with_value="--chamber --state --part --of --budget"
-            ;;
         solve)
-            options="--geo --segment --chamber --state --part --of --record --adjacency --links --withdrawn --steps --certificate --out --table --events -h --help"
-            with_file="--geo --segment --record --adjacency --links --withdrawn --certificate --out --table --events"
+            options="-h --help --geo --segment --people --chamber --state --part --of --adjacency --links --withdrawn --certificate --out --table --events --record --json --steps"
+            with_file="--geo --segment --people --adjacency --links --withdrawn --certificate --out --table --events --record"
             with_value="--chamber --state --part --of --steps"
             ;;
         check)
-            options="--geo --segment --chamber --state --part --of --record --adjacency --links --withdrawn --certificate --budget --table -h --help"
-            with_file="--geo --segment --record --adjacency --links --withdrawn --certificate --table"
+            options="-h --help --geo --segment --people --chamber --state --part --of --adjacency --links --withdrawn --certificate --table --record --json --budget"
+            with_file="--geo --segment --people --adjacency --links --withdrawn --certificate --table --record"
             with_value="--chamber --state --part --of --budget"
             ;;
-        audit)
-            options="--geo --segment --chamber --state --part --of --record --adjacency --links --withdrawn --grouping --assignments --districts -h --help"
-            with_file="--geo --segment --record --adjacency --links --withdrawn --grouping --assignments --districts"
-            with_value="--chamber --state --part --of"
+        judge)
+            options="-h --help --geo --segment --people --chamber --state --part --of --adjacency --links --withdrawn --grouping --certificate --table --record --json --budget"
+            with_file="--geo --segment --people --adjacency --links --withdrawn --grouping --certificate --table --record"
+            with_value="--chamber --state --part --of --budget"
             ;;
         list)
-            options="--geo --segment --chamber --state --part --of --record --adjacency --links --withdrawn --certificate --budget --number --out --which --groupings -h --help"
-            with_file="--geo --segment --record --adjacency --links --withdrawn --certificate --out --which --groupings"
-            with_value="--chamber --state --part --of --budget --number"
+            options="-h --help --geo --segment --people --chamber --state --part --of --adjacency --links --withdrawn --certificate --which --number --out --groupings --record --json --budget"
+            with_file="--geo --segment --people --adjacency --links --withdrawn --certificate --which --out --groupings --record"
+            with_value="--chamber --state --part --of --number --budget"
+            ;;
+        size)
+            options="-h --help --geo --segment --people --chamber --state --part --of --record --json"
+            with_file="--geo --segment --people --record"
+            with_value="--chamber --state --part --of"
+            ;;
+        audit)
+            options="-h --help --geo --segment --people --chamber --state --part --of --adjacency --links --withdrawn --grouping --assignments --districts --record --json"
+            with_file="--geo --segment --people --adjacency --links --withdrawn --grouping --assignments --districts --record"
+            with_value="--chamber --state --part --of"
             ;;
         share)
-            options="--geo --segment --chamber --state --part --of --record --adjacency --links --withdrawn --grouping --limit --depth --events --budget --certificate -h --help"
-            with_file="--geo --segment --record --adjacency --links --withdrawn --grouping --events --certificate"
+            options="-h --help --geo --segment --people --chamber --state --part --of --adjacency --links --withdrawn --grouping --events --certificate --record --limit --depth --budget"
+            with_file="--geo --segment --people --adjacency --links --withdrawn --grouping --events --certificate --record"
             with_value="--chamber --state --part --of --limit --depth --budget"
             ;;
         piece)
-            options="--geo --segment --chamber --state --part --of --record --adjacency --links --withdrawn --grouping --limit --depth --events --round --number --steps -h --help"
-            with_file="--geo --segment --record --adjacency --links --withdrawn --grouping --events"
+            options="-h --help --geo --segment --people --chamber --state --part --of --adjacency --links --withdrawn --grouping --events --record --limit --depth --round --number --steps"
+            with_file="--geo --segment --people --adjacency --links --withdrawn --grouping --events --record"
             with_value="--chamber --state --part --of --limit --depth --round --number --steps"
             ;;
         worker)
-            options="--geo --segment --chamber --state --part --of --record --adjacency --links --withdrawn --steps -h --help"
-            with_file="--geo --segment --record --adjacency --links --withdrawn"
+            options="-h --help --geo --segment --people --chamber --state --part --of --adjacency --links --withdrawn --record --steps"
+            with_file="--geo --segment --people --adjacency --links --withdrawn --record"
             with_value="--chamber --state --part --of --steps"
             ;;
         *) return ;;

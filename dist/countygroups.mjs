@@ -1,4 +1,5 @@
-#!/usr/bin/env node
+#!/bin/sh
+":" //; (: 3>&1) 2>/dev/null || exec 1</dev/null; exec node "$0" "$@"
 import fs from "node:fs";
 import tty from "node:tty";
 const module_errno = (() => {
@@ -92,6 +93,10 @@ const module_file_store = (() => {
  * @typedef {object} FileStatus
  * @property {number} mode The type and the permissions, as POSIX's `st_mode` has them.
  * @property {bigint} size The number of bytes.
+ * @property {number} owner The number of its owner, or 0 if owners aren't known.
+ * @property {number} group The number of its group, or 0 if groups aren't known.
+ * @property {bigint} device The number of its device, from 0 to 2^64 - 1.
+ * @property {bigint} number Its own number on the device, from 0 to 2^64 - 1. 0 if files have none.
  */
 
 /**
@@ -103,6 +108,15 @@ const module_file_store = (() => {
  * @property {(name: Uint8Array, mode: number) => number} create
  *   Creates the file `name` with the permissions `mode`, opens it for writing, and returns its
  *   number. `EEXIST` if the name is taken.
+ * @property {(name: Uint8Array) => number} openToWrite
+ *   Opens the device or the pipe `name` for writing, and returns its number. A regular file is
+ *   emptied.
+ * @property {(file: number, mode: number) => void} setMode
+ *   Gives `file` the permissions `mode`.
+ * @property {(name: Uint8Array, owner: number, group: number) => void} setOwner
+ *   Gives the file `name` this owner and this group. -1 leaves what there is.
+ * @property {(name: Uint8Array) => Uint8Array} pathOfLink
+ *   Returns the path that the symbolic link `name` has. `EINVAL` if it is no link.
  * @property {(file: number, into: Uint8Array) => number} read
  *   Puts the next bytes of `file` at the start of `into`, and returns how many. 0 is the end.
  * @property {(file: number, bytes: Uint8Array) => number} write
@@ -117,6 +131,8 @@ const module_file_store = (() => {
  *   Removes the name `name`.
  * @property {(name: Uint8Array) => FileStatus} statusOfName
  *   Returns what is known of what `name` leads to.
+ * @property {(name: Uint8Array) => FileStatus} statusOfLink
+ *   Returns what is known of `name` itself, if it is a symbolic link, and else as `statusOfName`.
  * @property {(file: number) => FileStatus} statusOfFile
  *   Returns what is known of `file`.
  * @property {(file: number) => boolean} isTerminal
@@ -216,11 +232,18 @@ function readSync(file, into, room) {
 /**
  * Returns what Node's `status` says.
  *
- * @param {{ mode: bigint, size: bigint }} status
+ * @param {import("node:fs").Status} status
  * @returns {FileStatus}
  */
-function fileStatus({ mode, size }) {
-  return { mode: Number(mode), size };
+function fileStatus({ mode, size, uid, gid, dev, ino }) {
+  return {
+    mode: Number(mode),
+    size,
+    owner: Number(uid),
+    group: Number(gid),
+    device: BigInt.asUintN(64, dev),
+    number: BigInt.asUintN(64, ino),
+  };
 }
 
 /**
@@ -241,6 +264,34 @@ class NodeFiles {
   create(name, mode) {
     const { O_RDWR, O_CREAT, O_EXCL } = fs.constants;
     return withErrno(() => fs.openSync(Buffer.from(name), O_RDWR | O_CREAT | O_EXCL, mode));
+  }
+
+  /** @param {Uint8Array} name */
+  openToWrite(name) {
+    const { O_WRONLY, O_TRUNC } = fs.constants;
+    return withErrno(() => fs.openSync(Buffer.from(name), O_WRONLY | O_TRUNC));
+  }
+
+  /**
+   * @param {number} file
+   * @param {number} mode
+   */
+  setMode(file, mode) {
+    withErrno(() => fs.fchmodSync(file, mode));
+  }
+
+  /**
+   * @param {Uint8Array} name
+   * @param {number} owner
+   * @param {number} group
+   */
+  setOwner(name, owner, group) {
+    withErrno(() => fs.lchownSync(Buffer.from(name), owner, group));
+  }
+
+  /** @param {Uint8Array} name */
+  pathOfLink(name) {
+    return withErrno(() => fs.readlinkSync(Buffer.from(name), "buffer"));
   }
 
   /**
@@ -288,6 +339,11 @@ class NodeFiles {
     return fileStatus(withErrno(() => fs.statSync(Buffer.from(name), { bigint: true })));
   }
 
+  /** @param {Uint8Array} name */
+  statusOfLink(name) {
+    return fileStatus(withErrno(() => fs.lstatSync(Buffer.from(name), { bigint: true })));
+  }
+
   /** @param {number} file */
   statusOfFile(file) {
     return fileStatus(withErrno(() => fs.fstatSync(file, { bigint: true })));
@@ -325,13 +381,24 @@ const { HostError } = module_file_store;
  */
 
 /** The flags of `open` that the program gives, as Linux has them. */
-const OPEN = Object.freeze({ ACCESS: 3, READ: 0, CREATE: 0o100, EXCLUSIVE: 0o200 });
+const OPEN = Object.freeze({ ACCESS: 3, READ: 0, WRITE: 1, CREATE: 0o100, EXCLUSIVE: 0o200 });
 
-/** What `statx` is asked for: a path from the folder of the process, or an open file. */
-const STATX = Object.freeze({ FROM_FOLDER: -100, OF_FILE: 0x1000 });
+/** What `statx` is asked for: a path from the folder of the process, a link, or an open file. */
+const STATX = Object.freeze({ FROM_FOLDER: -100, OF_NAME: 0, OF_LINK: 0x100, OF_FILE: 0x1000 });
 
 /** The fields of `struct statx` that are filled: where they lie, and the mask that says so. */
-const STATX_FIELDS = Object.freeze({ LENGTH: 256, MASK: 0, MODE: 28, SIZE: 40, FILLED: 0x203 });
+const STATX_FIELDS = Object.freeze({
+  LENGTH: 256,
+  MASK: 0,
+  OWNER: 20,
+  GROUP: 24,
+  MODE: 28,
+  NUMBER: 32,
+  SIZE: 40,
+  DEVICE_MAJOR: 136,
+  DEVICE_MINOR: 140,
+  FILLED: 0x31b,
+});
 
 /** The clocks of `clock_gettime`. */
 const CLOCK = Object.freeze({ REAL_TIME: 0, MONOTONIC: 1 });
@@ -416,7 +483,8 @@ function perform(process, call) {
 }
 
 /**
- * Opens a file of `store` as `flags` say, to read it or to create it, and returns its number.
+ * Opens a file of `store` as `flags` say, to read it, to create it, or to write into a device or a
+ * pipe, and returns its number.
  *
  * @param {FileStore} store
  * @param {Uint8Array} name
@@ -428,9 +496,12 @@ function openAsAsked(store, name, flags, mode) {
   if ((flags & OPEN.ACCESS) === OPEN.READ) {
     return store.openToRead(name);
   }
+  if ((flags & OPEN.ACCESS) === OPEN.WRITE && (flags & OPEN.CREATE) === 0) {
+    return store.openToWrite(name);
+  }
   const asked = OPEN.CREATE | OPEN.EXCLUSIVE;
   if ((flags & asked) !== asked) {
-    throw new HostError(ERRNO.EINVAL, "a file is opened to be read, or to be created");
+    throw new HostError(ERRNO.EINVAL, "a file is opened to be read, written or created");
   }
   return store.create(name, mode());
 }
@@ -452,10 +523,12 @@ function byteCalls(process) {
 }
 
 /**
- * Makes the calls on files by number: `close`, `fsync`, `lseek`, `isatty`.
+ * Makes the calls on files by number: `close`, `fsync`, `fdatasync`, `ftruncate`, `fchmod`,
+ * `flock`, `lseek`, `isatty`.
  *
  * No store can move the place at which standard input is read, as `lseek` asks. So standard input
- * is to the program as a pipe is.
+ * is to the program as a pipe is. Nor has a store advisory locks, which `flock` asks for. The
+ * program is linked with `ftruncate`, but never cuts a file.
  *
  * @param {Process} process
  */
@@ -465,6 +538,12 @@ function numberCalls(process) {
   const close = (file) => perform(process, () => store.close(file));
   /** @type {(file: number) => number} */
   const fsync = (file) => perform(process, () => store.sync(file));
+  /** @type {(file: number, mode: number) => number} */
+  const fchmod = (file, mode) => perform(process, () => store.setMode(file, mode));
+  const missing = () =>
+    perform(process, () => {
+      throw new HostError(ERRNO.ENOSYS);
+    });
   const lseek = () =>
     answer(process, -1n, () => {
       throw new HostError(ERRNO.ESPIPE);
@@ -477,11 +556,13 @@ function numberCalls(process) {
       }
       return 1;
     });
-  return { close, fsync, lseek, isatty };
+  return {
+    close, fsync, fdatasync: fsync, ftruncate: missing, fchmod, flock: missing, lseek, isatty,
+  };
 }
 
 /**
- * Makes the calls on files by name: `open`, `rename`, `unlink`.
+ * Makes the calls on files by name: `open`, `rename`, `unlink`, `readlink`, `lchown`.
  *
  * `open` is variadic in C, so its mode stands in memory, at the pointer that comes last.
  *
@@ -500,11 +581,45 @@ function nameCalls(process) {
     perform(process, () => store.rename(nameAt(process, from), nameAt(process, to)));
   /** @type {(name: bigint) => number} */
   const unlink = (name) => perform(process, () => store.unlink(nameAt(process, name)));
-  return { open, rename, unlink };
+  /** @type {(name: bigint, at: bigint, room: bigint) => bigint} */
+  const readlink = (name, at, room) =>
+    answer(process, -1n, () => {
+      const path = store.pathOfLink(nameAt(process, name));
+      const length = BigInt(Math.min(path.length, Number(room)));
+      bytesAt(process, at, length).set(path.subarray(0, Number(length)));
+      return length;
+    });
+  /** @type {(name: bigint, owner: number, group: number) => number} */
+  const lchown = (name, owner, group) =>
+    perform(process, () => store.setOwner(nameAt(process, name), owner, group));
+  return { open, rename, unlink, readlink, lchown };
 }
 
 /**
- * Makes `statx`, which fills the mode and the size, and says by its mask that it fills no more.
+ * Returns what `store` knows of what `statx` is asked for by its first three arguments.
+ *
+ * @param {FileStore} store
+ * @param {number} file
+ * @param {Uint8Array} path
+ * @param {number} flags
+ * @returns {import("./file_store.mjs").FileStatus}
+ */
+function statusAsAsked(store, file, path, flags) {
+  if (flags === STATX.OF_FILE && path.length === 0) {
+    return store.statusOfFile(file);
+  }
+  if (file === STATX.FROM_FOLDER && flags === STATX.OF_NAME) {
+    return store.statusOfName(path);
+  }
+  if (file === STATX.FROM_FOLDER && flags === STATX.OF_LINK) {
+    return store.statusOfLink(path);
+  }
+  throw new HostError(ERRNO.EINVAL, "statx is asked of a path, a link or an open file");
+}
+
+/**
+ * Makes `statx`. It fills the mode, the size, the owner, the group and the numbers of the file and
+ * of its device, and says by its mask that it fills no more.
  *
  * @param {Process} process
  */
@@ -513,18 +628,18 @@ function statusCalls(process) {
   /** @type {(file: number, name: bigint, flags: number, mask: number, at: bigint) => number} */
   const statx = (file, name, flags, _mask, at) =>
     perform(process, () => {
-      const path = nameAt(process, name);
-      const isOfFile = flags === STATX.OF_FILE && path.length === 0;
-      if (!isOfFile && (flags !== 0 || file !== STATX.FROM_FOLDER)) {
-        throw new HostError(ERRNO.EINVAL, "statx is asked of a path or of an open file");
-      }
-      const { mode, size } = isOfFile ? store.statusOfFile(file) : store.statusOfName(path);
-      const { LENGTH, MASK, MODE, SIZE, FILLED } = STATX_FIELDS;
-      bytesAt(process, at, BigInt(LENGTH)).fill(0);
-      const fields = new DataView(bufferOf(process), Number(at), LENGTH);
-      fields.setUint32(MASK, FILLED, true);
-      fields.setUint16(MODE, mode, true);
-      fields.setBigUint64(SIZE, size, true);
+      const status = statusAsAsked(store, file, nameAt(process, name), flags);
+      const places = STATX_FIELDS;
+      bytesAt(process, at, BigInt(places.LENGTH)).fill(0);
+      const fields = new DataView(bufferOf(process), Number(at), places.LENGTH);
+      fields.setUint32(places.MASK, places.FILLED, true);
+      fields.setUint32(places.OWNER, status.owner, true);
+      fields.setUint32(places.GROUP, status.group, true);
+      fields.setUint16(places.MODE, status.mode, true);
+      fields.setBigUint64(places.NUMBER, status.number, true);
+      fields.setBigUint64(places.SIZE, status.size, true);
+      fields.setUint32(places.DEVICE_MAJOR, Number(status.device >> 32n), true);
+      fields.setUint32(places.DEVICE_MINOR, Number(status.device & 0xffffffffn), true);
     });
   return { statx };
 }
@@ -656,7 +771,9 @@ const module_launcher = (() => {
  * machine. Its module, countygroups.wasm, lies beside this file.
  *
  * One thing differs: Node opens the null device in the place of a standard stream that is closed.
- * So closed standard input is empty, and what is written to closed standard output is lost.
+ * So closed standard input is empty. If the launcher is called by its own name, a shell sees before
+ * Node that standard output is closed, and the run ends with 5 (`tools/launcher.py`). If Node is
+ * called with the launcher's name, what is written to closed standard output is lost.
  */
 
 const { NodeFiles } = module_node_files;

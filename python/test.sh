@@ -9,14 +9,14 @@ usage: python/test.sh [--plain]
 Tests the package `countygroups` for Python with the program that COUNTYGROUPS names, or that of
 dist/. It takes a minute.
 
-- the plain part, with the standard library alone, by `python3` and each of Python 3.9 to 3.13 that
-  is installed;
+- all that needs the standard library alone, by `python3` and each of Python 3.9 to 3.13 that is
+  installed;
 - tables, shapes and graphs, and the documents' examples, by the first of `python3` and
   /usr/bin/python3 that has geopandas, networkx and matplotlib;
 - types by mypy, and the layout of lines by black of release 23.
 
 What isn't there is said, and what needs it is passed over. `tools/test_needs.sh` installs it.
---plain: the plain part alone.
+--plain: the tests by `python3` alone. What needs packages that it doesn't have is skipped.
 Statuses: 0 all passed, 1 something failed, 2 it can't be run.
 TEXT
 }
@@ -31,8 +31,8 @@ fail() {
     exit 1
 }
 
-plain=(tests.test_input tests.test_held tests.test_answers tests.test_asking tests.test_progress
-    tests.test_callers)
+# The tests, which unittest finds by their names.
+found=(discover -s tests -t .)
 is_plain=no
 for word in "$@"; do
     case $word in
@@ -56,15 +56,16 @@ python_of() { # MINOR
     return 1
 }
 
-# Runs the plain tests by each release of Python that is promised and installed.
+# Runs the tests by each release of Python that is promised and installed. What needs packages that a
+# release doesn't have is skipped.
 test_releases() {
     local minor python
     for minor in 9 10 11 12 13; do
         if python=$(python_of "$minor"); then
-            echo "the plain tests by $("$python" --version)"
-            "$python" -m unittest "${plain[@]}"
+            echo "the tests by $("$python" --version)"
+            "$python" -m unittest "${found[@]}"
         else
-            echo "Python 3.$minor isn't installed, so the plain tests didn't run by it"
+            echo "Python 3.$minor isn't installed, so the tests didn't run by it"
         fi
     done
 }
@@ -88,11 +89,11 @@ is_known_black() {
 python3 -c 'import countygroups; print("the program:", *countygroups.find_program().command)' ||
     refuse "the tests need the program"
 if [ "$is_plain" = yes ]; then
-    exec python3 -m unittest "${plain[@]}"
+    exec python3 -m unittest "${found[@]}"
 fi
 test_releases
 if python=$(../tools/python_with.sh geopandas matplotlib networkx); then
-    "$python" -m unittest discover -s tests -t .
+    "$python" -m unittest "${found[@]}"
 else
     pass_over "tables, shapes, graphs and the documents" \
         python3-geopandas python3-networkx python3-matplotlib

@@ -6,6 +6,7 @@ usage: python3 tools/assignments.py FILE [--block COLUMN] [--district COLUMN] [-
 
 FILE has a line for each census block with its district. It is a text with commas, semicolons, tabs
 or pipes, in UTF-8, UTF-16 or Latin-1, or the DBF of a shapefile. It may be packed by gzip or zip.
+`-` is standard input.
 
 The columns are found by their header: blocks by GEOID20, GEOID, BLOCKID, BLOCK and the like,
 districts by DISTRICT, ASSIGNMENT, SLDUST and the like. --block and --district choose a column by

@@ -3,10 +3,10 @@
 
 usage: python3 tools/border_check.py ADJACENCY OUTLINES [--without-edge FILE]
 
-ADJACENCY is a file as `countygroups --adjacency` reads it (docs/formats.md), such as the Census
-Bureau's county adjacency file or data/nc2020/county_borders.txt. OUTLINES is GeoJSON with a GEOID
-for each county. Only counties that both files name are compared. Each of these is a finding, and
-has a line:
+ADJACENCY is a file as `countygroups --adjacency` reads it (docs/reference/formats.md), such as the
+Census Bureau's county adjacency file or data/nc2020/county_borders.txt. OUTLINES is GeoJSON with a
+GEOID for each county. Only counties that both files name are compared. Each of these is a finding,
+and has a line:
 
 - two counties have an edge in common in the outlines, and aren't adjacent in the file;
 - two counties are adjacent in the file and have no edge in common, and no reason is given for it.

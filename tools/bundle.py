@@ -102,11 +102,19 @@ def page_script(entry: Path, host: Path = HOST, shortened: Callable[[str], str] 
     return text
 
 
+# The first lines of a module that is called as a program. A shell takes the second one as commands,
+# and Node as a text and a comment. Node opens the null device for writing in the place of standard
+# output that is closed, and would lose what is written. So the shell opens it for reading alone.
+CALLED = """#!/bin/sh
+":" //; (: 3>&1) 2>/dev/null || exec 1</dev/null; exec node "$0" "$@"
+"""
+
+
 def node_module(entry: Path) -> str:
     """Returns one module of `entry` and all that it imports, which Node runs as a program."""
     bundle = Bundle({}, has_node=True)
     bundle.add(entry.resolve())
-    return f'#!/usr/bin/env node\n{"".join(bundle.outer)}{"".join(bundle.parts)}'
+    return f'{CALLED}{"".join(bundle.outer)}{"".join(bundle.parts)}'
 
 
 def main(words: list[str]) -> int:

@@ -3,7 +3,7 @@ from __future__ import annotations
 
 import re
 from dataclasses import dataclass
-from typing import Dict, Iterator, List, Optional, Tuple
+from typing import Dict, Iterable, Iterator, List, Optional, Tuple
 
 from refusal import Refused
 from table_input import decoded
@@ -14,6 +14,10 @@ SEGMENT_RECORD_FIELD = 4
 NAME_FIELDS = slice(86, 88)
 CODE = re.compile(rb"[0-9]{5}")
 NUMBER = re.compile(rb"[0-9]{1,10}")
+MOST_PEOPLE = 4_294_967_295
+
+# The number of a line from 1, and its fields.
+NumberedFields = Tuple[int, List[bytes]]
 
 
 @dataclass(frozen=True)
@@ -29,7 +33,7 @@ class CensusCounty:
     record: int
 
 
-def numbered_fields(path: str) -> Iterator[Tuple[int, List[bytes]]]:
+def numbered_fields(path: str) -> Iterator[NumberedFields]:
     """Yields the number and the fields of each line of a file that is cut at pipes.
 
     Raises `Refused` if the file can't be read.
@@ -48,8 +52,20 @@ def read_counties(geo: str, state: Optional[str]) -> Dict[str, CensusCounty]:
     `state` has the two digits of the state. Without it the header has to be of one state.
     Raises `Refused` if a line of a county isn't one, or if there is no county, or several states.
     """
+    return counties_of(geo, numbered_fields(geo), state)
+
+
+def counties_of(
+    geo: str, lines: Iterable[NumberedFields], state: Optional[str]
+) -> Dict[str, CensusCounty]:
+    """Returns the counties in the lines of a geographic header by their codes.
+
+    `geo` is its name in a sentence. `state` has the two digits of the state. Without it the header
+    has to be of one state.
+    Raises `Refused` if a line of a county isn't one, or if there is no county, or several states.
+    """
     counties: Dict[str, CensusCounty] = {}
-    for number, fields in numbered_fields(geo):
+    for number, fields in lines:
         if fields[2:5:2] == COUNTY_LEVEL and len(fields) > COUNTY_FIELD:
             county = county_of(geo, number, fields)
             if state is None or county.code.startswith(state):
@@ -76,16 +92,32 @@ def county_of(geo: str, number: int, fields: List[bytes]) -> CensusCounty:
 def read_people(segment: str, counties: Dict[str, CensusCounty]) -> Dict[str, int]:
     """Returns the people of each county by its code.
 
-    Raises `Refused` if segment 1 has no record of a county, or no number of people in it.
+    Raises `Refused` if segment 1 has no record of a county, or no number of people up to
+    4,294,967,295 in it.
+    """
+    return people_of(segment, numbered_fields(segment), counties)
+
+
+def people_of(
+    segment: str, lines: Iterable[NumberedFields], counties: Dict[str, CensusCounty]
+) -> Dict[str, int]:
+    """Returns the people of each county by its code, by the lines of segment 1.
+
+    `segment` is its name in a sentence.
+    Raises `Refused` if segment 1 has no record of a county, or no number of people up to
+    4,294,967,295 in it.
     """
     code_of = {county.record: code for code, county in counties.items()}
     people: Dict[str, int] = {}
-    for number, fields in numbered_fields(segment):
+    for number, fields in lines:
         record = b"".join(fields[SEGMENT_RECORD_FIELD : SEGMENT_RECORD_FIELD + 1])
         if NUMBER.fullmatch(record) and int(record) in code_of:
             if len(fields) <= PEOPLE_FIELD or not NUMBER.fullmatch(fields[PEOPLE_FIELD]):
                 raise Refused(f"Line {number} of {segment} has no number of people.")
-            people[code_of[int(record)]] = int(fields[PEOPLE_FIELD])
+            count = int(fields[PEOPLE_FIELD])
+            if count > MOST_PEOPLE:
+                raise Refused(f"Line {number} of {segment} has more people than {MOST_PEOPLE:,}.")
+            people[code_of[int(record)]] = count
     missing = sorted(counties.keys() - people.keys())
     if missing:
         raise Refused(f"The segment {segment} has no record of county {missing[0]}.")

@@ -2,15 +2,16 @@
 """A second checker of certificates, in plain Python.
 It is for whoever doesn't trust the proof tool and reads this file in its place.
 
-usage: check.py --geo FILE --segment FILE --chamber SEATS --adjacency FILE --certificate FILE
-                [--state CODE] [--links FILE] [--withdrawn FILE] [--part PART] [--of WHOLE]
-                [--budget STEPS] [--table FILE] [--record FILE]
+usage: check.py (--geo FILE --segment FILE | --people FILE) [--state CODE] --chamber SEATS
+                --adjacency FILE --certificate FILE [--links FILE] [--withdrawn FILE]
+                [--part PART] [--of WHOLE] [--json]
 
-It reads the files of `countygroups check` and prints the same text with the same exit status. It
-has no budget and stores no file: `--budget`, `--table` and `--record` are taken and ignored.
+It reads the files of `countygroups check` and prints the same text with the same exit status, or
+with --json the same object. It has no budget and stores no file, so it takes no words for these.
 
-What it shares with the program: nothing. What is a proof it has from `docs/definitions.md`, whose
-words it uses, and the texts from `docs/formats.md`, with the order of the faults ("Which fault").
+What it shares with the program: nothing. What is a proof it has from
+`docs/reference/definitions.md`, whose words it uses, and the texts from
+`docs/reference/formats.md`, with the order of the faults ("Faults of a certificate").
 It reads both kinds of certificate, plain and wide, of both versions. What it trusts: Python, its
 whole numbers without limit, and the files that it is given. No number is rounded.
 
@@ -25,6 +26,7 @@ from __future__ import annotations
 
 import functools
 import itertools
+import json
 import os
 import re
 import sys
@@ -85,10 +87,20 @@ def number(word: bytes, least: int = 0, most: int = MOST_NUMBER, kind: str = "Ba
     return int(digits)
 
 
+def is_code(word: bytes) -> bool:
+    """Returns whether a word is five digits."""
+    return re.fullmatch(rb"[0-9]{5}", word) is not None
+
+
 def code(word: bytes, kind: str = "BadCode") -> str:
     """Returns the county code of a word. Raises a fault of this kind if it isn't five digits."""
-    need(re.fullmatch(rb"[0-9]{5}", word), kind)
+    need(is_code(word), kind)
     return word.decode()
+
+
+def is_utf8(word: bytes) -> bool:
+    """Returns whether a word is UTF-8."""
+    return word.decode(errors="ignore").encode() == word
 
 
 # ---- the files ----
@@ -97,6 +109,23 @@ def code(word: bytes, kind: str = "BadCode") -> str:
 def no_header(_: Fields) -> bool:
     """Returns False, for a file that has no header."""
     return False
+
+
+def cut_lines(file: str, text: bytes) -> Iterator[Tuple[int, bytes]]:
+    """Yields the number and the bytes of each line of a text that isn't blank.
+
+    Ends the run at a line that is too long, and at the first past the limit of lines.
+    """
+    pieces = text.split(b"\n")
+    for line, piece in enumerate(pieces if pieces[-1] else pieces[:-1], 1):
+        if line > TEXT_LINES:
+            raise End(f"refused {file} TooManyLines line 0", 4)
+        if len(piece) > LINE_BYTES:
+            raise End(f"refused {file} LineTooLong line {line}", 4)
+        piece = piece[3:] if line == 1 and piece.startswith(b"\xef\xbb\xbf") else piece
+        piece = piece[:-1] if piece.endswith(b"\r") else piece
+        if piece:
+            yield line, piece
 
 
 def read_file(
@@ -110,32 +139,28 @@ def read_file(
 
     A line has to have `least` fields or more. Ends the run at the first line with a fault.
     """
-    found, pieces, is_first = [], text.split(b"\n"), True
-    for line, piece in enumerate(pieces if pieces[-1] else pieces[:-1], 1):
+    found, is_first = [], True
+    for line, piece in cut_lines(file, text):
+        fields = piece.split(b"|")
         try:
-            need(line <= TEXT_LINES, "TooManyLines")
-            need(len(piece) <= LINE_BYTES, "LineTooLong")
-            piece = piece[3:] if line == 1 and piece.startswith(b"\xef\xbb\xbf") else piece
-            fields = (piece[:-1] if piece.endswith(b"\r") else piece).split(b"|")
-            if fields != [b""] and not (is_first and is_header(fields)):
+            if not (is_first and is_header(fields)):
                 need(len(fields) >= least, "TooFewFields")
                 found.append(read_fields(fields))
-            is_first = is_first and fields == [b""]
         except Fault as fault:
-            told = line if line <= TEXT_LINES else 0
-            raise End(f"refused {file} {fault.kind} line {told}", 4) from None
+            raise End(f"refused {file} {fault.kind} line {line}", 4) from None
+        is_first = False
     return found
 
 
-def read_counties(
-    geo: bytes, segment: bytes, state: int, has_names: bool = False
-) -> Dict[str, int]:
-    """Reads the people of each listed county, by its code.
+def read_named_counties(
+    geo: bytes, segment: bytes, state: int, has_names: bool
+) -> Dict[str, Tuple[int, bytes]]:
+    """Reads the people and the name of each listed county of the census's files, by its code.
 
-    If names are wanted for a table (`has_names`), they have to be UTF-8.
+    If the names are used (`has_names`), they have to be UTF-8.
     """
     people_of: Dict[int, int] = {}
-    counties: Dict[str, int] = {}
+    counties: Dict[str, Tuple[int, bytes]] = {}
 
     def read_record(fields: Fields) -> None:
         """Notes the people of a record of segment 1."""
@@ -144,19 +169,94 @@ def read_counties(
         people_of[record] = people
 
     def read_county(fields: Fields) -> None:
-        """Notes the people of a geographic record, if it is a county of the state."""
+        """Notes the county of a geographic record, if it is one of the state."""
         if (fields[2], fields[4], fields[12]) == (b"050", b"00", b"%02d" % state):
             county, record = code(fields[12] + fields[14]), number(fields[7])
             need(record in people_of, "NoRecord")
             need(county not in counties, "DoubleCounty")
-            counties[county], name = people_of[record], b"".join(fields[87:88])
-            need(not has_names or name.decode(errors="ignore").encode() == name, "BadName")
+            counties[county] = people_of[record], b"".join(fields[87:88])
+            need(not has_names or is_utf8(counties[county][1]), "BadName")
 
     read_file("segment1", segment, 6, read_record)
     read_file("geo", geo, 15, read_county)
     if not counties:
         raise End("refused geo NoCounties line 0", 4)
     return counties
+
+
+def people_alone(counties: Dict[str, Tuple[int, bytes]]) -> Dict[str, int]:
+    """Returns the people of counties without their names."""
+    return {county: people for county, (people, _) in counties.items()}
+
+
+def read_counties(geo: bytes, segment: bytes, state: int) -> Dict[str, int]:
+    """Reads the people of each listed county of the census's files, by its code.
+
+    Ends the run as `read_named_counties` does, whatever the names are.
+    """
+    return people_alone(read_named_counties(geo, segment, state, False))
+
+
+def quoted_fields(line: bytes, mark: bytes) -> Fields:
+    """Returns the fields of a line that is cut at each comma or pipe (`mark`), as RFC 4180 says.
+
+    Raises `BadLine` if a quote isn't closed on the line, if something else than a mark follows a
+    closed one, or if a quote stands in a field that doesn't begin with one.
+    """
+    field = re.compile(rb'"((?:[^"]|"")*)"|([^"%s]*)' % mark)
+    fields: Fields = []
+    place = 0
+    while True:
+        found = field.match(line, place)
+        assert found is not None
+        is_quoted = found[1] is not None
+        fields.append(found[1].replace(b'""', b'"') if is_quoted else found[2])
+        place = found.end() + 1
+        if found.end() == len(line):
+            return fields
+        need(line[found.end() : place] == mark, "BadLine")
+
+
+def read_named_people(text: bytes, state: int) -> Dict[str, Tuple[int, bytes]]:
+    """Reads the people and the name of each county of the state in a people file, by its code.
+
+    Fields are cut at pipes if the first line has a pipe and no comma, and else at commas. The first
+    line is a header if its first field is no code. The name is empty without a third field.
+    Counties of other states are read in the same way, and passed over.
+    Ends the run at the first line with a fault, or if no county of the state is left.
+    """
+    counties: Dict[str, Tuple[int, bytes]] = {}
+
+    def read_county(fields: Fields) -> None:
+        """Notes the county of a line, if it is one of the state."""
+        need(2 <= len(fields) <= 3, "BadLine")
+        county, people, name = code(fields[0]), number(fields[1]), b"".join(fields[2:])
+        need(is_utf8(name), "BadName")
+        if county.startswith(f"{state:02}"):
+            need(county not in counties, "DoubleCounty")
+            counties[county] = people, name
+
+    mark = b""
+    for line, piece in cut_lines("people", text):
+        is_first = not mark
+        mark = mark or (b"|" if b"|" in piece and b"," not in piece else b",")
+        try:
+            fields = quoted_fields(piece, mark)
+            if not is_first or is_code(fields[0]):
+                read_county(fields)
+        except Fault as fault:
+            raise End(f"refused people {fault.kind} line {line}", 4) from None
+    if not counties:
+        raise End("refused people NoCounties line 0", 4)
+    return counties
+
+
+def read_people(text: bytes, state: int) -> Dict[str, int]:
+    """Reads the people of each county of the state in a people file, by its code.
+
+    Ends the run as `read_named_people` does.
+    """
+    return people_alone(read_named_people(text, state))
 
 
 def read_pairs(text: bytes) -> Set[Pair]:
@@ -167,7 +267,7 @@ def read_pairs(text: bytes) -> Set[Pair]:
 
     def is_header(fields: Fields) -> bool:
         """Returns whether a line has no code as its second field."""
-        return not re.fullmatch(rb"[0-9]{5}", b"".join(fields[1:2]))
+        return not is_code(b"".join(fields[1:2]))
 
     def read_pair(fields: Fields) -> Pair:
         """Reads the pair of a line."""
@@ -721,6 +821,37 @@ def report(problem: Problem, grouping: Optional[List[SeatsAndCodes]]) -> str:
     return text
 
 
+def report_object(
+    problem: Problem, grouping: Optional[List[SeatsAndCodes]], names: Dict[str, str]
+) -> Dict[str, object]:
+    """Returns the members of the object of a best grouping, or of that there is none.
+
+    It has the names of all listed counties, by their codes.
+    """
+    made: Dict[str, object] = {"answer": "impossible" if grouping is None else "best"}
+    made.update(people=problem.total, chamber=problem.chamber, tolerance=problem.window)
+    made.update(seats_left=problem.seats_left, counties=len(problem.people))
+    if grouping is not None:
+        sizes = [len(codes) for _, codes in grouping]
+        made["counts"] = [sizes.count(it) for it in range(1, max(sizes, default=0) + 1)]
+        made["groups"] = [
+            {
+                "group": place,
+                "seats": seats,
+                "people": sum(problem.people[it] for it in codes),
+                "counties": codes,
+            }
+            for place, (seats, codes) in enumerate(grouping, 1)
+        ]
+    made["names"] = {it: names[it] for it in sorted(names)}
+    return made
+
+
+def object_line(members: Dict[str, object]) -> str:
+    """Returns the line of an object, without blanks."""
+    return json.dumps(members, separators=(",", ":"), ensure_ascii=False) + "\n"
+
+
 def load(name: str) -> bytes:
     """Reads the bytes of a file of the machine. Ends the run if it can't, or it is too large."""
     try:
@@ -734,38 +865,41 @@ def load(name: str) -> bytes:
     return text
 
 
-NEEDED = ("geo", "segment", "adjacency", "certificate")
-FILES = (*NEEDED, "links", "withdrawn", "table", "record")
-RANGES = {
-    "chamber": (1, 1000),
-    "state": (0, 99),
-    "part": (0, 500),
-    "of": (1, 1000),
-    "budget": (0, 2**64 - 1),
-}
+NEEDED = ("adjacency", "certificate")
+CENSUS_FILES = ("geo", "segment")
+FILES = (*NEEDED, *CENSUS_FILES, "people", "links", "withdrawn")
+RANGES = {"chamber": (1, 1000), "state": (0, 99), "part": (0, 500), "of": (1, 1000)}
+OBJECT = "--json"
 
 
 def options_of(words: List[str]) -> Tuple[Dict[str, str], Dict[str, int]]:
     """Returns the names of the files and the numbers of the command, by their options.
 
-    Each option has one value and stands once. Raises a fault if these are no words of the command.
+    Each option has one value and stands once. `--json` may stand among them once, without a value.
+    Raises a fault if these are no words of the command.
     """
     files: Dict[str, str] = {}
     numbers: Dict[str, int] = {}
+    need(words.count(OBJECT) <= 1, "")
     left = iter(words)
     for word in left:
+        if word == OBJECT:
+            continue
         name, equals, behind = word[2:].partition("=")
         value: Optional[str] = behind
         if not equals:
             value = next(left, None)
         need(word.startswith("--") and name not in files and name not in numbers, "")
-        if value is None or name not in (*FILES, *RANGES):
+        if value is None or value == OBJECT or name not in (*FILES, *RANGES):
             raise Fault("")
         if name in RANGES:
             numbers[name] = number(re.sub(r"^\+", "", value).encode(), *RANGES[name])
         else:
             files[name] = value
-    need("chamber" in numbers and all(name in files for name in NEEDED), "")
+    given = {*files, *numbers}
+    needed = (*NEEDED, "chamber", *(() if "people" in given else CENSUS_FILES))
+    need(given.issuperset(needed), "")
+    need("people" not in given or given.isdisjoint(CENSUS_FILES), "")
     return files, {"state": 37, "part": 1, "of": 20, **numbers}
 
 
@@ -776,13 +910,28 @@ def adjacent_pairs(pairs: Set[Pair], links: Dict[Pair, bool], listed: Dict[str, 
     return {it for it in kept if len(it) == 2}
 
 
-def read_problem(
-    files: Dict[str, str], numbers: Dict[str, int], load: Callable[[str], bytes]
-) -> Problem:
-    """Loads and reads the files of the problem in one order, and builds it."""
+def read_listed(
+    files: Dict[str, str], state: int, load: Callable[[str], bytes], has_names: bool
+) -> Dict[str, Tuple[int, bytes]]:
+    """Loads and reads the people and the name of each listed county, by its code."""
+    if "people" in files:
+        return read_named_people(load(files["people"]), state)
     geo, segment = load(files["geo"]), load(files["segment"])
-    listed = read_counties(geo, segment, numbers["state"], "table" in files)
-    pairs = read_pairs(load(files["adjacency"]))
+    return read_named_counties(geo, segment, state, has_names)
+
+
+def read_problem(
+    files: Dict[str, str],
+    numbers: Dict[str, int],
+    load: Callable[[str], bytes],
+    has_names: bool,
+) -> Tuple[Problem, Dict[str, str]]:
+    """Loads and reads the files of the problem in one order, and builds it.
+
+    Beside it stands the name of each listed county, which means nothing unless names are read.
+    """
+    named = read_listed(files, numbers["state"], load, has_names)
+    listed, pairs = people_alone(named), read_pairs(load(files["adjacency"]))
     links: Dict[Pair, bool] = {}
     if "links" in files:
         links = dict(read_file("links", load(files["links"]), 3, read_link))
@@ -791,32 +940,43 @@ def read_problem(
         withdrawn = read_file("withdrawn", load(files["withdrawn"]), 2, read_withdrawn)
     adjacent = adjacent_pairs(pairs, links, listed)
     window = (numbers["part"], numbers["of"])
-    return build_problem(listed, adjacent, withdrawn, numbers["chamber"], window)
+    problem = build_problem(listed, adjacent, withdrawn, numbers["chamber"], window)
+    return problem, {it: name.decode(errors="replace") for it, (_, name) in named.items()}
 
 
-def answer(words: List[str], load: Callable[[str], bytes]) -> Tuple[str, int]:
-    """Returns the text and the exit status for the words of the command.
+def answer(
+    words: List[str], load: Callable[[str], bytes], has_names: bool = False
+) -> Tuple[str, int]:
+    """Returns the text, or the object, and the exit status for the words of the command.
 
-    The files are loaded and read in one order, and the first fault is the answer.
+    The files are loaded and read in one order, and the first fault is the answer. With `has_names`
+    the names in the geographic header are read too, as the program does for a table. They are read
+    for an object.
     """
     try:
         files, numbers = options_of(words)
     except Fault:
         return "", 2
+    has_object = OBJECT in words
     try:
-        problem = read_problem(files, numbers, load)
+        problem, names = read_problem(files, numbers, load, has_names or has_object)
         certificate = read_certificate(load(files["certificate"]))
         judge(problem, certificate)
     except Fault as fault:
-        return f"no {fault.kind} line {fault.line}\n", 1
+        line, status = f"no {fault.kind} line {fault.line}", 1
     except End as end:
-        return f"{end.text}\n", end.status
-    return report(problem, certificate.target), 0 if certificate.target is not None else 1
+        line, status = end.text, end.status
+    else:
+        target, status = certificate.target, 0 if certificate.target is not None else 1
+        if has_object:
+            return object_line(report_object(problem, target, names)), status
+        return report(problem, target), status
+    return object_line({"message": line}) if has_object else f"{line}\n", status
 
 
 def main() -> int:
     """Runs the command, and returns its exit status."""
-    if sys.argv[1:] in (["--help"], ["-h"]):
+    if not {"--help", "-h"}.isdisjoint(sys.argv[1:]):
         print(__doc__, end="")
         return 0
     text, status = answer(sys.argv[1:], load)

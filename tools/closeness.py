@@ -1,8 +1,9 @@
 #!/usr/bin/env python3
 """Tells how close an answer is: how many people more or fewer in one county change it.
 
-usage: python3 tools/closeness.py --program FILE --geo FILE --segment FILE --adjacency FILE
-           --chamber SEATS --within PEOPLE [--grouping FILE] [--state CODE] [--jobs JOBS]
+usage: python3 tools/closeness.py --program FILE COUNTS --adjacency FILE --chamber SEATS
+           --within PEOPLE [--grouping FILE] [--state CODE] [--jobs JOBS]
+       COUNTS is --geo FILE --segment FILE, or --people FILE.
 
 Each county is tried alone, with up to PEOPLE more and up to PEOPLE fewer. The people of the state
 change with the county's. If the farthest change leaves the list of best groupings as it is, none
@@ -33,7 +34,7 @@ from refusal import Refused
 from script_words import ScriptWords
 
 HEADER = ["COUNTY", "CHANGE", "BEST_GROUPINGS", "COUNTS", "GROUPING"]
-LEVEL, CODE, POPULATION, PEOPLE = 2, 9, 90, 5
+LEVEL, CODE, STATE, PEOPLE = 2, 9, 12, 5
 PEOPLE_OF_GROUP = re.compile(r"^(group seats [0-9 to]+) people [0-9]+", re.M)
 
 
@@ -66,35 +67,29 @@ def line_of(text: str, word: str) -> str:
     return found[1] if found else ""
 
 
-class Counts:
-    """The geographic header and the counts of a state, of which one county can be changed."""
+def census_counts(geo: str, segment: str, state: str) -> dict[str, int]:
+    """Returns the people of each county of a state, by its code such as 37001, in the census files.
 
-    def __init__(self, geo: str, segment: str, state: str) -> None:
-        """Reads both files. `state` is the code of the state, such as 37."""
-        self.geo = [line.split("|") for line in read_lines(geo)]
-        self.segment = [line.split("|") for line in read_lines(segment)]
-        if len(self.geo) != len(self.segment):
-            raise Refused(f"{geo} and {segment} don't have the same number of lines.")
-        own = [line for line in self.geo if line[LEVEL] == "050" and line[12] == state]
-        self.counties = [line[CODE] for line in own]
+    `geo` and `segment` have the same places, line by line. `state` is the code of the state.
+    """
+    places = [line.split("|") for line in read_lines(geo)]
+    counts = [line.split("|") for line in read_lines(segment)]
+    if len(places) != len(counts):
+        raise Refused(f"{geo} and {segment} don't have the same number of lines.")
+    return {
+        place[CODE]: int(numbers[PEOPLE])
+        for place, numbers in zip(places, counts)
+        if place[LEVEL] == "050" and place[STATE] == state
+    }
 
-    def changed(self, county: str, change: int) -> tuple[str, str] | None:
-        """Returns both files with `change` more people in a county and in its state, or None if
-        the county would have fewer than none."""
-        geo, segment = [], []
-        for place, counts in zip(self.geo, self.segment):
-            is_it = place[LEVEL] == "040" or (place[LEVEL] == "050" and place[CODE] == county)
-            if is_it and change:
-                counts = [*counts]
-                counts[PEOPLE] = str(int(counts[PEOPLE]) + change)
-                if len(place) > POPULATION and place[POPULATION].isdigit():
-                    place = [*place]
-                    place[POPULATION] = counts[PEOPLE]
-            if int(counts[PEOPLE]) < 0:
-                return None
-            geo.append("|".join(place))
-            segment.append("|".join(counts))
-        return "\n".join(geo) + "\n", "\n".join(segment) + "\n"
+
+def people_counts(path: str, state: str) -> dict[str, int]:
+    """Returns the people of each county of a state in a people file, by the county's code."""
+    lines = read_lines(path)
+    mark = "|" if lines and "|" in lines[0] and "," not in lines[0] else ","
+    rows = [row for row in csv.reader(lines, delimiter=mark) if row]
+    rows = rows if rows and re.fullmatch("[0-9]{5}", rows[0][0]) else rows[1:]
+    return {code: int(people) for code, people, *_ in rows if code.startswith(state)}
 
 
 def read_lines(path: str) -> list[str]:
@@ -103,6 +98,14 @@ def read_lines(path: str) -> list[str]:
         return Path(path).read_text(encoding="utf-8").splitlines()
     except (OSError, UnicodeDecodeError) as fault:
         raise Refused(f"{path} can't be read: {fault}.") from fault
+
+
+def counts_of(given: argparse.Namespace) -> dict[str, int]:
+    """Returns the people of each county by the words of the command."""
+    state = given.state.zfill(2)
+    if given.people:
+        return people_counts(given.people, state)
+    return census_counts(given.geo, given.segment, state)
 
 
 class Runs:
@@ -114,7 +117,7 @@ class Runs:
         self.words = ["--adjacency", given.adjacency, "--chamber", given.chamber]
         self.words += ["--state", given.state]
         self.grouping = given.grouping
-        self.counts = Counts(given.geo, given.segment, given.state.zfill(2))
+        self.counts = counts_of(given)
         self.within = int(given.within)
         self.certificate = b""
         self.base = self.answer("", 0)
@@ -131,14 +134,14 @@ class Runs:
         The certificate of the counts as they are is tried first, since the program reads it faster
         than it solves.
         """
-        texts = self.counts.changed(county, change)
-        if texts is None:
+        people = {code: held + change * (code == county) for code, held in self.counts.items()}
+        if min(people.values(), default=0) < 0:
             raise Refused(f"County {county} has fewer than {-change} people.")
         with tempfile.TemporaryDirectory() as room:
-            files = {name: os.path.join(room, name) for name in ("geo", "segment", "certificate")}
-            Path(files["geo"]).write_text(texts[0], encoding="utf-8")
-            Path(files["segment"]).write_text(texts[1], encoding="utf-8")
-            problem = ["--geo", files["geo"], "--segment", files["segment"], *self.words]
+            files = {name: os.path.join(room, name) for name in ("people", "certificate")}
+            text = "".join(f"{code},{held}\n" for code, held in people.items())
+            Path(files["people"]).write_text(text, encoding="ascii")
+            problem = ["--people", files["people"], *self.words]
             proof = ["--certificate", files["certificate"]]
             Path(files["certificate"]).write_bytes(self.certificate)
             status, listed = self.run("list", [*problem, *proof])
@@ -161,7 +164,7 @@ class Runs:
         if not self.grouping:
             return ""
         status, said = self.run("judge", [*words, "--grouping", self.grouping])
-        if status == 0:
+        if status == 0 or line_of(said, "greater"):
             return "best" if line_of(said, "answer") == "best" else "lawful"
         if status == 1:
             return "not lawful"
@@ -171,13 +174,7 @@ class Runs:
         """Returns the least change of a county's people, more (1) or fewer (-1), that changes the
         list, or None if the farthest one doesn't."""
         county, sign = task
-        high = self.within
-        people = next(
-            int(counts[PEOPLE])
-            for place, counts in zip(self.counts.geo, self.counts.segment)
-            if place[CODE] == county
-        )
-        high = min(high, people) if sign < 0 else high
+        high = min(self.within, self.counts[county]) if sign < 0 else self.within
         answer = self.answer(county, sign * high)
         if answer.is_as(self.base):
             return None
@@ -195,17 +192,22 @@ class Runs:
 def arguments(words: list[str]) -> argparse.Namespace:
     """Returns the words of the command."""
     parser = ScriptWords(__doc__)
-    for name in ("program", "geo", "segment", "adjacency", "chamber", "within"):
+    for name in ("program", "adjacency", "chamber", "within"):
         parser.add_argument(f"--{name}", required=True)
-    parser.add_argument("--grouping")
+    for name in ("geo", "segment", "people", "grouping"):
+        parser.add_argument(f"--{name}")
     parser.add_argument("--state", default="37")
     parser.add_argument("--jobs", type=int, default=os.cpu_count() or 1)
-    return parser.parse_args(words)
+    given = parser.parse_args(words)
+    files = (given.geo is not None, given.segment is not None, given.people is not None)
+    if files not in ((True, True, False), (False, False, True)):
+        parser.error("give --geo and --segment, or --people")
+    return given
 
 
 def thresholds(runs: Runs, jobs: int) -> list[Threshold]:
     """Returns the thresholds of all counties, the least change first."""
-    tasks = [(county, sign) for county in runs.counts.counties for sign in (1, -1)]
+    tasks = [(county, sign) for county in runs.counts for sign in (1, -1)]
     found: list[Threshold] = []
     with ThreadPoolExecutor(max(1, jobs)) as pool:
         for done, one in enumerate(pool.map(runs.threshold, tasks), 1):

@@ -8,14 +8,18 @@ Without --program: each run of `check` among the cases whose wanted answer isn't
 second checker has to write what the case wants, and to end with its status. If the words are no
 command or ask for help, the text is that of `clap`: then the status alone is compared, and help
 isn't run. A run over a file that an earlier run of the case makes takes it from what the case has
-stored. If the case hasn't it, the run is left out, since that needs a program. If the words have
-`--table` or `--record`, the run is left out too: the second checker stores no file.
+stored. If the case hasn't it, the run is left out, since that needs a program. Of a run with
+`--table` or `--record` the text and the status alone are compared, because the second checker
+stores no file, and a run whose file can't be stored is left out.
+Of each run of another command with `--people`, the second checker reads the people file. It has to
+refuse the file for the fault that the case wants, or find the people that the case wants: those of
+all counties, and in a size table those of each.
 --all takes the cases of millions of lines too, which take minutes, but for those that bound the
 memory: the second checker holds a whole text.
 --program FILE makes certificates of North Carolina's two chambers (data/nc2020; --chamber: of
-these) too. Both checkers check them, and each of them with one line changed at random, N times
-(--mutations, 20 unless said otherwise; --seed, 1). Then they check those by the counts of 2010 and
-of 2000.
+these) too. Both checkers check them, once more with --json, and each of them with one line changed
+at random, N times (--mutations, 20 unless said otherwise; --seed, 1). Then they check those by the
+counts of 2010 and of 2000.
 --states beside it makes certificates of the chambers of ten states (data/states) too, if the
 program answers best within its default steps. Both checkers check them as they are, and a line has
 the seconds of processor time of each. The second checker takes minutes for the longest.
@@ -26,6 +30,7 @@ line is `N agree, M differ`.
 from __future__ import annotations
 
 import argparse
+import itertools
 import os
 import random
 import re
@@ -39,8 +44,11 @@ TOP = os.path.dirname(os.path.dirname(os.path.realpath(__file__)))
 sys.path[:0] = [f"{TOP}/cases", f"{TOP}/tools", f"{TOP}/bench"]
 import cases  # noqa: E402
 import check  # noqa: E402
+import formats  # noqa: E402
+import json_answers  # noqa: E402
 import program_runs  # noqa: E402
 import states  # noqa: E402
+import sweeps  # noqa: E402
 from program_runs import Followed  # noqa: E402
 from script_words import ScriptWords  # noqa: E402
 
@@ -49,15 +57,17 @@ LONG = re.compile(r"/huge/|/long/(a_plain_text_of_a_million_marks|a_wide_text_of
 SECONDS = 3600
 BUDGET = 1_000_000_000
 WAYS = (*["number"] * 4, *["like"] * 2, "leaf", "left out", "doubled", "elsewhere")
-# Words by which a run writes help or stores a file, so that the second checker isn't compared.
-NOT_COMPARED = {"-h", "--help", "--table", "--record"}
+# Words by which a run writes help, so that the second checker isn't compared.
+HELP = {"-h", "--help"}
+# Options of `check` that the second checker doesn't take.
+NOT_TAKEN = ("--budget", "--table", "--record")
 
 Words = List[str]
 Files = Dict[str, bytes]
 
 
 def case_parts(text: bytes) -> Tuple[Words, Files]:
-    """Returns the words of a case text and its files, by `docs/formats.md`, "Cases"."""
+    """Returns the words of a case text and its files, by `docs/reference/commands.md`, "Cases"."""
     pieces = text.split(b"\n")
     words = pieces[0].decode().split(" ")
     files: Files = {}
@@ -71,6 +81,32 @@ def case_parts(text: bytes) -> Tuple[Words, Files]:
     return words, files
 
 
+def words_of_second(words: Words) -> Tuple[Words, bool]:
+    """Returns the words of a check for the second checker, and whether names are read.
+
+    It takes no budget, and no file to store. The counties' names are read for a table. A word that
+    the program refuses is kept, so that the second checker refuses it too.
+    """
+    kept, dropped, left = words[:1], {""}, iter(words[1:])
+    for word in left:
+        option, equals, value = word.partition("=")
+        has_value = not equals and word != check.OBJECT
+        pair = [word, *itertools.islice(left, 1)] if has_value else [word]
+        value = value if equals else "".join(pair[1:])
+        is_whole = bool(equals) or len(pair) == 2
+        if option in NOT_TAKEN and is_whole and (option != "--budget" or is_budget(value)):
+            kept += pair if option in dropped else []
+            dropped.add(option)
+        else:
+            kept += pair
+    return kept, "--table" in dropped
+
+
+def is_budget(word: str) -> bool:
+    """Returns whether a word is a number of steps that the program takes."""
+    return re.fullmatch(r"\+?[0-9]+", word) is not None and int(word) < 2**64
+
+
 def second_checker(words: Words, files: Files) -> Followed:
     """Runs the second checker over `files`, the bytes of each by its name."""
 
@@ -80,14 +116,46 @@ def second_checker(words: Words, files: Files) -> Followed:
             raise check.End(f"device {name} Missing", 5)
         return files[name]
 
-    text, status = check.answer(words[1:], load)
+    kept, has_names = words_of_second(words)
+    text, status = check.answer(kept[1:], load, has_names)
     return Followed(os.fsencode(text), status=status)
 
 
-def checks_of(case: cases.Case) -> Iterator[Tuple[Words, Files, bytes]]:
-    """Yields the runs of `check` of a case that need no program.
+def people_said(words: Words, files: Files) -> List[bytes]:
+    """Returns the lines that a run has by what the second checker reads of its people file.
 
-    Of each: its words, its files, and the wanted text with its exit line.
+    These are the fault of the file, or else the people of all counties, and for `size` the
+    beginning of the line of each county.
+    """
+    name = sweeps.named_by(words, "--people") or ""
+    if name not in files:
+        return [b"device %s Missing" % os.fsencode(name)]
+    try:
+        people = check.read_people(files[name], formats.number_by(words, "--state", 37))
+    except check.End as end:
+        return [end.text.encode()]
+    counties = [f"{code}|{people[code]}|".encode() for code in sorted(people)]
+    return [b"people %d" % sum(people.values()), *(counties if words[0] == "size" else [])]
+
+
+def people_wanted(wanted: bytes) -> List[bytes]:
+    """Returns the lines of a wanted text that `people_said` has, cut behind the people."""
+    first, *others = wanted.split(b"\n")
+    counties = (re.match(rb"[0-9]{5}\|[0-9]+\|", line) for line in others)
+    return [first, *(found[0] for found in counties if found)]
+
+
+def is_of_people(words: Words, wanted: bytes) -> bool:
+    """Returns whether a run isn't of `check`, and its wanted text tells of its people file."""
+    beginnings = (b"refused people ", b"people ", b"device ")
+    has_people = sweeps.named_by(words, "--people") is not None
+    return has_people and words[0] != "check" and wanted.startswith(beginnings)
+
+
+def runs_of(case: cases.Case) -> Iterator[Tuple[Words, Files, bytes]]:
+    """Yields the runs of a case that need no program and ask for no help.
+
+    Of each: its words, its files, and the wanted text with its exit line, without what it stores.
     """
     for given, wanted in case.cut():
         wanted_lines = wanted.splitlines(keepends=True)
@@ -100,12 +168,17 @@ def checks_of(case: cases.Case) -> Iterator[Tuple[Words, Files, bytes]]:
             lasts = (i for i, it in enumerate(wanted_lines) if it.startswith(b"exit "))
             end = next(lasts) + 1
             is_lost = has_stored and certificate_of(words) not in files
-            is_run = words[:1] == ["check"] and not (NOT_COMPARED & {*words} or is_lost)
-            if is_run and wanted_lines[:end] != [b"budget\n", b"exit 3\n"]:
-                yield words, files, b"".join(wanted_lines[:end])
+            if not (HELP & {*words} or is_lost):
+                yield words, files, without_stored(wanted_lines[:end])
             if may_store(words, wanted_lines[end - 1]):
                 has_stored, files = True, {**files, **case.stored}
             del wanted_lines[:end]
+
+
+def without_stored(lines: List[bytes]) -> bytes:
+    """Returns the text of a run with its exit line, without the files that it stores behind it."""
+    text = itertools.takewhile(lambda line: not line.startswith(b"file "), lines[:-1])
+    return b"".join([*text, lines[-1]])
 
 
 def may_store(words: Words, ending: bytes) -> bool:
@@ -131,6 +204,29 @@ class Tally:
         self.agree, self.differ = self.agree + (not why), self.differ + bool(why)
 
 
+def as_text(wanted: bytes) -> bytes:
+    """Returns a wanted text with the text of an object in its place, if it begins with one."""
+    line, _, rest = wanted.partition(b"\n")
+    return json_answers.text_of(line).encode() + rest if line.startswith(b"{") else wanted
+
+
+def needs_program(words: Words, wanted: bytes) -> bool:
+    """Returns whether a check ends for its budget, or for a file that it can't store."""
+    outs = (sweeps.named_by(words, option) for option in ("--table", "--record"))
+    faults = {b"device %s Device" % os.fsencode(name) for name in outs if name is not None}
+    text = as_text(wanted)
+    return text == b"budget\nexit 3\n" or text.split(b"\n")[0] in faults
+
+
+def wrong_check(case: cases.Case, words: Words, files: Files, wanted: bytes) -> Optional[str]:
+    """Returns in what the second checker differs from the text that a check wants, or None."""
+    found = second_checker(words, files)
+    said = case.said([found])
+    if wanted.endswith(b"exit 2\n"):
+        wanted, said = b"exit 2\n", b"exit %d\n" % found.status
+    return cases.first_difference(wanted, said) if said != wanted else None
+
+
 def compare_cases(stems: Iterable[str], tally: Tally) -> None:
     """Compares the second checker with what the cases want."""
     for stem in stems:
@@ -138,13 +234,13 @@ def compare_cases(stems: Iterable[str], tally: Tally) -> None:
         if case.program or case.memory or case.forms.sizes:
             continue
         began = time.time()
-        for words, files, wanted in checks_of(case):
-            found = second_checker(words, files)
-            said = case.said([found])
-            if wanted.endswith(b"exit 2\n"):
-                wanted, said = b"exit 2\n", b"exit %d\n" % found.status
-            why = cases.first_difference(wanted, said) if said != wanted else None
-            tally.add(os.path.relpath(stem), why)
+        for words, files, wanted in runs_of(case):
+            if words[:1] == ["check"] and not needs_program(words, wanted):
+                tally.add(os.path.relpath(stem), wrong_check(case, words, files, wanted))
+            elif is_of_people(words, as_text(wanted)):
+                one, other = people_wanted(as_text(wanted)), people_said(words, files)
+                why = f"wanted {one}, found {other}" if one != other else None
+                tally.add(os.path.relpath(stem), why)
         took = time.time() - began
         if took > 10:
             print(f"note: {os.path.relpath(stem)} took {took:.0f} seconds", flush=True)
@@ -222,7 +318,8 @@ def both_checkers(
     between = children_seconds()
     if wanted == (b"budget\n", 3):
         return None, (between - began, 0)
-    found = ran(sys.executable, [f"{TOP}/tools/check.py", *words[1:]], folder)
+    kept, _ = words_of_second(words)
+    found = ran(sys.executable, [f"{TOP}/tools/check.py", *kept[1:]], folder)
     why: Optional[str] = None
     if found != wanted:
         why = cases.first_difference(with_exit_line(wanted), with_exit_line(found))
@@ -261,6 +358,8 @@ def compare_chamber(program: str, chamber: int, asked: argparse.Namespace, tally
         began = time.time()
         tally.add(f"chamber {chamber}", both_checkers(program, ["check", *common], room)[0])
         took = time.time() - began
+        as_object = ["check", *common, "--json"]
+        tally.add(f"chamber {chamber} as an object", both_checkers(program, as_object, room)[0])
         print(f"chamber {chamber}: both checkers took {took:.0f} seconds", flush=True)
         with open(f"{room}/certificate", "rb") as file:
             whole = file.read()

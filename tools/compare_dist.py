@@ -1,13 +1,14 @@
 #!/usr/bin/env python3
 """Compares `dist/` with its sums, and with a program that was just proved and built.
 
-usage: compare_dist.py [--program FILE] [--wasm FILE]
+usage: compare_dist.py [--program FILE] [--static FILE] [--wasm FILE]
 
 The files of `dist/` have to be those of `dist/SHA256SUMS`. If `crates/` is no longer the tree that
 `dist/BUILD` names, the commits by which `dist/` is behind are told, and nothing more is compared.
 If the kit is another one, that is told, and nothing more is compared.
---program FILE, --wasm FILE: else these files have to be those of `dist/` byte for byte. They are
-the program that was proved and built here, and what was compiled of its module for WebAssembly.
+--program FILE, --static FILE, --wasm FILE: else these files have to be those of `dist/` byte for
+byte. They are the program that was proved and built here, the same object linked with musl, and
+what was compiled of its module for WebAssembly. A `dist/` without a static program is told.
 
 Statuses: 0 nothing differs, or `dist/` is behind; 1 something differs; 2 these words can't be
 followed.
@@ -26,6 +27,7 @@ from refusal import Refused
 
 DIST = "dist"
 NATIVE = "countygroups-x86_64-linux"
+STATIC = "countygroups-x86_64-linux-static"
 WASM = "countygroups.wasm"
 
 
@@ -83,7 +85,9 @@ def difference(path: str, wanted: str) -> Optional[str]:
     return f"{path} isn't {wanted}: they differ first at byte {at + 1}"
 
 
-def compare(top: str, program: Optional[str], wasm: Optional[str]) -> list[str]:
+def compare(
+    top: str, program: Optional[str], wasm: Optional[str], static: Optional[str] = None
+) -> list[str]:
     """Prints what is so, and returns what is wrong."""
     dist = f"{top}/{DIST}"
     lines = dist_folder.wrong_sums(dist)
@@ -92,8 +96,11 @@ def compare(top: str, program: Optional[str], wasm: Optional[str]) -> list[str]:
     reasons = why_not_current(top, build)
     for line in reasons:
         print(line)
-    for path, name in ((program, NATIVE), (wasm, WASM)):
+    for path, name in ((program, NATIVE), (static, STATIC), (wasm, WASM)):
         if path is None or reasons:
+            continue
+        if name == STATIC and not os.path.exists(f"{dist}/{name}"):
+            print(f"dist/ has no {name}")
             continue
         found = difference(path, f"{dist}/{name}")
         wrong += [] if found is None else [found]
@@ -106,11 +113,12 @@ def main(words: list[str]) -> int:
     """Follows the words, and returns the status to end with."""
     parser = argparse.ArgumentParser(description="Compares dist/ with what was proved and built.")
     parser.add_argument("--program")
+    parser.add_argument("--static")
     parser.add_argument("--wasm")
     asked = parser.parse_args(words)
     top = dist_folder.TOP
     try:
-        wrong = compare(top, asked.program, asked.wasm)
+        wrong = compare(top, asked.program, asked.wasm, asked.static)
     except (Refused, OSError) as error:
         wrong = [str(error)]
     for line in wrong:

@@ -1,5 +1,5 @@
 #!/usr/bin/env python3
-"""Makes the completions of bash, zsh and fish, in `completions/`, of what `--help` says.
+"""Makes the completions of bash, zsh and fish, in `completions/`, of what `-h` says.
 
 usage: completions.py [--program FILE] [--out FOLDER]
 
@@ -19,7 +19,7 @@ from help_script import Out, run_script
 from help_texts import TOP, Help, Option, ProgramHelp
 
 FOLDER = os.path.join(TOP, "completions")
-NOTE = "# Made by tools/completions.py of what `{} --help` says."
+NOTE = "# Made by tools/completions.py of what the help of {} says."
 BASH = """{note}
 # Bash 4 or later completes the words of {name} once it has read this file.
 

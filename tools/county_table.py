@@ -1,6 +1,7 @@
 """Reads a table of the counties: a line for each listed county, with its group.
 
-`docs/formats.md` has the form of a table. One that isn't of this form is refused with one sentence.
+`docs/reference/formats.md` has the form of a table. One that isn't of this form is refused with one
+sentence.
 """
 from __future__ import annotations
 

@@ -1,54 +1,55 @@
-"""Compares the table of crates in docs/architecture.md with crates.txt and first comments.
+"""Compares the layers of crates in docs/architecture.md with crates.txt and the crates.
 
-Each crate of crates.txt has one row, and each row has a crate. What a row says is the first
-sentence of the crate's first comment. A crate stands on no crate of a later layer. The name of a
-crate without code ends in `_laws`, and no other name does.
+usage: python3 tools/crate_table.py [--list]
 
-usage: python3 tools/crate_table.py
+Each crate of crates.txt is in one layer of the page, with a link to its root file, and a layer
+names no other crate. A crate depends on no crate of a later layer. It has a first comment with a
+sentence. The name of a crate without code ends in `_laws`, and no other name does.
 
-Statuses: 0 nothing is wrong, 1 something is, or crates.txt names no crate.
+--list: only prints the crates by layer, each with the first sentence of its first comment.
+
+Statuses: 0 nothing is wrong, 1 something is, or crates.txt names no crate, 2 the arguments can't be
+used.
 """
 from __future__ import annotations
 
 import os
 import re
 import sys
-from typing import Dict, Iterator, List, Tuple
+from dataclasses import dataclass
+from typing import Dict, Iterator, List, Optional, Tuple
+
+from script_words import ScriptWords
 
 TOP = os.path.dirname(os.path.dirname(os.path.abspath(__file__)))
-LAYER = re.compile(r"^\| \*\*(.+)\*\* \| \|")
-CRATE = re.compile(r"^\| `(\w+)` \| (.*) \|$")
+LAYER = re.compile(r"- \*\*(.+?):\*\* ")
+CRATE = re.compile(r"\[`(\w+)`\]\((\S+?)\)")
+PAGE = os.path.join("docs", "architecture.md")
+HEADING = "## The layers"
 SENTENCE = re.compile(r".*?\.(?= |$)")
 LAW = re.compile(r"//! .*\b[Ll]aws?\b")
 FUNCTION = re.compile(r"^(?:pub(?:\(\w+\))? )?fn \w+|^impl\b|^pub (?:struct|enum|trait)\b", re.M)
 
 
-def table() -> Tuple[Dict[str, int], Dict[str, str], List[str]]:
-    """Reads the table of docs/architecture.md.
+@dataclass(frozen=True)
+class Layer:
+    """A layer of the page: its name, and its crates, each with the target of its link."""
 
-    Returns the number of each crate's layer, what each crate's row says, and the crates named
-    twice.
-    """
-    layers: Dict[str, int] = {}
-    said: Dict[str, str] = {}
-    twice: List[str] = []
-    layer = 0
-    with open(os.path.join(TOP, "docs", "architecture.md"), encoding="utf-8") as page:
-        for line in page:
-            if LAYER.match(line):
-                layer += 1
-            elif layer and (found := CRATE.match(line)):
-                name, text = found.groups()
-                if name in layers:
-                    twice.append(name)
-                layers[name], said[name] = layer, text
-            elif layer and not line.startswith("|"):
-                break
-    return layers, said, twice
+    name: str
+    crates: Tuple[Tuple[str, str], ...]
+
+
+def layers() -> List[Layer]:
+    """Reads the layers of the page: the items below the heading, up to the next heading."""
+    with open(os.path.join(TOP, PAGE), encoding="utf-8") as page:
+        section = page.read().partition(f"\n{HEADING}\n")[2].partition("\n#")[0]
+    pieces = LAYER.split(section)
+    pairs = zip(pieces[1::2], pieces[2::2])
+    return [Layer(name, tuple(CRATE.findall(text.split("\n\n")[0]))) for name, text in pairs]
 
 
 def crates() -> Dict[str, List[str]]:
-    """Reads the crates of crates.txt, each with those that it stands on."""
+    """Reads the crates of crates.txt, each with the crates that it depends on."""
     with open(os.path.join(TOP, "crates.txt"), encoding="utf-8") as file:
         pairs = [line.split(":") for line in file if ":" in line]
     return {name.strip(): below.split() for name, below in pairs}
@@ -90,31 +91,45 @@ def has_code(name: str) -> bool:
 
 def faults() -> Iterator[str]:
     """Yields what is wrong, a sentence each."""
-    layers, said, twice = table()
     below = crates()
-    for name in twice:
-        yield f"docs/architecture.md names {name} twice"
-    for name in layers:
-        if name not in below:
-            yield f"crates.txt has no {name}, which docs/architecture.md names"
+    places: Dict[str, int] = {}
+    for number, layer in enumerate(layers()):
+        for name, target in layer.crates:
+            if name in places:
+                yield f"{PAGE} names {name} twice"
+            places[name] = number
+            if name not in below:
+                yield f"crates.txt has no {name}, which {PAGE} names"
+            elif os.path.normpath(os.path.join(TOP, "docs", target)) != root_file(name):
+                yield f"{PAGE} has another link for {name} than its root file"
     for name in below:
-        if name not in layers:
-            yield f"docs/architecture.md has no row for {name}"
+        if name not in places:
+            yield f"{PAGE} has no layer for {name}"
             continue
-        first = first_sentence(name)
-        if said[name] != first:
-            told = f"docs/architecture.md says of {name} another sentence than its first comment"
-            yield f"{told}: {first}"
+        if not first_sentence(name):
+            yield f"{name} has no first comment with a sentence"
         for other in below[name]:
-            if layers.get(other, 0) > layers[name]:
-                told = f"{name} stands on {other}"
-                yield f"{told}, which docs/architecture.md puts in a later layer"
+            if places.get(other, 0) > places[name]:
+                yield f"{name} depends on {other}, which {PAGE} puts in a later layer"
         if has_code(name) == name.endswith("_laws"):
             yield f"the name of {name} ends in _laws exactly if it has no code"
 
 
-def main() -> int:
+def print_list() -> None:
+    """Prints the crates by layer, each with the first sentence of its first comment."""
+    for layer in layers():
+        print(f"\n{layer.name}")
+        for name, _ in layer.crates:
+            print(f"  {name}: {first_sentence(name)}")
+
+
+def main(words: Optional[List[str]] = None) -> int:
     """Prints what is wrong and how many crates were compared, and returns the status."""
+    parser = ScriptWords(__doc__)
+    parser.add_argument("--list", action="store_true")
+    if parser.parse_args(words).list:
+        print_list()
+        return 0
     wrong = list(faults())
     for line in wrong:
         print(line)

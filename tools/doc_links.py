@@ -24,7 +24,18 @@ from markdown_pages import TOP, Piece, anchors_of, headings_of, lines_without_co
 from markdown_pages import page_text
 from script_words import ScriptWords
 
-FOLDERS = ("bench", "cases", "completions", "data", "docs", "python", "r", "tools", "web")
+FOLDERS = (
+    "bench",
+    "cases",
+    "completions",
+    "data",
+    "docs",
+    "packaging",
+    "python",
+    "r",
+    "tools",
+    "web",
+)
 SCHEME = re.compile(r"[a-z][a-z0-9+.-]*:", re.IGNORECASE)
 QUOTED = re.compile(r"`([\w./-]+\.md)`,\s+\"([^\"]+)\"")
 

@@ -7,9 +7,10 @@ usage: python3 tools/grouping.py FILE [--county COLUMN] [--group COLUMN] [--seat
 
 FILE has a line for each county with the label of its group. It is a text with commas, semicolons,
 tabs or pipes, in UTF-8, UTF-16 or Latin-1, or the DBF of a shapefile. It may be packed by gzip or
-zip. The columns are found by their header: counties by GEOID, FIPS, COUNTY, NAME and the like,
-groups by GROUP, CLUSTER and the like, seats by SEATS and the like. --county, --group and --seats
-choose a column by its name, or by its number from 1. A file of two columns needs no header.
+zip, and `-` is standard input. The columns are found by their header: counties by GEOID, FIPS,
+COUNTY, NAME and the like, groups by GROUP, CLUSTER and the like, seats by SEATS and the like.
+--county, --group and --seats choose a column by its name, or by its number from 1. A file of two
+columns needs no header.
 
 A county is a GEOID of five digits. With --state CODE, the state's FIPS code, it may be the county's
 code of one to three digits. With --geo GEO, the geographic header, it may be a name, as `Wake` or
@@ -38,13 +39,13 @@ import re
 import sys
 from dataclasses import dataclass, field
 from fractions import Fraction
-from typing import Callable, Dict, Iterable, List, Optional, Tuple
+from typing import Dict, Iterable, List, Optional, Tuple
 
 from census_counties import read_counties, read_people
 from county_names import CODE_DIGITS, CountyNames, is_county
 from county_table import HEADER
 from refusal import Refused
-from script_words import ScriptWords
+from script_words import ScriptWords, number_from
 from seat_numbers import Chamber, choose_seats
 from storing import put
 from table_columns import CodeColumn, Wanted, key_and_value
@@ -271,18 +272,6 @@ def parser() -> argparse.ArgumentParser:
     made.add_argument("--part", metavar="PART", type=number_from(0, 500), default=1)
     made.add_argument("--of", metavar="OF", type=number_from(1, 1000), default=20)
     return made
-
-
-def number_from(least: int, most: int) -> Callable[[str], int]:
-    """Returns a reader of the words that are a number from `least` to `most`."""
-
-    def read(word: str) -> int:
-        """Returns the number that `word` has."""
-        if not is_digits(word, *range(1, 5)) or not least <= int(word) <= most:
-            raise argparse.ArgumentTypeError(f"{word} is no number from {least} to {most}")
-        return int(word)
-
-    return read
 
 
 def made_groups(asked: argparse.Namespace) -> Tuple[str, List[str]]:

@@ -12,6 +12,7 @@ PACKAGES = {
     "fish": "fish",
     "git": "git",
     "groff": "groff",
+    "jq": "jq",
     "man": "man-db",
     "node": "nodejs",
     "tsc": "node-typescript",

@@ -2,17 +2,19 @@
 """Makes docs/page.html: North Carolina's answer, its proof, and the program, in one page.
 
 usage: python3 tools/make_page.py --program FILE [--wasm FILE] [--build-file FILE] [--jobs JOBS]
-           [--out FILE] [--maps FOLDER] [--closeness FOLDER]
+           [--out FILE] [--maps FOLDER] [--tables FOLDER]
 
 --program is a native build: it makes the certificates, lists, tables and records of both chambers
 by the counts of 2020, 2010 and 2000, and tries each border in dispute by those of 2020. --wasm is
 the same program for browsers (dist/countygroups.wasm). --build-file says which tree the build was
 proved of (dist/BUILD). Without one the page says that its copy was built without proof. --maps
-stores senate_map.svg and house_map.svg, too. --closeness is a folder with the tables of
-tools/closeness.py, senate.csv and house.csv; one that isn't there is made and stored, some ten
-minutes of a processor for both. Without a folder the page tells in their place how much room the
-groups have. The same inputs give the same bytes. Node draws what stands in the page without
-scripts. If something is missing, one sentence says what, and the status is 1.
+stores senate_map.svg and house_map.svg, too. --tables is a folder with the tables of
+tools/closeness.py, senate.csv and house.csv, those of 2010 and 2000 with the year and a dot before,
+and of tools/deciding_borders.py, senate_borders.csv and house_borders.csv; one that isn't there is
+made and stored, some half an hour of a processor for all. Without a folder the page tells in place
+of the first how much room the groups have, and nothing in place of the others. The same inputs give
+the same bytes. Node draws what stands in the page without scripts. If something is missing, one
+sentence says what, and the status is 1.
 """
 from __future__ import annotations
 
@@ -37,8 +39,10 @@ TOP = Path(__file__).resolve().parent.parent
 DATA = "data/nc2020"
 BORDERS = f"{DATA}/county_borders.txt"
 CHAMBERS = [("senate", "Senate", 50), ("house", "House", 120)]
-# Up to how many people one county gains or loses in the tables of closeness.
+# Up to how many people one county gains or loses in the tables of closeness: by the first census,
+# and by each further one, of which the House takes longer.
 WITHIN = {"senate": 400, "house": 2000}
+FURTHER_WITHIN = {"senate": 400, "house": 400}
 SOURCES = (
     "Counts: 2020 census, P.L. 94-171, table P1, from the <a "
     'href="https://www.census.gov/programs-surveys/decennial-census/about/rdo.html">Census '
@@ -126,6 +130,7 @@ def chamber_texts(program: str, room: Path, census: Census, chamber: Chamber) ->
         "act": census.acts.get(key, ""),
         "tried": "",
         "close": "",
+        "deciding": "",
         "table": (room / f"{own}.csv").read_text(encoding="utf-8"),
         "record": (room / f"{own}.record").read_text(encoding="utf-8"),
     }
@@ -180,18 +185,34 @@ def tried_borders(program: str, room: Path, seats: int, jobs: int) -> str:
     return run(words, room)
 
 
-def closeness(program: str, room: Path, chamber: Chamber, folder: Path, jobs: int) -> str:
-    """Returns the table of how close a chamber's answer is by the counts of 2020: that of `folder`,
-    where it is stored if it has to be made."""
-    key, _, seats = chamber
-    path = folder / f"{key}.csv"
+def stored_table(path: Path, tool: str, words: list[str], room: Path) -> str:
+    """Returns the table at `path`. If it isn't there, a tool makes it, and it is stored."""
     if not path.is_file():
-        words = [sys.executable, str(TOP / "tools" / "closeness.py"), "--program", program]
-        words += [*CENSUSES[0].problem(seats), "--within", str(WITHIN[key]), "--jobs", str(jobs)]
-        table = run([*words, "--grouping", str(CENSUSES[0].grouping(key))], room)
-        folder.mkdir(parents=True, exist_ok=True)
+        table = run([sys.executable, str(TOP / "tools" / tool), *words], room)
+        path.parent.mkdir(parents=True, exist_ok=True)
         path.write_text(table, encoding="utf-8")
     return path.read_text(encoding="utf-8")
+
+
+def add_tables(
+    texts: dict[str, str], census: Census, chamber: Chamber, given: argparse.Namespace, room: Path
+) -> None:
+    """Adds to a chamber's texts the tables of the folder: how close its answer is, and by the first
+    census which borders decide it."""
+    key, _, seats = chamber
+    folder = Path(given.tables).resolve()
+    words = ["--program", str(Path(given.program).resolve()), *census.problem(seats)]
+    words += ["--jobs", str(given.jobs)]
+    grouping = census.grouping(key)
+    words += ["--grouping", str(grouping)] if grouping else []
+    path = folder / f"{census.named(key)}.csv"
+    is_first = census is CENSUSES[0]
+    within = WITHIN[key] if is_first else FURTHER_WITHIN[key]
+    more = ["--within", str(within)]
+    texts["close"] = stored_table(path, "closeness.py", [*words, *more], room)
+    if is_first:
+        path = folder / f"{key}_borders.csv"
+        texts["deciding"] = stored_table(path, "deciding_borders.py", words, room)
 
 
 def made_page(given: argparse.Namespace, room: Path) -> str:
@@ -209,9 +230,9 @@ def made_page(given: argparse.Namespace, room: Path) -> str:
     (room / "disputed.links").write_text(run([*drawing, "disputed"], room), encoding="utf-8")
     for texts, chamber in zip(chambers[0], CHAMBERS):
         texts["tried"] = tried_borders(program, room, chamber[2], given.jobs)
-        if given.closeness:
-            folder = Path(given.closeness).resolve()
-            texts["close"] = closeness(program, room, chamber, folder, given.jobs)
+    for census, both in zip(CENSUSES, chambers):
+        for texts, chamber in zip(both, CHAMBERS) if given.tables else []:
+            add_tables(texts, census, chamber, given, room)
     (room / "data.json").write_text(json.dumps(data), encoding="utf-8")
     for key, _, _ in CHAMBERS if given.maps else []:
         drawn = run([*drawing, "map", key], room)
@@ -235,7 +256,7 @@ def main(words: list[str]) -> int:
     parser.add_argument("--wasm", default=str(TOP / "dist" / "countygroups.wasm"))
     parser.add_argument("--build-file")
     parser.add_argument("--maps")
-    parser.add_argument("--closeness")
+    parser.add_argument("--tables")
     parser.add_argument("--jobs", type=int, default=2)
     parser.add_argument("--out", default=str(TOP / "docs" / "page.html"))
     given = parser.parse_args(words)

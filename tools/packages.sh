@@ -8,7 +8,8 @@ usage: tools/packages.sh FOLDER [KIND ..]
 
 Makes the packages of what dist/ has, in FOLDER, with SHA256SUMS of all that lies there. KIND is one
 of python, r, npm and debian; without a KIND all are made. packaging/README.md says what each has
-inside. It asks no network, and the same commit gives the same bytes.
+inside. It asks no network, and the same commit gives the same bytes by the same tools. The package
+for R has its vignette as HTML if R has knitr and markdown, and else as a plain text.
 It needs `pip`, `R`, `npm`, or `dpkg-deb` and `strip`, for the kinds that it makes.
 Statuses: 0 all are made, 1 one can't be made, 2 these words can't be followed.
 TEXT
@@ -34,6 +35,9 @@ trap 'rm -rf "$room"' EXIT
 
 version=$(python3 tools/versions.py) || refuse 1 "the versions differ"
 native=dist/countygroups-x86_64-linux
+# What the packages for Python and R have inside: the one for any C library, if dist/ has it.
+linux=$native
+[ ! -f "$native-static" ] || linux=$native-static
 licences=(LICENSE-MIT LICENSE-APACHE NOTICE)
 # The date of all files: that of the commit, so that the same commit gives the same bytes.
 SOURCE_DATE_EPOCH=$(git log -1 --format=%ct 2>/dev/null || echo 315532800)
@@ -60,28 +64,46 @@ make_python() {
     done
 }
 
+# Returns whether R has what builds a vignette.
+has_knitr() {
+    local name
+    for name in knitr markdown; do
+        Rscript -e "if (!requireNamespace('$name', quietly = TRUE)) quit(status = 1)" \
+            >/dev/null 2>&1 || return 1
+    done
+}
+
 make_r() {
-    local source=$room/countygroups name
+    local source=$room/countygroups name words=()
     need R r-base-core
     cp -r r "$source"
     rm -rf "$source/inst"
     mkdir -p "$source/inst/bin" "$source/inst/extdata"
-    for name in countygroups-x86_64-linux countygroups.mjs countygroups.wasm; do
+    gzip -9nc "$linux" >"$source/inst/bin/countygroups-x86_64-linux.gz"
+    for name in countygroups.mjs countygroups.wasm; do
         gzip -9nc "dist/$name" >"$source/inst/bin/$name.gz"
     done
     cp data/nc2020/county_borders.txt data/nc2020/borders_source.txt "$source/inst/extdata/"
     cp "${licences[@]}" "$source/inst/"
-    (cd "$room" && R CMD build --no-build-vignettes countygroups >build.log 2>&1) ||
+    if has_knitr; then
+        python3 tools/r_vignette.py "$source"
+    else
+        python3 tools/r_vignette.py --plain "$source"
+        words=(--no-build-vignettes)
+    fi
+    (cd "$room" && R CMD build "${words[@]}" countygroups >build.log 2>&1) ||
         { cat "$room/build.log" >&2; refuse 1 "R can't build its package"; }
     pack_r "$room/countygroups_$version.tar.gz"
 }
 
-# Packs the archive that R built once more, without the date and the name of who built it.
+# Packs the archive that R built once more, without the date and the name of who built it. To build
+# a vignette R runs `configure`, which unpacks the programs.
 pack_r() { # ARCHIVE
     local date
     date=$(date -u -d "@$SOURCE_DATE_EPOCH" '+%Y-%m-%d %H:%M:%S UTC')
     mkdir "$room/packed"
     tar -xzf "$1" -C "$room/packed"
+    find "$room/packed/countygroups/inst/bin" -type f ! -name '*.gz' -exec gzip -9n {} +
     sed -i "s/^Packaged: .*/Packaged: $date; countygroups/" "$room/packed/countygroups/DESCRIPTION"
     tar --sort=name --mtime="@$SOURCE_DATE_EPOCH" --owner=0 --group=0 --numeric-owner \
         -C "$room/packed" -cf - countygroups | gzip -9n >"$folder/countygroups_$version.tar.gz"

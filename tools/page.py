@@ -5,10 +5,11 @@ usage: python3 tools/page.py TABLE LIST OUTLINES RECORD OUT.html
            [--enacted YEAR GROUPING] [--borders FILE]
 
 TABLE is a table of the counties, LIST the text that `countygroups list` wrote, OUTLINES GeoJSON
-with a GEOID for each county, and RECORD the record of a run (docs/formats.md). The page carries the
-files that the record names and the program, if they are found under their names with their sums,
-and dist/countygroups.wasm is there. Then it checks the proof, too. If a file can't be used, one
-sentence on standard error says why, and the status is 1. If the words are others, the status is 2.
+with a GEOID for each county, and RECORD the record of a run (docs/reference/formats.md). The page
+carries the files that the record names and the program, if they are found under their names with
+their sums, and dist/countygroups.wasm is there. Then it checks the proof, too. If a file can't be
+used, one sentence on standard error says why, and the status is 1. If the words are others, the
+status is 2.
 
 --enacted YEAR GROUPING has the page open on the grouping that was enacted in that year, if it is
 one of the best, and mark it. GROUPING is a grouping text. --borders FILE is a text which says where

@@ -1,6 +1,7 @@
 """Reads what a page is made of besides a table: a list of groupings, and the record of a run.
 
-`docs/formats.md` has the forms of both. A text that isn't of its form is refused with one sentence.
+`docs/reference/formats.md` has the forms of both. A text that isn't of its form is refused with one
+sentence.
 """
 from __future__ import annotations
 

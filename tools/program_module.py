@@ -1,15 +1,15 @@
 #!/usr/bin/env python3
-"""Stores the LLVM module of which the kit's clang made the proved program.
+"""Stores the LLVM module of which the kit's clang made the proved program, and the object.
 
-usage: program_module.py FOLDER MODULE
+usage: program_module.py FOLDER MODULE [OBJECT]
 
 FOLDER is where `rt ci` proved and built every crate. `rt ci` keeps no module. So the program's
 crate is proved and compiled once more, over the libraries that lie there, by the same words. The
 toolchain is the kit's own, but for a script in the place of its clang, which keeps a copy of each
 module that it compiles. MODULE is stored only if the program of this second build is, byte for
-byte, the one that `rt ci` built.
+byte, the one that `rt ci` built. OBJECT is the file of which the kit linked that program.
 
-Statuses: 0 the module is stored, 1 the second build fails or differs, 2 these words can't be
+Statuses: 0 all is stored, 1 the second build fails or differs, 2 these words can't be
 followed.
 """
 from __future__ import annotations
@@ -109,8 +109,8 @@ def make_toolchain(kit: str, room: str) -> str:
     return f"{room}/kit/toolchain"
 
 
-def build(kit: str, repository: Repository, room: str) -> str:
-    """Builds the program in `room` once more, and returns the path of the module."""
+def build(kit: str, repository: Repository, room: str) -> tuple[str, str]:
+    """Builds the program in `room` once more. Returns the paths of module and object."""
     folder = f"{repository.folder}/crates/{PROGRAM}"
     words = words_of(kit, repository, PROGRAM)
     toolchain = ["--toolchain", make_toolchain(kit, room)]
@@ -127,20 +127,21 @@ def build(kit: str, repository: Repository, room: str) -> str:
     modules = os.listdir(f"{room}/modules")
     if len(modules) != 1:
         raise Refused(f"clang compiled {len(modules)} modules in place of one")
-    return f"{room}/modules/{modules[0]}"
+    return f"{room}/modules/{modules[0]}", made
 
 
 def main(words: list[str]) -> int:
     """Follows the words, and returns the status to end with."""
-    if len(words) != 2:
+    if len(words) not in (2, 3):
         print(__doc__, end="", file=sys.stderr)
         return 2
-    folder, module = os.path.realpath(words[0]), words[1]
+    folder, wanted = os.path.realpath(words[0]), words[1:]
     try:
         asked = subprocess.run(["rt", "doc"], capture_output=True, text=True, check=True)
         kit = os.path.dirname(asked.stdout.strip())
         with tempfile.TemporaryDirectory(prefix="program-module-") as room:
-            shutil.copyfile(build(kit, read_repository(folder), room), module)
+            for made, name in zip(build(kit, read_repository(folder), room), wanted):
+                shutil.copyfile(made, name)
     except (Refused, OSError, subprocess.CalledProcessError) as error:
         print(f"program_module.py: {error}", file=sys.stderr)
         return 1

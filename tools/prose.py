@@ -3,13 +3,16 @@
 
 usage: python3 tools/prose.py [--words FILE] [PAGE ..]
 
-PAGE: the pages, as paths from the top of the repository; by default those of `PAGES`.
+PAGE: the pages, as paths from the top of the repository; by default `README.md`,
+`CONTRIBUTING.md` and each page of `docs/`.
 --words FILE: the words that are refused, and the exceptions; by default `tools/prose_words.txt`,
 whose first lines explain its form.
 
 A page is wrong if it contains a refused word, a sentence of more than 30 words, or a line of more
 than 120 characters that isn't a row of a table. Code is left out, and counts as one word of its
 sentence. An exception that allows nothing is wrong, too, if its page is looked at.
+
+Without PAGE, all pages together may have at most 22,000 words, as `wc -w` counts them.
 
 Statuses: 0 nothing is wrong, 1 something is, 2 the arguments or the file of words can't be used.
 """
@@ -19,25 +22,15 @@ import os
 import re
 import sys
 from dataclasses import dataclass
-from typing import Iterator, Optional
+from typing import Iterable, Iterator, Optional
 
 from markdown_pages import TOP, lines_without_code, page_text, prose_of, sentences_of
 from script_words import ScriptWords
 
-PAGES = (
-    "README.md",
-    "docs/tutorial.md",
-    "docs/faq.md",
-    "docs/explanation/borders.md",
-    "docs/explanation/certificates.md",
-    "docs/explanation/testing.md",
-    "docs/explanation/trust.md",
-    "docs/reference/glossary.md",
-)
 WORDS_FILE = os.path.join(TOP, "tools", "prose_words.txt")
 WORD = re.compile(r"word (.+?) -> (.+)")
 EXCEPTION = re.compile(r"except (\S+): (.+?) -> (.+)")
-MOST_WORDS, MOST_CHARACTERS = 30, 120
+MOST_WORDS, MOST_CHARACTERS, MOST_WORDS_IN_ALL = 30, 120, 22_000
 
 
 class BadWords(Exception):
@@ -147,20 +140,42 @@ def findings_of(page: str, text: str, rules: Rules) -> list[Finding]:
     ]
 
 
+def default_pages() -> list[str]:
+    """Returns the pages that are looked at if none is named, as paths from the top."""
+    docs = os.path.join(TOP, "docs")
+    paths = (os.path.join(place, name) for place, _, names in os.walk(docs) for name in names)
+    pages = (os.path.relpath(path, TOP).replace(os.sep, "/") for path in paths)
+    return ["README.md", "CONTRIBUTING.md", *sorted(one for one in pages if one.endswith(".md"))]
+
+
+def words_in(text: str) -> int:
+    """Returns how many words `wc -w` counts in the page `text`: what blanks separate."""
+    return len(text.split())
+
+
+def too_many_words(texts: Iterable[str]) -> list[Finding]:
+    """Returns a finding if the `texts` of all pages have more words than is allowed together."""
+    number = sum(map(words_in, texts))
+    if number <= MOST_WORDS_IN_ALL:
+        return []
+    return [Finding("docs", 0, f"{number} words in all, and at most {MOST_WORDS_IN_ALL} may be")]
+
+
 def main(words: Optional[list[str]] = None) -> int:
     """Looks at the pages, and returns the status to end with."""
     parser = ScriptWords(__doc__)
     parser.add_argument("--words", default=WORDS_FILE, metavar="FILE")
-    parser.add_argument("pages", nargs="*", default=list(PAGES), metavar="PAGE")
+    parser.add_argument("pages", nargs="*", metavar="PAGE")
     asked = parser.parse_args(words)
     try:
         with open(asked.words, encoding="utf-8") as file:
             rules = read_rules(file.read())
-        texts = {page: page_text(page) for page in asked.pages}
+        texts = {page: page_text(page) for page in asked.pages or default_pages()}
     except (OSError, UnicodeDecodeError, BadWords) as error:
         print(f"prose.py: {error}", file=sys.stderr)
         return 2
     found = [one for page, text in texts.items() for one in findings_of(page, text, rules)]
+    found += [] if asked.pages else too_many_words(texts.values())
     for finding in found:
         print(finding, file=sys.stderr)
     print(f"the prose of {len(texts)} pages: {len(found)} wrong")

@@ -10,6 +10,14 @@ class Refused(Exception):
     """Why something isn't done or can't be used, in words for a person."""
 
 
+def printable(text: str) -> str:
+    """Returns a text with a question mark in place of each sign that isn't printable.
+
+    Such a sign is a control character, one that turns the direction of text, or half of a pair.
+    """
+    return "".join(sign if sign.isprintable() else "?" for sign in text)
+
+
 def status_of(act: Callable[[], None]) -> int:
     """Does what a script is asked, and returns its status: 0, or 1 if `act` raises an error.
 

@@ -1,4 +1,4 @@
-"""Listings of six counties by `docs/formats.md`, for the tests of what reads listings."""
+"""Listings of six counties by `docs/reference/formats.md`, for the tests of what reads listings."""
 from __future__ import annotations
 
 

@@ -2,7 +2,8 @@
 from __future__ import annotations
 
 import argparse
-from typing import Optional
+import re
+from typing import Callable, Optional
 
 
 class ScriptWords(argparse.ArgumentParser):
@@ -20,3 +21,15 @@ class ScriptWords(argparse.ArgumentParser):
     def format_help(self) -> str:
         """Returns the doc string."""
         return self.told
+
+
+def number_from(least: int, most: int) -> Callable[[str], int]:
+    """Returns a reader of the words that are a number from `least` to `most`, below 10,000."""
+
+    def read(word: str) -> int:
+        """Returns the number that `word` has."""
+        if not re.fullmatch(r"[0-9]{1,4}", word) or not least <= int(word) <= most:
+            raise argparse.ArgumentTypeError(f"{word} is no number from {least} to {most}")
+        return int(word)
+
+    return read

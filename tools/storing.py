@@ -36,7 +36,7 @@ def store(path: str, text: str) -> None:
 
 
 def put(path: Optional[str], text: str) -> None:
-    """Stores `text` under `path`, or prints it without a path.
+    """Stores `text` under `path`, or prints it without a path. Both are UTF-8 with its line ends.
 
     Raises `Refused` if the file can't be stored, or if standard output was closed.
     """
@@ -44,7 +44,11 @@ def put(path: Optional[str], text: str) -> None:
         store(path, text)
         return
     try:
-        sys.stdout.write(text)
+        sys.stdout.flush()
+        if hasattr(sys.stdout, "buffer"):
+            sys.stdout.buffer.write(text.encode())
+        else:
+            sys.stdout.write(text)
         sys.stdout.flush()
     except OSError as fault:
         os.dup2(os.open(os.devnull, os.O_WRONLY), sys.stdout.fileno())

@@ -2,7 +2,7 @@
 
 A table is a text with commas, semicolons, tabs or pipes, in UTF-8, UTF-16 or Latin-1, or a DBF. It
 may be packed by gzip or zip. What can't be used is refused with one sentence, which names the file
-and the line.
+and the line. A text is decoded line by line, so that it takes little more memory than its bytes.
 """
 from __future__ import annotations
 
@@ -16,12 +16,14 @@ from typing import Callable, Iterable, Iterator, List, Optional, Tuple
 
 from dbase_table import is_dbase, read_layout, read_records
 from packed_file import Source, read_source
-from refusal import Refused
+from refusal import Refused, printable
 
 DELIMITERS = "\t|;,"
 SAMPLE_LINES = 20
 END_OF_FILE = "\x1a"
 SHOWN = 40
+MOST_ROW_SIGNS = 1_048_576
+DECODED_BYTES = 1_048_576
 MARKS = {
     codecs.BOM_UTF8: "utf-8",
     codecs.BOM_UTF16_LE: "utf-16-le",
@@ -61,7 +63,15 @@ def read_table(path: str, member: Optional[str], is_key: Callable[[str], bool]) 
     `is_key` says whether a field is the code of a row: a first row that has one is no header.
     Raises `Refused` if the file is no table, or has no row.
     """
-    source = read_source(path, member)
+    return table_of(read_source(path, member), is_key)
+
+
+def table_of(source: Source, is_key: Callable[[str], bool]) -> Table:
+    """Returns the table that a file holds.
+
+    `is_key` says whether a field is the code of a row: a first row that has one is no header.
+    Raises `Refused` if the file is no table, or has no row.
+    """
     is_dbf = is_dbase(source.data)
     rows = dbase_rows(source) if is_dbf else text_rows(source)
     first = next(rows, None)
@@ -114,50 +124,123 @@ def dbase_rows(source: Source) -> Iterator[NumberedRow]:
 
 def decoded(data: bytes) -> str:
     """Returns a text by its byte order mark or its zero bytes, else as UTF-8 or Latin-1."""
+    encoding, start = encoding_of(data)
+    return data[start:].decode(encoding, errors="replace")
+
+
+def encoding_of(data: bytes) -> Tuple[str, int]:
+    """Returns the encoding of a text, and the number of bytes of its byte order mark."""
     for mark, encoding in MARKS.items():
         if data.startswith(mark):
-            return data[len(mark) :].decode(encoding, errors="replace")
+            return encoding, len(mark)
     for start, encoding in ((0, "utf-16-be"), (1, "utf-16-le")):
         if len(data) > 3 and data[start : start + 1] == data[start + 2 : start + 3] == b"\0":
-            return data.decode(encoding, errors="replace")
+            return encoding, 0
+    return ("utf-8" if is_utf8(data) else "latin-1"), 0
+
+
+def is_utf8(data: bytes) -> bool:
+    """Returns whether bytes are UTF-8. They are decoded piece by piece, and nothing is kept."""
+    decoder = codecs.getincrementaldecoder("utf-8")()
     try:
-        return data.decode("utf-8")
+        for start in range(0, len(data), DECODED_BYTES):
+            decoder.decode(data[start : start + DECODED_BYTES])
+        decoder.decode(b"", final=True)
     except UnicodeDecodeError:
-        return data.decode("latin-1")
+        return False
+    return True
+
+
+def text_lines(source: Source) -> Iterator[str]:
+    """Yields the lines of a text with their ends, but for an end of file (0x1A) at the last one.
+
+    Of a line with more than 1,048,576 characters it yields the beginning, which is longer than
+    that. Raises `Refused` at a line with a zero.
+    """
+    encoding, start = encoding_of(source.data)
+    data = io.BytesIO(source.data)
+    data.seek(start)
+    text = io.TextIOWrapper(data, encoding=encoding, errors="replace", newline="")
+    while True:
+        line = text.readline(MOST_ROW_SIGNS + 1)
+        if "\0" in line:
+            raise no_text(source)
+        if not line:
+            return
+        yield line.rstrip(END_OF_FILE)
+
+
+class RowLines:
+    """The lines of a text for a reader of rows. A row may take 1,048,576 characters of them.
+
+    `begin` has to be called before each row. `number` is that of the last line that was taken.
+    """
+
+    def __init__(self, source: Source) -> None:
+        self.source, self.lines = source, text_lines(source)
+        self.number = self.first = self.signs = 0
+
+    def begin(self) -> None:
+        """Says that the next line is the first one of a row."""
+        self.first, self.signs = self.number + 1, 0
+
+    def __iter__(self) -> "RowLines":
+        return self
+
+    def __next__(self) -> str:
+        line = next(self.lines)
+        self.number, self.signs = self.number + 1, self.signs + len(line)
+        if self.signs > MOST_ROW_SIGNS:
+            told = f"begins a row of more than {MOST_ROW_SIGNS:,} characters"
+            raise Refused(f"Line {self.first} of {self.source.name} {told}.")
+        return line
+
+
+def no_text(source: Source) -> Refused:
+    """Returns the refusal of a file that is no text."""
+    return Refused(f"The file {source.name} is no text: export the table as CSV.")
 
 
 def text_rows(source: Source) -> Iterator[NumberedRow]:
     """Yields the number and the fields of each row of a text that isn't blank.
 
-    Raises `Refused` if the text has zero bytes, is JSON, or has a quote at fault.
+    Raises `Refused` if the text has zero bytes, is JSON, or has a quote or a line at fault.
     """
-    text = decoded(source.data).rstrip(END_OF_FILE)
-    if "\0" in text:
-        raise Refused(f"The file {source.name} is no text: export the table as CSV.")
-    if text.lstrip()[:1] in ("{", "["):
+    if b"\0" in source.data and not encoding_of(source.data)[0].startswith("utf-16"):
+        raise no_text(source)
+    sample = list(itertools.islice(text_lines(source), SAMPLE_LINES))
+    if "".join(sample).lstrip()[:1] in ("{", "["):
         raise Refused(f"The file {source.name} is JSON, and no table: export it as CSV.")
-    lines = io.StringIO(text, newline="")
-    delimiter = delimiter_of(text)
+    lines, delimiter = RowLines(source), delimiter_of(sample)
     reader = csv.reader(lines, delimiter=delimiter, skipinitialspace=True, strict=True)
     while True:
-        before = reader.line_num
+        lines.begin()
         try:
             fields = next(reader, None)
         except csv.Error as fault:
-            told = "has a quote that isn't closed, or that isn't at the end of its field"
-            raise Refused(f"Line {before + 1} of {source.name} {told}.") from fault
+            told = row_fault(fault, lines.number - lines.first + 1)
+            raise Refused(f"Line {lines.first} of {source.name} {told}.") from fault
         if fields is None:
             return
         if any(field.strip() for field in fields):
-            yield reader.line_num, fields
+            yield lines.number, fields
 
 
-def delimiter_of(text: str) -> str:
-    """Returns the delimiter of a text.
+def row_fault(fault: csv.Error, lines: int) -> str:
+    """Returns what is wrong with a row of so many lines at which a reader raised `fault`."""
+    if "field limit" not in str(fault):
+        return "has a quote that isn't closed, or that isn't at the end of its field"
+    most = csv.field_size_limit()
+    if lines > 1:
+        return f"has a quote that isn't closed within {most:,} characters"
+    return f"has a field of more than {most:,} characters"
 
-    It is the one by which the first lines have the same number of fields, and most fields.
+
+def delimiter_of(lines: List[str]) -> str:
+    """Returns the delimiter of a text that begins with `lines`.
+
+    It is the one by which these lines have the same number of fields, and most fields.
     """
-    lines = list(itertools.islice(io.StringIO(text, newline=""), SAMPLE_LINES))
     best, found = (False, 1), ","
     for delimiter in DELIMITERS:
         counts = field_counts(lines, delimiter)
@@ -208,5 +291,5 @@ def is_digits(text: str, *lengths: int) -> bool:
 
 def shown(text: str) -> str:
     """Returns a text between backticks, cut at 40 characters, without control characters."""
-    printable = "".join(sign if sign.isprintable() else "?" for sign in text)
-    return f"`{printable}`" if len(printable) <= SHOWN else f"`{printable[:SHOWN]}..`"
+    told = printable(text)
+    return f"`{told}`" if len(told) <= SHOWN else f"`{told[:SHOWN]}..`"

@@ -6,16 +6,15 @@ import io
 import os
 import struct
 import subprocess
-import sys
 import tempfile
 import unittest
 from typing import Callable, List, NamedTuple, Optional, Sequence, Tuple, Union
 
+from help_texts import PROGRAM_OF_DIST
+from tested_program import TESTED
+
 TOP = os.path.dirname(os.path.dirname(os.path.abspath(__file__)))
 DATA = os.path.join(TOP, "data", "nc2020")
-
-# The program of `--program`, by which what the tools make is audited and judged.
-PROGRAMS: List[str] = []
 
 
 class Ran(NamedTuple):
@@ -61,18 +60,18 @@ class Room(unittest.TestCase):
     def run_program(self, *words: str, given: Optional[str] = None) -> Tuple[int, str]:
         """Returns the status of the program and what it prints, with `given` as its input."""
         ran = subprocess.run(
-            [PROGRAMS[0], *words], input=given, capture_output=True, text=True, check=False
+            [TESTED.program, *words], input=given, capture_output=True, text=True, check=False
         )
         return ran.returncode, ran.stdout
 
 
 class WithProgram(Room):
-    """Runs of the program over what tools make. Without a program they are passed over."""
+    """Runs of the program over what tools make, passed over if there is none in `dist/`."""
 
     def setUp(self) -> None:
         super().setUp()
-        if not PROGRAMS:
-            self.skipTest("no program was given")
+        if TESTED.program == PROGRAM_OF_DIST and not os.path.isfile(PROGRAM_OF_DIST):
+            self.skipTest("there is no program in dist/")
 
 
 def dbf(columns: Sequence[DbfColumn], records: Sequence[Sequence[str]], deleted: int = -1) -> bytes:
@@ -94,12 +93,3 @@ def dbf(columns: Sequence[DbfColumn], records: Sequence[Sequence[str]], deleted:
             parts.append(text.encode("latin-1"))
     parts.append(b"\x1a")
     return b"".join(parts)
-
-
-def run_tests() -> None:
-    """Runs the tests of the script that is run, with the program of `--program` if it is given."""
-    if "--program" in sys.argv:
-        place = sys.argv.index("--program")
-        sys.argv.pop(place)
-        PROGRAMS.append(os.path.abspath(sys.argv.pop(place)))
-    unittest.main(verbosity=0)

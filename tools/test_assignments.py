@@ -14,11 +14,12 @@ import stat
 import subprocess
 import sys
 import zipfile
-from typing import Dict, List, Optional, Union
+from typing import Callable, Dict, Iterator, List, Optional, Tuple, Union
 
 import assignments
 import example_plan
-from table_trial import DATA, TOP, DbfColumn, Ran, Room, WithProgram, dbf, run_tests
+from table_trial import DATA, TOP, DbfColumn, Ran, Room, WithProgram, dbf
+from tested_program import run_tests
 
 ONE, TWO, THREE = "370010001001000", "370010001001001", "370030001001000"
 WANTED = f"BLOCKID|DISTRICT\n{ONE}|1\n{TWO}|1\n{THREE}|02\n"
@@ -32,6 +33,21 @@ def text_of(delimiter: str, header: str = "GEOID20,District", quote: str = "") -
     rows = [header.split(",")] if header else []
     lines = [delimiter.join(f"{quote}{field}{quote}" for field in row) for row in [*rows, *ROWS]]
     return "\n".join(lines) + "\n"
+
+
+@contextlib.contextmanager
+def gzip_writer(data: io.BytesIO) -> Iterator[Callable[[bytes], object]]:
+    """Yields what adds bytes to the gzip in `data`."""
+    with gzip.GzipFile(fileobj=data, mode="wb") as file:
+        yield file.write
+
+
+@contextlib.contextmanager
+def zip_writer(data: io.BytesIO) -> Iterator[Callable[[bytes], object]]:
+    """Yields what adds bytes to the member `a.csv` of the zip in `data`."""
+    with zipfile.ZipFile(data, "w", zipfile.ZIP_DEFLATED) as packed:
+        with packed.open("a.csv", "w") as file:
+            yield file.write
 
 
 class Made(Room):
@@ -144,6 +160,13 @@ class Texts(Made):
         told.append("Blocks of 14 digits, which have their lost leading zero again: 2.")
         self.assertEqual(self.made(text), Ran(0, wanted, told))
 
+    def test_standard_input(self) -> None:
+        words = [sys.executable, assignments.__file__, "-"]
+        held = gzip.compress(text_of(",").encode())
+        ran = subprocess.run(words, input=held, capture_output=True, check=False)
+        told = SUMMARY.replace("plan", "standard input").encode() + os.linesep.encode()
+        self.assertEqual((ran.returncode, ran.stdout, ran.stderr), (0, WANTED.encode(), told))
+
     def test_a_file_that_is_stored(self) -> None:
         out = os.path.join(self.room, "out")
         self.assertEqual(self.made(text_of(","), "--out", out), Ran(0, "", [SUMMARY]))
@@ -219,6 +242,57 @@ class Packed(Made):
         self.refused(cut, "The file plan is packed by gzip, and it is damaged.")
         told = "The file plan is no zip, so it has no member x."
         self.refused(text_of(","), told, "--member", "x")
+
+    def test_names_of_a_zip_that_are_no_print(self) -> None:
+        """Neither an escape nor a mark that turns the direction of text is printed."""
+        packed = self.zip_of({"a\x1b[2J.csv": text_of(","), "\u202eb.csv": text_of(",")})
+        told = "has several tables, so choose one by --member NAME: a?[2J.csv, ?b.csv"
+        self.refused(packed, f"The zip plan {told}.")
+        told = "has no single member ?: it has a?[2J.csv, ?b.csv"
+        self.refused(packed, f"The zip plan {told}.", "--member", "\x1b")
+        other = self.zip_of({"\x1b]0;.pdf": "."})
+        self.refused(other, "The zip plan has no table: it has ?]0;.pdf.")
+        found = self.made(self.zip_of({"a\x1b[2J.csv": text_of(",")}))
+        told = SUMMARY.replace("plan", "a?[2J.csv in plan")
+        self.assertEqual(found, Ran(0, WANTED, [told]))
+        long = self.zip_of({"a" * 60_000 + ".pdf": "."})
+        self.refused(long, f"The zip plan has no table: it has {'a' * 100}...")
+
+    def test_tables_with_an_explanation(self) -> None:
+        """NHGIS puts a codebook beside a table, and data.census.gov two further texts."""
+        for other in ("a_codebook.txt", "a-Column-Metadata.csv", "a-Table-Notes.txt"):
+            packed = self.zip_of({other: ".", "a-Data.csv": text_of(",")})
+            self.assertEqual(self.made(packed).text, WANTED)
+
+    def peak_of(self, held: bytes) -> Tuple[str, int]:
+        """Returns what the tool tells of a file, and how many MiB it takes at its peak."""
+        code = "import assignments, resource, sys\nassignments.main(sys.argv[1:])\n"
+        code += "print(resource.getrusage(resource.RUSAGE_SELF).ru_maxrss)\n"
+        words = [sys.executable, "-c", code, self.file("plan", held)]
+        folder = os.path.dirname(assignments.__file__)
+        ran = subprocess.run(words, cwd=folder, capture_output=True, text=True, check=False)
+        self.assertEqual(ran.returncode, 0, ran.stderr)
+        return ran.stderr.replace(self.room + os.sep, ""), int(ran.stdout) // 1024
+
+    def test_bombs(self) -> None:
+        """A packed file that unpacks to 200 MiB is refused, and takes no such memory."""
+        piece, pieces = b"370010001001000,1\n" * 58_255, 200
+        for writer in (gzip_writer, zip_writer):
+            data = io.BytesIO()
+            with writer(data) as write:
+                for _ in range(pieces):
+                    write(piece)
+            told, peak = self.peak_of(data.getvalue())
+            self.assertIn(" unpacks to more than ", told)
+            self.assertEqual(told.count("\n"), 1)
+            self.assertLess(peak, 150)
+
+    def test_a_zip_packed_in_another_way(self) -> None:
+        data = io.BytesIO()
+        with zipfile.ZipFile(data, "w", zipfile.ZIP_BZIP2) as packed:
+            packed.writestr("plan.csv", text_of(","))
+        told = "The file plan is a zip, and it is damaged, or packed in another way."
+        self.refused(data.getvalue(), told)
 
     def test_dbfs_that_are_refused(self) -> None:
         told = "The DBF plan is cut short: it has 2 of its 4 records."
@@ -315,6 +389,21 @@ class Refusals(Made):
         quote = "has a quote that isn't closed, or that isn't at the end of its field"
         self.refused(f'{head}{TWO},"1\n{THREE},2\n', f"Line 3 of plan {quote}.")
         self.refused(f'{head}{TWO},"1"2\n', f"Line 3 of plan {quote}.")
+
+    def test_long_fields_and_lines(self) -> None:
+        """A field has at most 131,072 characters, and a row 1,048,576."""
+        head = f"GEOID20,District,Note\n{ONE},1,\n"
+        most = "x" * 131_072
+        self.assertEqual(self.made(f"{head}{TWO},1,{most}\n").status, 0)
+        for field in (f"{most}x", f'"{most}x"'):
+            told = "Line 3 of plan has a field of more than 131,072 characters."
+            self.refused(f"{head}{TWO},1,{field}\n", told)
+        told = "Line 3 of plan has a quote that isn't closed within 131,072 characters."
+        self.refused(f'{head}{TWO},1,"' + f"{TWO},1,x\n" * 10_000, told)
+        told = "Line 3 of plan begins a row of more than 1,048,576 characters."
+        self.refused(f"{head}{TWO},1,{'x,' * 524_288}\n", told)
+        lines = '"a\n",' * 220_000
+        self.refused(f"{head}{TWO},1,{lines}\n", told)
 
     def test_files(self) -> None:
         self.refused("", "The file plan has no line.")
@@ -425,4 +514,4 @@ class Audited(WithProgram, Made):
 
 
 if __name__ == "__main__":
-    run_tests()
+    run_tests(__doc__)

@@ -31,6 +31,7 @@ FILES = {
     "adjacency": "x|37001|y|37003\nx|37003|y|37005\nx|37005|y|37007\n",
     "grouping": "1|37001|37003\n1|37005|37007\n",
 }
+PEOPLE = "county,people\n" + "".join(f"{code},50\n" for code in CODES) + "13001,9\n"
 HEADER = ",".join(closeness.HEADER)
 
 
@@ -44,10 +45,12 @@ class Tables(unittest.TestCase):
         for name, text in FILES.items():
             (self.room / name).write_text(text, encoding="ascii")
 
-    def run_within(self, people: int) -> subprocess.CompletedProcess[str]:
-        """Runs the tool up to so many people."""
+    def run_within(
+        self, people: int, names: tuple[str, ...] = tuple(FILES)
+    ) -> subprocess.CompletedProcess[str]:
+        """Runs the tool up to so many people with the files of these names."""
         words = [sys.executable, closeness.__file__, "--program", TESTED.program]
-        for name in FILES:
+        for name in names:
             words += [f"--{name}", name]
         words += ["--chamber", "2", "--within", str(people), "--jobs", "1"]
         done = subprocess.run(words, cwd=self.room, capture_output=True, text=True, check=False)
@@ -58,6 +61,18 @@ class Tables(unittest.TestCase):
         rows = [f"{code},{change},1,0 0 0 1,not lawful" for change in (-10, 11) for code in CODES]
         wanted = [HEADER, ",20,1,0 2,best", *rows]
         self.assertEqual(self.run_within(20).stdout.splitlines(), wanted)
+
+    def test_a_people_file(self) -> None:
+        (self.room / "people").write_text(PEOPLE, encoding="ascii")
+        names = ("people", "adjacency", "grouping")
+        self.assertEqual(self.run_within(20, names).stdout, self.run_within(20).stdout)
+
+    def test_counts_of_two_kinds(self) -> None:
+        words = [sys.executable, closeness.__file__, "--program", TESTED.program]
+        words += ["--adjacency", "adjacency", "--chamber", "2", "--within", "9", "--geo", "geo"]
+        done = subprocess.run(words, cwd=self.room, capture_output=True, text=True, check=False)
+        self.assertEqual(done.returncode, 2)
+        self.assertIn("--geo and --segment, or --people", done.stderr)
 
     def test_no_change_so_near(self) -> None:
         self.assertEqual(self.run_within(9).stdout.splitlines(), [HEADER, ",9,1,0 2,best"])

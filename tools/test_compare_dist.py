@@ -48,11 +48,12 @@ class TestCompareDist(InRepository):
         """Stands for the line of `rt version`."""
         return self.kit
 
-    def compare(self, program: str = "", wasm: str = "") -> tuple[str, list[str]]:
+    def compare(self, program: str = "", wasm: str = "", static: str = "") -> tuple[str, list[str]]:
         """Returns what is said, and what is wrong."""
         said = io.StringIO()
         with contextlib.redirect_stdout(said):
-            wrong = compare_dist.compare(self.top, program or None, wasm or None)
+            given = (program or None, wasm or None, static or None)
+            wrong = compare_dist.compare(self.top, *given)
         return said.getvalue(), wrong
 
     def test_the_same_bytes_pass(self) -> None:
@@ -78,6 +79,15 @@ class TestCompareDist(InRepository):
         write(f"{self.room}/wasm", "wasm ")
         _, wrong = self.compare(self.built, f"{self.room}/wasm")
         self.assertIn("differ first at byte 5", wrong[0])
+
+    def test_a_static_program(self) -> None:
+        said, wrong = self.compare(static=self.built)
+        self.assertEqual(wrong, [])
+        self.assertIn(f"dist/ has no {compare_dist.STATIC}", said)
+        write(f"{self.top}/dist/{compare_dist.STATIC}", "programs")
+        dist_folder.seal(self.top, f"{self.top}/dist", f"{self.room}/log")
+        _, wrong = self.compare(static=self.built)
+        self.assertIn("differ first at byte 8", wrong[0])
 
     def test_a_file_without_a_sum_and_a_missing_file_fail(self) -> None:
         write(f"{self.top}/dist/more", "")

@@ -26,7 +26,7 @@ from installed import program_there
 from tested_program import OverHelp, run_tests
 
 FILES = ("nc2020geo.pl", "north.txt", "senate.csv")
-ANSWER_SECONDS = 20.0
+ANSWER_SECONDS = 120.0
 BASH_ASKS = """
 source "$1"
 while IFS= read -r line; do

@@ -107,9 +107,9 @@ class TestMain(unittest.TestCase):
         self.assertTrue(errors.getvalue().startswith("doc_links.py: "))
 
     def test_the_pages_of_the_repository_are_found(self) -> None:
-        """Those of the top, of docs and of its folders are among them, and none of the crates."""
+        """Pages of the top, of docs and of its folders are among them, and none of the crates."""
         pages = doc_links.all_pages()
-        for page in ("README.md", "docs/tutorial.md", "docs/reference/glossary.md", "r/README.md"):
+        for page in ("README.md", "docs/tutorial.md", "docs/how-to/gis.md", "r/README.md"):
             self.assertIn(page, pages)
         self.assertEqual([page for page in pages if page.startswith("crates/")], [])
 

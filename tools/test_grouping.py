@@ -16,7 +16,8 @@ from typing import Dict, List, Set, Tuple, Union
 import example_plan
 import grouping
 from seat_numbers import Chamber, choose_seats
-from table_trial import DATA, DbfColumn, Ran, Room, WithProgram, dbf, run_tests
+from table_trial import DATA, DbfColumn, Ran, Room, WithProgram, dbf
+from tested_program import run_tests
 
 GEO = os.path.join(DATA, "nc2020geo.pl")
 SEGMENT = os.path.join(DATA, "nc000012020.pl")
@@ -26,7 +27,7 @@ CHAMBERS = {"senate2023.grouping": "50", "house2023.grouping": "120"}
 Sets = Set[Tuple[int, Tuple[str, ...]]]
 
 # Four counties side by side in a chamber of four, whose ideal population is 100. Their people are
-# those of the worked example of `docs/formats.md`, "Cases", but for the last county.
+# those of the worked example of `docs/reference/commands.md`, "Cases", but for the last county.
 PATH_GEO = """||050||00|||1||37001|||37||001{names[0]}
 ||050||00|||2||37003|||37||003{names[1]}
 ||050||00|||3||37005|||37||005{names[2]}
@@ -254,7 +255,7 @@ class Tables(Made):
 
 
 class Seats(Made):
-    """The choice of seats, by the rule of `docs/definitions.md`."""
+    """The choice of seats, by the rule of `docs/reference/definitions.md`."""
 
     def test_several_numbers_that_suit(self) -> None:
         """The ideal is 100. 1,920 people suit 19 and 20 seats, and 2,080 suit 20 and 21.
@@ -344,4 +345,4 @@ class Refusals(Made):
 
 
 if __name__ == "__main__":
-    run_tests()
+    run_tests(__doc__)

@@ -1,5 +1,5 @@
 #!/usr/bin/env python3
-"""Tests that the man page `docs/countygroups.1` has the words of a program's `--help`.
+"""Tests that the man page `docs/countygroups.1` has the words of a program's help.
 
 usage: python3 tools/test_manual_page.py [--program FILE]
 
@@ -26,8 +26,8 @@ COLUMNS = "2000"
 
 
 def plain(text: str) -> str:
-    """Returns `text` without its layout: no backticks, no angle brackets, one blank each."""
-    return re.sub(r"\s+", " ", re.sub(r"[`<>]", "", text)).strip()
+    """Returns `text` without backticks, asterisks and angle brackets, and with single blanks."""
+    return re.sub(r"\s+", " ", re.sub(r"[`*<>]", "", text)).strip()
 
 
 def shown_page() -> tuple[str, str]:
@@ -45,9 +45,9 @@ def shown_page() -> tuple[str, str]:
 
 def parts_of(of: Help) -> list[str]:
     """Returns the texts that the page has to have of a help text, each without layout."""
-    options = [option.about for option in of.options]
-    blocks = ["\n".join(block.lines) for block in of.blocks]
-    return [plain(text) for text in [of.about, of.usage, *options, *blocks]]
+    options = [option.text for option in of.options]
+    blocks = ["\n".join(block.lines) for block in [*of.description, *of.blocks]]
+    return [plain(text) for text in [*of.usages, *options, *blocks]]
 
 
 class TestPage(OverHelp):
@@ -66,7 +66,7 @@ class TestPage(OverHelp):
         helps = [self.help.top, *(of for _, of in self.help.commands)]
         for of in helps:
             for text in parts_of(of):
-                with self.subTest(usage=of.usage, text=text):
+                with self.subTest(usage=of.usages[0], text=text):
                     self.assertIn(text, page)
 
     def test_each_command_has_its_part(self) -> None:
@@ -78,7 +78,7 @@ class TestPage(OverHelp):
             start = page.index(f" {name} {plain(of.about)}. ", end)
             for option in of.options:
                 if option not in common:
-                    text = plain(f"--{option.long} {option.value} {option.about}")
+                    text = plain(f"--{option.long} {option.value or ''} {option.text}")
                     end = page.index(f" {text} ", start)
                     start = end
 

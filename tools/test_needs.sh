@@ -8,6 +8,8 @@ usage: tools/test_needs.sh [--install]
 
 Names what the tests use and what isn't there, one line each, with the package of Debian that has
 it. The last line is the command that installs all of it. If nothing is missing, it prints nothing.
+pytest and xdist are named, too, but nothing is missing without them: tools/run_tests.py then runs
+the same tests by unittest.
 --install: first installs what is missing, by apt-get. That takes root, a network and minutes, and
 it ends after 20 minutes at most. What can't be installed is named as without the word.
 The program `rt` isn't named. It comes with the Rattle kit, and `./test.sh --proved` asks for it.
@@ -34,6 +36,9 @@ here=$(cd "$(dirname "$0")" && pwd)
 programs="
 R r-base-core
 checkbashisms devscripts
+qpdf qpdf
+pandoc pandoc
+pdflatex texlive-latex-recommended
 chromium|chromium-browser chromium
 firefox-esr|firefox firefox-esr
 tsc node-typescript
@@ -95,6 +100,14 @@ list_missing_modules() { # NAME ..
     done
 }
 
+# Prints `PACKAGE what` for pytest and xdist, without which the same tests run.
+list_helpful() {
+    "$here/python_with.sh" pytest xdist >/dev/null || {
+        echo "python3-pytest the Python module pytest"
+        echo "python3-pytest-xdist the Python module xdist"
+    }
+}
+
 # Prints `PACKAGE what` for each thing that isn't there.
 list_missing() {
     local name package names
@@ -104,18 +117,27 @@ list_missing() {
     has_node_20 || echo "nodejs Node 20 or later (Debian 13 has it)"
     python3 -c 'import ensurepip, venv' 2>/dev/null || echo "python3-venv venv of Python"
     python3 -m pip --version >/dev/null 2>&1 || echo "python3-pip pip of Python"
+    [ -n "$(kpsewhich ptmr8t.tfm 2>/dev/null)" ] ||
+        echo "texlive-fonts-recommended the font Times of LaTeX"
+    [ -r /usr/lib/x86_64-linux-musl/libc.a ] || echo "musl-dev the C library musl"
     has_black_23 || echo "black the program black of release 23 (Debian 12 has it)"
     while read -r -a names; do
         [ "${#names[@]}" = 0 ] || list_missing_modules "${names[@]}"
     done <<<"$modules"
-    for name in sf igraph; do
+    for name in sf igraph generics; do
         has_r_package "$name" || echo "r-cran-$name the R package $name"
     done
 }
 
-# Returns whether something is missing. Leaves the lines in `missing`, and the packages in `wanted`.
+# Returns whether something isn't there. Leaves the lines in `missing`, the packages in `wanted`, and
+# in `status` 1 if a test can't run.
 is_missing() {
+    local helpful
     missing=$(list_missing)
+    helpful=$(list_helpful)
+    status=0
+    [ -z "$missing" ] || status=1
+    missing+=${missing:+${helpful:+$'\n'}}$helpful
     mapfile -t wanted < <(cut -d' ' -f1 <<<"$missing")
     [ -n "$missing" ]
 }
@@ -139,4 +161,4 @@ while read -r package what; do
     echo "not there: $what, in Debian's package $package"
 done <<<"$missing"
 echo "to get it: apt-get install --no-install-recommends ${wanted[*]}"
-exit 1
+exit "$status"

@@ -7,7 +7,7 @@ usage: python3 tools/test_packages.py [--packages FOLDER]
                    made once more, since the same files have to give the same bytes
 
 A kind of which the tool isn't installed is passed over, and a line says so. The published figures
-are those of Cooper, Esselstyn, Herschlag, Mattingly and Tippett (docs/guide.md).
+are those of Cooper, Esselstyn, Herschlag, Mattingly and Tippett (docs/explanation/borders.md).
 """
 from __future__ import annotations
 
@@ -16,18 +16,26 @@ import re
 import shutil
 import subprocess
 import sys
+import tarfile
 import tempfile
 import unittest
 import zipfile
 from pathlib import Path
 
+import r_check
 import versions
 from class_room import InRoom
 from installed import NotThere, pass_over, program_there
+from refusal import Refused
 
 TOP = Path(__file__).resolve().parent.parent
 DATA = TOP / "data" / "nc2020"
 NATIVE = TOP / "dist" / "countygroups-x86_64-linux"
+# The same object linked with musl, which the packages for Python and R have if it is there.
+STATIC = Path(f"{NATIVE}-static")
+INSIDE = STATIC if STATIC.is_file() else NATIVE
+# What has the calls of the Python module wasmtime, by Node.
+WASMTIME = TOP / "python" / "tests" / "wasm_stand_in"
 VERSION = versions.versions(TOP)[versions.FIRST]
 # What no package may take from this machine.
 LEFT_OUT = ("COUNTYGROUPS", "PYTHONPATH", "R_LIBS", "PYTHONHOME", "VIRTUAL_ENV")
@@ -50,9 +58,11 @@ cat(version, check_certificate(answer)$outcome, best$number, nrow(best$shared), 
 cat(tail(find_program(), 1), "\\n")
 """
 FIGURES = f"{VERSION} best 16 17"
-# What `R CMD check` says of any new submission, and what it can't check without pandoc.
-SUBMISSION = "checking CRAN incoming feasibility"
-WITHOUT_PANDOC = re.compile("README.md.* cannot be checked without .*pandoc")
+# What `R CMD check --as-cran` runs, and the package of Debian that has it.
+R_CHECKS = {"checkbashisms": "devscripts", "qpdf": "qpdf", "pandoc": "pandoc"}
+LATEX = "LaTeX as texlive-latex-recommended and texlive-fonts-recommended"
+# A block of Python in a document, with what it prints.
+BLOCK = re.compile(r"^```python\n(.*?)^```\n(?:\n```text\n(.*?)^```\n)?", re.M | re.S)
 QUIETLY = ("--quiet", "--no-index")
 GIVEN: dict[str, Path] = {}
 
@@ -62,10 +72,16 @@ def environment() -> dict[str, str]:
     return {key: value for key, value in os.environ.items() if key not in LEFT_OUT}
 
 
-def ran(*words: "str | Path", folder: "Path | None" = None) -> str:
-    """Runs a command and returns its standard output. Raises `AssertionError` if it fails."""
+def ran(
+    *words: "str | Path", folder: "Path | None" = None, more: "dict[str, str] | None" = None
+) -> str:
+    """Runs a command and returns its standard output. `more` changes the environment.
+
+    Raises `AssertionError` if it fails.
+    """
+    env = {**environment(), **(more or {})}
     done = subprocess.run(
-        [str(word) for word in words], cwd=folder, env=environment(), capture_output=True, text=True
+        [str(word) for word in words], cwd=folder, env=env, capture_output=True, text=True
     )
     if done.returncode:
         raise AssertionError(f"{words} ended with {done.returncode}:\n{done.stdout}{done.stderr}")
@@ -144,7 +160,7 @@ class PythonPackages(Packages):
         figures, program = ran(programs / "python", "-c", PYTHON, folder=self.room).splitlines()
         self.assertEqual(figures, FIGURES)
         self.assertTrue(program.startswith(str(self.room)), program)
-        self.assertEqual(Path(program).read_bytes(), NATIVE.read_bytes())
+        self.assertEqual(Path(program).read_bytes(), INSIDE.read_bytes())
 
     def test_by_node(self) -> None:
         program_there("node")
@@ -154,11 +170,49 @@ class PythonPackages(Packages):
         self.assertEqual(figures, FIGURES)
         self.assertTrue(program.endswith("countygroups/bin/countygroups.mjs"), program)
 
+    def test_by_wasmtime(self) -> None:
+        """Without Node the module wasmtime runs it: here what stands in for that, by a Node."""
+        node = program_there("node")
+        programs = self.installed(self.found("*-none-any.whl"))
+        tools = Path(tempfile.mkdtemp(dir=self.room))
+        for name in ("cat", "rm"):
+            (tools / name).symlink_to(str(shutil.which(name)))
+        more = {"PATH": str(tools), "STAND_IN_NODE": node, "PYTHONPATH": str(WASMTIME)}
+        figures, program = ran(
+            programs / "python", "-c", PYTHON, folder=self.room, more=more
+        ).splitlines()
+        self.assertEqual(figures, FIGURES)
+        self.assertTrue(program.endswith("countygroups/bin/countygroups.wasm"), program)
+        told = ran(programs / "countygroups", "--version", more=more)
+        self.assertTrue(told.startswith("countygroups "))
+
     def test_from_a_clone(self) -> None:
         """`pip install ./python` brings the program along, without a network or a build tool."""
         programs = self.installed(TOP / "python")
         program = ran(programs / "python", "-c", PYTHON, folder=self.room).splitlines()[1]
         self.assertTrue(program.startswith(str(self.room)), program)
+
+    def test_readme(self) -> None:
+        """The examples of README.md print what it has, by the wheel and from another folder."""
+        words = [str(TOP / "tools" / "python_with.sh"), "geopandas", "matplotlib", "networkx"]
+        python = subprocess.run(words, capture_output=True, text=True).stdout.strip()
+        if not python:
+            what = "geopandas, matplotlib and networkx aren't there: Debian has them as python3-*"
+            pass_over(what)
+            raise NotThere(what)
+        room = Path(tempfile.mkdtemp(dir=self.room))
+        ran(python, "-m", "venv", "--system-site-packages", room / "env")
+        programs = room / "env" / "bin"
+        ran(programs / "pip", "install", *QUIETLY, self.found("*manylinux*.whl"))
+        (room / "data").symlink_to(TOP / "data")
+        blocks = BLOCK.findall((TOP / "python" / "README.md").read_text(encoding="utf-8"))
+        self.assertGreaterEqual(len(blocks), 6)
+        source = "".join(block for block, _ in blocks)
+        path = room / "readme.py"
+        path.write_text(f"{source}print(countygroups.__file__)\n", encoding="utf-8")
+        *lines, file = ran(programs / "python", path, folder=room).splitlines()
+        self.assertEqual(lines, "".join(printed for _, printed in blocks).splitlines())
+        self.assertTrue(file.startswith(str(room)), file)
 
     def test_source_archive(self) -> None:
         """A wheel that is made of the archive of sources is that of the repository."""
@@ -181,11 +235,18 @@ class PythonPackages(Packages):
             self.assertNotRegex(fields, r"\]\((?!https?:)")
 
     def test_name_has_the_library_that_is_needed(self) -> None:
-        """The oldest C library of GNU with which the program starts is that of the wheel's name."""
+        """The oldest C library of GNU with which the program starts is that of the wheel's name.
+
+        The program that is linked with musl needs none.
+        """
         need("objdump", "binutils")
+        name = self.found("*manylinux*.whl").name
+        if STATIC.is_file():
+            self.assertIn("-manylinux_2_17_x86_64.musllinux_1_1_x86_64.whl", name)
+            return
         found = re.findall(r"GLIBC_2\.([0-9]+)", ran("objdump", "-T", NATIVE))
         least = max(int(number) for number in found)
-        self.assertIn(f"manylinux_2_{least}_x86_64", self.found("*manylinux*.whl").name)
+        self.assertIn(f"manylinux_2_{least}_x86_64", name)
 
     def test_same_bytes(self) -> None:
         self.compare_with_another_run(["*manylinux*.whl", "*-none-any.whl"])
@@ -204,7 +265,7 @@ class RPackage(Packages):
         code = f'.libPaths(c("{library}", .libPaths()))\n{R}'
         figures, program = ran("Rscript", "-e", code, folder=self.room).splitlines()
         self.assertEqual(figures.strip(), FIGURES)
-        self.assertEqual(Path(program.strip()).read_bytes(), NATIVE.read_bytes())
+        self.assertEqual(Path(program.strip()).read_bytes(), INSIDE.read_bytes())
         self.assertTrue(program.startswith(str(library)), program)
 
     def test_archive(self) -> None:
@@ -216,30 +277,79 @@ class RPackage(Packages):
     def test_same_bytes(self) -> None:
         self.compare_with_another_run(["countygroups_*.tar.gz"])
 
-    def test_check(self) -> None:
-        """`R CMD check --as-cran` has no error and no warning, and no note but for a submission.
+    def test_vignette(self) -> None:
+        """It is HTML if R has what builds it, and else a plain text. The programs stay packed."""
+        there = 'cat(all(sapply(c("knitr", "markdown"), requireNamespace, quietly = TRUE)))'
+        kind = "html" if ran("Rscript", "-e", there).endswith("TRUE") else "txt"
+        with tarfile.open(self.found("countygroups_*.tar.gz")) as archive:
+            names = archive.getnames()
+            member = archive.extractfile(f"countygroups/inst/doc/countygroups.{kind}")
+            text = member.read().decode() if member else ""
+        self.assertIn("16 best groupings", text)
+        self.assertNotIn("senate.png", text)
+        programs = [Path(name) for name in names if "/inst/bin/" in name]
+        self.assertEqual({path.suffix for path in programs}, {".gz"})
 
-        It runs without what asks the network, and without packages that aren't installed. Without
-        pandoc it says that it can't check README.md.
-        """
-        need("checkbashisms", "devscripts")
-        words = ["R", "CMD", "check", "--as-cran", "--no-manual"]
-        env = {
-            **environment(),
-            "_R_CHECK_CRAN_INCOMING_REMOTE_": "false",
-            "_R_CHECK_SYSTEM_CLOCK_": "false",
-            "_R_CHECK_FORCE_SUGGESTS_": "false",
-            # (a machine that is busy isn't the package's fault)
-            "_R_CHECK_EXAMPLE_TIMING_THRESHOLD_": "600",
-        }
-        archive = self.found("countygroups_*.tar.gz")
-        done = subprocess.run(
-            [*words, str(archive)], cwd=self.room, env=env, capture_output=True, text=True
-        )
-        said = re.findall(r"^\* (.*) \.\.\. .*(?:NOTE|WARNING|ERROR)\n(.*)$", done.stdout, re.M)
-        bad = [one for one in said if one[0] != SUBMISSION and not WITHOUT_PANDOC.search(one[1])]
-        self.assertEqual(bad, [], done.stdout)
-        self.assertIn("checking tests", done.stdout)
+    def test_check(self) -> None:
+        """`R CMD check --as-cran` notes nothing but a new submission, and runs the tests inside."""
+        for name, package in R_CHECKS.items():
+            need(name, package)
+        if not r_check.has_latex():
+            pass_over(f"the PDF of the manual of R's package: Debian has {LATEX}")
+        log = r_check.log_of(self.found("countygroups_*.tar.gz"))
+        wrong = [one for one in r_check.noted_in(log) if not r_check.is_passed_over(one)]
+        self.assertEqual(wrong, [])
+        for name in ("the path of four counties", "the Senate of 2020", "the House of 2020"):
+            self.assertIn(f"ok: {name} \n", log)
+
+
+class CheckOfR(unittest.TestCase):
+    """Tests what `tools/r_check.py` reads of a log."""
+
+    log = """\
+* checking CRAN incoming feasibility ... NOTE
+Maintainer: 'The countygroups authors <a@b.c>'
+
+New submission
+* checking for future file timestamps ... NOTE
+unable to verify current time
+* checking line endings in shell scripts ... OK
+{}* checking tests ... OK
+  Running 'plain.R'
+* DONE
+Status: {}
+"""
+
+    def wrong(self, lines: str, status: str) -> list[tuple[str, ...]]:
+        """Returns what isn't passed over in a log with more lines."""
+        found = r_check.noted_in(self.log.format(lines, status))
+        return [tuple(one) for one in found if not r_check.is_passed_over(one)]
+
+    def test_passed_over(self) -> None:
+        self.assertEqual(self.wrong("", "2 NOTEs"), [])
+
+    def test_found(self) -> None:
+        for kind in ("NOTE", "WARNING", "ERROR"):
+            status = "3 NOTEs" if kind == "NOTE" else f"1 {kind}, 2 NOTEs"
+            lines = f"* checking Rd files ... {kind}\nwhy\n"
+            self.assertEqual(
+                self.wrong(lines, status), [("checking Rd files", kind, "why\n")], kind
+            )
+        step = "checking line endings in shell scripts"
+        lines = " WARNING\n'qpdf' is needed\n"
+        found = self.wrong(lines, "1 WARNING, 2 NOTEs")
+        self.assertEqual(found, [(step, "WARNING", "'qpdf' is needed\n")])
+
+    def test_more_than_a_new_submission(self) -> None:
+        log = self.log.replace("New submission\n", "New submission\n\nUnknown field\n")
+        found = r_check.noted_in(log.format("", "2 NOTEs"))
+        self.assertEqual([r_check.is_passed_over(one) for one in found], [False, True])
+
+    def test_lines_that_are_not_counted(self) -> None:
+        with self.assertRaises(Refused):
+            self.wrong("", "1 ERROR, 2 NOTEs")
+        with self.assertRaises(Refused):
+            r_check.noted_in("* checking tests ...\n")
 
 
 class NpmPackage(Packages):
@@ -310,6 +420,35 @@ class DebianPackage(Packages):
 
     def test_same_bytes(self) -> None:
         self.compare_with_another_run(["countygroups_*_amd64.deb"])
+
+
+class StaticProgram(InRoom):
+    """Tests the program that is linked with musl: that of COUNTYGROUPS_STATIC, or of dist/."""
+
+    program = Path(os.environ.get("COUNTYGROUPS_STATIC", STATIC))
+
+    def setUp(self) -> None:
+        if not self.program.is_file():
+            self.skipTest(f"there is no {self.program.name}")
+
+    def test_needs_no_library(self) -> None:
+        need("objdump", "binutils")
+        self.assertNotIn("GLIBC", ran("objdump", "-T", self.program))
+        self.assertNotRegex(ran("objdump", "-p", self.program), "NEEDED|INTERP")
+
+    def test_runs_alone(self) -> None:
+        """It solves the Senate in a root that has nothing but the program and the files."""
+        if os.geteuid() != 0:
+            self.skipTest("only root can change the root")
+        root = Path(tempfile.mkdtemp(dir=self.room))
+        names = ("nc2020geo.pl", "nc000012020.pl", "county_borders.txt")
+        for path in (self.program, *(DATA / name for name in names)):
+            shutil.copy(path, root)
+        words = ["solve", "--geo", names[0], "--segment", names[1], "--adjacency", names[2]]
+        words += ["--chamber", "50", "--certificate", "certificate"]
+        printed = ran("chroot", root, f"/{self.program.name}", *words)
+        self.assertIn("\nanswer best\ncounts 2 9 9 1 0 0 2 1 0 1 0 0 0 0 0 0 1\n", printed)
+        self.assertTrue((root / "certificate").is_file())
 
 
 class Versions(unittest.TestCase):

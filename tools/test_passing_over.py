@@ -46,8 +46,26 @@ class PassingOver(unittest.TestCase):
         self.assertLessEqual(set(installed.PACKAGES.values()), named)
         self.assertLessEqual({"r-cran-sf", "mypy", "black"}, named)
 
+    def test_pytest_is_named_where_no_python_has_it(self) -> None:
+        """Of /usr/bin/python3 that depends on the machine, so the modules' names are changed."""
+        tools = self.room / "tools"
+        tools.mkdir()
+        text = (TOP / "tools" / "test_needs.sh").read_text(encoding="utf-8")
+        self.assertEqual(text.count("pytest xdist >/dev/null"), 1)
+        text = text.replace("pytest xdist >/dev/null", "no_such_module >/dev/null")
+        (tools / "test_needs.sh").write_text(text, encoding="utf-8")
+        shutil.copy(TOP / "tools" / "python_with.sh", tools)
+        ran = subprocess.run(["bash", str(tools / "test_needs.sh")], capture_output=True, text=True)
+        *lines, last = ran.stdout.splitlines()
+        self.assertLessEqual({"python3-pytest", "python3-pytest-xdist"}, set(last.split()))
+        pytest = [line for line in lines if "module pytest" in line or "module xdist" in line]
+        self.assertEqual(len(pytest), 2, lines)
+        self.assertEqual(ran.returncode, 0 if len(lines) == 2 else 1)
+
     def test_all_tests_are_required_before_any_is_run(self) -> None:
-        ran = self.run_with_little("./test.sh", "--require-all")
+        # (without a program it would end there, and never come to this test again)
+        none = str(self.room / "none")
+        ran = self.run_with_little("./test.sh", "--require-all", "--program", none)
         self.assertEqual((ran.returncode, ran.stdout), (1, ""))
         self.assertIn("not there: the program fish, in Debian's package fish\n", ran.stderr)
 

@@ -90,6 +90,23 @@ class TestLengths(unittest.TestCase):
         self.assertEqual(found_in(f"| {'a' * 121} |\n|---|\n\n```\n{'a' * 121}\n```\n"), [])
 
 
+class TestWholes(unittest.TestCase):
+    """All pages together."""
+
+    def test_more_words_than_allowed_are_one_finding(self) -> None:
+        """The greatest allowed number is fine."""
+        most = "word " * prose.MOST_WORDS_IN_ALL
+        self.assertEqual(prose.too_many_words([most]), [])
+        (wrong,) = prose.too_many_words([most, "word"])
+        self.assertIn("22001 words in all", str(wrong))
+
+    def test_the_pages_of_all_folders_of_docs_are_taken(self) -> None:
+        """So are both pages of the top."""
+        pages = prose.default_pages()
+        for page in ("README.md", "CONTRIBUTING.md", "docs/faq.md", "docs/how-to/gis.md"):
+            self.assertIn(page, pages)
+
+
 class TestRules(unittest.TestCase):
     """The file of words."""
 
@@ -104,11 +121,11 @@ class TestRules(unittest.TestCase):
             prose.read_rules("word a( -> b\n")
 
     def test_the_files_of_the_repository_can_be_used(self) -> None:
-        """Each page of `PAGES` is there, and so is the file of words."""
+        """No page is wrong, and the file of words is there."""
         with contextlib.redirect_stdout(io.StringIO()) as printed:
             with contextlib.redirect_stderr(io.StringIO()) as errors:
                 status = prose.main([])
-        self.assertIn(f"the prose of {len(prose.PAGES)} pages", printed.getvalue())
+        self.assertIn(f"the prose of {len(prose.default_pages())} pages", printed.getvalue())
         self.assertEqual((status, errors.getvalue()), (0, ""))
 
     def test_a_page_or_a_file_that_is_not_there_is_status_2(self) -> None:

@@ -76,6 +76,10 @@ WASM = """#!/usr/bin/env bash
 sed 's/^/wasm of /' "$1" >"$2"
 cp "$2" "$3"
 """
+STATIC = """#!/usr/bin/env bash
+sed 's/^/musl with /' "$1" >"$2"
+chmod +x "$2"
+"""
 LAUNCHER = """import sys
 for name in ("countygroups.mjs", "countygroups.cmd"):
     open(f"{sys.argv[1]}/{name}", "w").close()
@@ -111,6 +115,9 @@ class TestRelease(InRepository):
         for name in NEEDED:
             shutil.copy(f"{TOOLS}/{name}", self.folder("tools"))
         write(f"{self.top}/tools/wasm.sh", WASM, True)
+        write(f"{self.top}/tools/static_program.sh", STATIC, True)
+        for name in ("cases/cases.py", "tools/test_packages.py"):
+            write(f"{self.top}/{name}", "")
         write(f"{self.top}/tools/launcher.py", LAUNCHER)
         write(f"{self.top}/tools/make_page.py", PAGE)
         write(f"{self.top}/tools/test_page_in_browser.py", PAGE_TEST)
@@ -139,16 +146,19 @@ class TestRelease(InRepository):
     def prove(self, *words: str) -> subprocess.CompletedProcess[str]:
         """Proves into the folder `proved` beside the repository."""
         places = (f"{self.room}/proved", f"{self.room}/log")
-        return self.run_words("tools/prove.sh", *places, "--module", f"{self.room}/m.bc", *words)
+        kept = ("--module", f"{self.room}/m.bc", "--object", f"{self.room}/m.o")
+        return self.run_words("tools/prove.sh", *places, *kept, *words)
 
     def release(self) -> subprocess.CompletedProcess[str]:
         """Releases what was proved into that folder."""
         places = ("--room", f"{self.room}/proved", "--log", f"{self.room}/log")
-        return self.run_words("tools/release.sh", *places, "--module", f"{self.room}/m.bc")
+        kept = ("--module", f"{self.room}/m.bc", "--object", f"{self.room}/m.o")
+        return self.run_words("tools/release.sh", *places, *kept)
 
     def test_the_module_of_the_program_is_kept(self) -> None:
         self.assertEqual(self.prove().returncode, 0)
         self.assertEqual(read(f"{self.room}/m.bc"), "module of countygroups\n")
+        self.assertEqual(read(f"{self.room}/m.o"), "# object of module of countygroups\n")
         self.assertEqual(read(f"{self.room}/log"), "rt: ok\n9 passed, 0 failed\n")
 
     def test_a_second_build_that_differs_is_refused(self) -> None:
@@ -178,6 +188,7 @@ class TestRelease(InRepository):
             "BUILD",
             "SHA256SUMS",
             "countygroups-x86_64-linux",
+            "countygroups-x86_64-linux-static",
             "countygroups.cmd",
             "countygroups.mjs",
             "countygroups.wasm",
@@ -185,6 +196,8 @@ class TestRelease(InRepository):
         self.assertEqual(sorted(os.listdir(f"{self.top}/dist")), names)
         wasm = read(f"{self.top}/dist/countygroups.wasm")
         self.assertEqual(wasm, "wasm of module of countygroups\n")
+        static = read(f"{self.top}/dist/countygroups-x86_64-linux-static")
+        self.assertEqual(static, "musl with # object of module of countygroups\n")
         tree = self.run_words("git", "rev-parse", "HEAD:crates").stdout
         wanted = f"crates {tree}kit rattle-kit-0 logic 0\nproof 9 passed, 0 failed\n"
         self.assertEqual(read(f"{self.top}/dist/BUILD"), wanted)

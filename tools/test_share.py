@@ -32,6 +32,7 @@ from concurrent.futures import ThreadPoolExecutor
 from typing import Any, Optional
 
 from help_texts import TOP
+from machine_pace import allowed
 from share import begin
 from share_worker import Prover, end_tests, prove, prove_with
 from tested_program import TESTED, run_tests
@@ -42,6 +43,8 @@ PROBLEM = ["--geo", f"{DATA}/nc2020geo.pl", "--segment", f"{DATA}/nc000012020.pl
 PROBLEM += ["--adjacency", f"{DATA}/county_borders.txt", "--chamber", "50"]
 GROUPING = f"{DATA}/senate2023.grouping"
 MOST_SECONDS, MOST_KILOBYTES = 600, 300_000
+# What two honest workers take where a minute is allowed against a false program.
+HONEST_SECONDS = 6.0
 # What stands in for Dask.
 STAND_INS = {
     "__init__": "from test_share import LocalCluster, StandIn as Client\n",
@@ -242,10 +245,10 @@ class Workers(unittest.TestCase):
             # (a proof may end before the false program is heard often enough)
             if expected in told:
                 break
-        if seconds > max(60, 10 * self.honest_seconds):
+        if seconds > allowed(60, self.honest_seconds, HONEST_SECONDS):
             # (the machine may have become busier since)
             self.honest_seconds = self.honest()
-        self.assertLess(seconds, max(60, 10 * self.honest_seconds), told)
+        self.assertLess(seconds, allowed(60, self.honest_seconds, HONEST_SECONDS), told)
         self.assertIn(expected, told)
         self.assertNotIn("worker honest", told)
         usage = resource.getrusage(resource.RUSAGE_SELF)

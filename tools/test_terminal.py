@@ -29,7 +29,7 @@ WRONG_WORDS = (
     ["check", "--chamber", "0"],
     ["size", "--geo", "g", "--segment", "s", "--chamber", "x"],
 )
-MOST_SECONDS = 20
+MOST_SECONDS = 120
 
 
 class Said(NamedTuple):

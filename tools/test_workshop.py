@@ -8,6 +8,7 @@ import subprocess
 import unittest
 from pathlib import Path
 
+import run_tests
 from installed import pass_over
 
 TOP = Path(__file__).resolve().parent.parent
@@ -53,6 +54,19 @@ class Workshop(unittest.TestCase):
             if not pattern.startswith("#"):
                 found = list(TOP.glob(pattern.removesuffix("/**")))
                 self.assertTrue(found, f".gitattributes names {pattern}")
+
+    def test_each_file_of_tests_is_run(self) -> None:
+        """`test.sh` runs those that are found by their names, and has a line for each other one."""
+        found = {path.stem for path in run_tests.found_files()}
+        scripts = {path.stem for path in run_tests.found_files(with_program=False)}
+        tested = {path.stem for path in run_tests.found_files(without_program=False)}
+        self.assertEqual(scripts | tested, found)
+        self.assertFalse(scripts & tested)
+        lines = "\n".join(lines_of("test.sh"))
+        self.assertIn('tools/run_tests.py --jobs "$few" --scripts', lines)
+        self.assertIn('tools/run_tests.py --jobs "$few" --program', lines)
+        for path in sorted((TOP / "tools").glob("test_*.py")):
+            self.assertEqual(path.stem in found, f"tools/{path.name}" not in lines, path.name)
 
     def test_templates(self) -> None:
         for path in sorted((TOP / ".github").rglob("*.md")):

@@ -1,7 +1,7 @@
 """The built program that a script of tests runs, and the run of its tests.
 
-The words of such a script may name the program by `--program FILE`. Else it is that of `dist/`.
-Further words name the tests that are run.
+The words of such a script may name the program by `--program FILE`. Else it is the one that the
+variable COUNTYGROUPS names, or that of `dist/`. Further words name the tests that are run.
 """
 from __future__ import annotations
 
@@ -19,7 +19,7 @@ from script_words import ScriptWords
 class Tested:
     """The path of the program that is tested."""
 
-    program: str = PROGRAM_OF_DIST
+    program: str = os.environ.get("COUNTYGROUPS") or PROGRAM_OF_DIST
 
 
 TESTED = Tested()
@@ -38,7 +38,7 @@ class OverHelp(unittest.TestCase):
 def run_tests(told: Optional[str]) -> None:
     """Runs the tests of the script whose doc string is `told`, and ends with their status."""
     parser = ScriptWords(told)
-    parser.add_argument("--program", default=PROGRAM_OF_DIST, metavar="FILE")
+    parser.add_argument("--program", default=TESTED.program, metavar="FILE")
     asked, tests = parser.parse_known_args()
     TESTED.program = os.path.abspath(asked.program)
     unittest.main(argv=[sys.argv[0], *tests], verbosity=0)

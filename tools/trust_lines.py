@@ -1,13 +1,14 @@
-"""Compares docs/trust.md with the definitions that it names.
+"""Compares docs/reference/theorem.md with the definitions that it names.
 
 usage: python3 tools/trust_lines.py
 
-A row of a table names a file of definitions, some definitions in it, and how many lines these have:
-each from its comment to the next blank line. A last row says how many lines the table has in all.
-This script compares the numbers. It also tells each definition that a named one uses, if the page
-doesn't name it up to there, and no line `Below: ..` announces it. It leaves out types that the code
-declares, and the standard library. A table may use its own names. What is announced has to have a
-row. Statuses: 0 all agree, 1 something differs, or no file is named.
+A row of a table names a file of definitions, some definitions in it (`all`, or `all but` some), and
+how many lines these have: each from its comment to the next blank line. A last row says how many
+lines the table has in all. This script compares the numbers. It also tells each definition that a
+named one uses, if the page doesn't name it up to there, and no line `Below: ..` announces it. It
+leaves out types that the code declares, and the standard library. A table may use its own names.
+What is announced has to have a row. Statuses: 0 all agree, 1 something differs, or no file is
+named.
 """
 from __future__ import annotations
 
@@ -112,7 +113,7 @@ def faults_of(row: Row, listed: Set[str]) -> Iterator[str]:
     counted: List[List[str]] = []
     for name in row.names:
         if name not in known.blocks:
-            yield f"docs/trust.md names {name} of {row.path}, which isn't there"
+            yield f"docs/reference/theorem.md names {name} of {row.path}, which isn't there"
             continue
         lines = known.blocks[name]
         if not any(lines is other for other in counted):
@@ -121,7 +122,7 @@ def faults_of(row: Row, listed: Set[str]) -> Iterator[str]:
             yield f"{name} of {row.path} uses {used}, which isn't named up to there"
     count = sum(len(lines) for lines in counted)
     if count != row.said:
-        yield f"{row.path}: these have {count} lines, and docs/trust.md says {row.said}"
+        yield f"{row.path}: these have {count} lines, and docs/reference/theorem.md says {row.said}"
 
 
 def names_told(text: str) -> List[str]:
@@ -129,12 +130,23 @@ def names_told(text: str) -> List[str]:
     return re.findall(r"`([^`]+)`", text)
 
 
+def row_names(path: str, cell: str) -> List[str]:
+    """Returns the definitions that a row names in its second `cell`.
+
+    The cell is a list of names, the word `all`, or `all but` and a list of names.
+    """
+    names = names_told(cell)
+    if not cell.strip().startswith("all") or not os.path.isfile(os.path.join(TOP, path)):
+        return names
+    return [name for name in definitions_of(path).blocks if name not in ("use", *names)]
+
+
 def all_row_names(lines: Iterable[str]) -> Iterator[str]:
     """Yields the names of all rows among these lines."""
     for line in lines:
         found = ROW.match(line)
         if found is not None:
-            yield from names_told(found.group(2))
+            yield from row_names(found.group(1), found.group(2))
 
 
 def section_of(lines: List[str]) -> List[str]:
@@ -152,25 +164,27 @@ def faults_of_page(lines: List[str]) -> Iterator[str]:
         if later is not None:
             below.update(names_told(later.group(1)))
         if found is not None:
-            row = Row(found.group(1), names_told(found.group(2)), int(found.group(3)))
+            path, cell, said = found.groups()
+            row = Row(path, row_names(path, cell), int(said))
             total += row.said
             yield from faults_of(row, named | below)
         if last is not None and int(last.group(1)) != total:
-            yield f"a table has {total} lines in all, and docs/trust.md says {last.group(1)}"
+            other = f"docs/reference/theorem.md says {last.group(1)}"
+            yield f"a table has {total} lines in all, and {other}"
         if line.startswith("#"):
             total = 0
             named.update(all_row_names(section_of(lines[place + 1 :])))
         named.update(names_told(line))
         for path in FILE.findall(line):
             if not os.path.isfile(os.path.join(TOP, path)):
-                yield f"docs/trust.md names {path}, which isn't there"
+                yield f"docs/reference/theorem.md names {path}, which isn't there"
     for name in sorted(below - set(all_row_names(lines))):
         yield f"{name} is announced, and no row has it"
 
 
 def main() -> int:
     """Prints what is wrong and how many rows were compared, and returns the status."""
-    with open(os.path.join(TOP, "docs", "trust.md"), encoding="utf-8") as page:
+    with open(os.path.join(TOP, "docs", "reference", "theorem.md"), encoding="utf-8") as page:
         lines = page.read().split("\n")
     rows = sum(1 for line in lines if ROW.match(line))
     wrong = 0

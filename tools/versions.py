@@ -5,7 +5,8 @@ usage: python3 tools/versions.py
 
 The version stands in `python/countygroups/version.py`. The places that have to agree are that of R
 (`r/DESCRIPTION` and the first heading of `r/NEWS.md`), `CITATION.cff`, and the newest release in
-`CHANGELOG.md`, whose heading also has the day. npm's and Debian's packages take it from here.
+`CHANGELOG.md`, whose heading also has the day, and the program's own. npm's and Debian's packages
+take it from here.
 Statuses: 0 all agree, 1 some differ, and standard error says which, 2 these are no words of it.
 """
 from __future__ import annotations
@@ -24,6 +25,7 @@ PLACES = {
     "r/NEWS.md": rf"^# countygroups {NUMBER}$",
     "CITATION.cff": rf"^version: {NUMBER}$",
     "CHANGELOG.md": rf"^## \[{NUMBER}\] - [0-9]{{4}}-[0-9]{{2}}-[0-9]{{2}}$",
+    "crates/cli_words/specs/Version.antt": rf'codes "{NUMBER} \(logic ',
 }
 
 

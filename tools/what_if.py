@@ -34,12 +34,16 @@ OPTIONS = ["geo", "segment", "adjacency", "chamber", "withdrawn", "state", "part
 
 @dataclass(frozen=True)
 class Answer:
-    """What the program says of a problem: its list, or the word that stands in its place."""
+    """What the program says of a problem: its list, or the word that stands in its place.
+
+    `grouping` says whether a given grouping is best, lawful, or not lawful, if one is judged.
+    """
 
     best: str
     shared: str
     counts: str
     groups: frozenset[str]
+    grouping: str = ""
 
     def changes(self, base: "Answer") -> str:
         """Returns what differs from `base`, or "nothing"."""
@@ -76,10 +80,14 @@ def line_of(text: str, word: str) -> str:
 
 
 class Runs:
-    """Runs of the program over one problem with different links."""
+    """Runs of the program over one problem with different links.
+
+    If the words of the command have a grouping, each run judges it, too.
+    """
 
     def __init__(self, words: argparse.Namespace) -> None:
         given = vars(words)
+        self.grouping = given.get("grouping")
         self.program = str(Path(words.program).resolve())
         self.problem = [
             part
@@ -107,11 +115,23 @@ class Runs:
             problem = [*self.problem, *(["--links", links] if self.links + link else [])]
             status, report = self.run("solve", [*problem, "--certificate", certificate])
             if status != 0:
-                return Answer("", "", line_of(report, "answer"), frozenset())
-            status, listed = self.run("list", [*problem, "--certificate", certificate])
+                grouping = self.judged(problem) if status == 1 else ""
+                return Answer("", "", line_of(report, "answer"), frozenset(), grouping)
+            proof = ["--certificate", certificate]
+            status, listed = self.run("list", [*problem, *proof])
             groups = frozenset(re.findall(r"^group .*$", listed, re.M))
             best, shared = line_of(listed, "best groupings"), line_of(listed, "shared groups")
-            return Answer(best, shared, line_of(report, "counts"), groups)
+            grouping = self.judged([*problem, *proof])
+            return Answer(best, shared, line_of(report, "counts"), groups, grouping)
+
+    def judged(self, problem: list[str]) -> str:
+        """Returns whether the grouping is best, lawful, or not lawful, or nothing if there is
+        none."""
+        if not self.grouping:
+            return ""
+        said = self.run("judge", [*problem, "--grouping", self.grouping])[1]
+        answer = line_of(said, "answer")
+        return answer if answer in ("best", "lawful") else "not lawful"
 
 
 def arguments(words: list[str]) -> argparse.Namespace:

@@ -22,14 +22,16 @@ TOPS = (PYTHON.parent, PYTHON)
 PACKAGE = "countygroups"
 LICENCES = ("LICENSE-MIT", "LICENSE-APACHE", "NOTICE")
 NATIVE = "dist/countygroups-x86_64-linux"
+# The same, linked with musl: it starts with any C library. A build of dist/ may not have it.
+STATIC = "dist/countygroups-x86_64-linux-static"
+FOR_ANY_LIBRARY = "manylinux_2_17_x86_64.musllinux_1_1_x86_64"
 BY_NODE = ("dist/countygroups.mjs", "dist/countygroups.wasm")
 DATA = ("data/nc2020/county_borders.txt", "data/nc2020/borders_source.txt")
 ENTRY_POINTS = "[console_scripts]\ncountygroups = countygroups.command:main\n"
 WHEEL = """Wheel-Version: 1.0
 Generator: countygroups
 Root-Is-Purelib: {is_pure}
-Tag: py3-none-{tag}
-"""
+{tags}"""
 # The date of all files in an archive, so that the same files give the same bytes.
 DATE = (1980, 1, 1, 0, 0, 0)
 SECONDS_OF_DATE = 315532800
@@ -62,6 +64,11 @@ def file_of(name: str) -> Path:
     raise FileNotFoundError(f"There is no {name} in the repository of this package.")
 
 
+def is_static() -> bool:
+    """Returns whether there is a program that starts with any C library."""
+    return any((top / STATIC).is_file() for top in TOPS)
+
+
 def version() -> str:
     """Returns the version of the package."""
     found = VERSION.search((PYTHON / PACKAGE / "version.py").read_text(encoding="utf-8"))
@@ -88,6 +95,8 @@ def is_native(settings: Settings) -> bool:
         return asked == "native"
     if (platform.system(), platform.machine()) != ("Linux", "x86_64"):
         return False
+    if is_static():
+        return True
     name, number = platform.libc_ver()
     parts = number.split(".")[:2]
     is_known = name == "glibc" and len(parts) == 2 and all(part.isdecimal() for part in parts)
@@ -95,7 +104,9 @@ def is_native(settings: Settings) -> bool:
 
 
 def tag_of(is_with_native: bool) -> str:
-    """Returns the platform of a wheel."""
+    """Returns the platforms of a wheel, with dots between."""
+    if is_with_native and is_static():
+        return FOR_ANY_LIBRARY
     return "manylinux_{}_{}_x86_64".format(*least_library()) if is_with_native else "any"
 
 
@@ -111,7 +122,8 @@ def metadata() -> str:
 
 def info_of(is_with_native: bool, tag: str) -> Members:
     """Returns the files of the folder that describes the package, but for RECORD."""
-    words = {"is_pure": "false" if is_with_native else "true", "tag": tag}
+    tags = "".join(f"Tag: py3-none-{one}\n" for one in tag.split("."))
+    words = {"is_pure": "false" if is_with_native else "true", "tags": tags}
     texts = {
         "METADATA": metadata(),
         "WHEEL": WHEEL.format(**words),
@@ -130,9 +142,12 @@ def package_of(is_with_native: bool) -> Members:
     for path in sorted((PYTHON / PACKAGE).glob("*")):
         if path.suffix == ".py" or path.name == "py.typed":
             members[f"{PACKAGE}/{path.name}"] = Member(path.read_bytes())
-    for name in [NATIVE] if is_with_native else BY_NODE:
+    if is_with_native:
+        content = file_of(STATIC if is_static() else NATIVE).read_bytes()
+        members[f"{PACKAGE}/bin/{Path(NATIVE).name}"] = Member(content, True)
+    for name in () if is_with_native else BY_NODE:
         path = file_of(name)
-        members[f"{PACKAGE}/bin/{path.name}"] = Member(path.read_bytes(), is_with_native)
+        members[f"{PACKAGE}/bin/{path.name}"] = Member(path.read_bytes())
     for name in DATA:
         path = file_of(name)
         members[f"{PACKAGE}/data/{path.name}"] = Member(path.read_bytes())
@@ -199,7 +214,8 @@ def build_sdist(sdist_directory: str, config_settings: Settings = None) -> str:
     name = f"{PACKAGE}-{version()}"
     paths = [path for path in sorted(PYTHON.rglob("*")) if is_source(path)]
     members = {str(path.relative_to(PYTHON)): path for path in paths}
-    members.update({one: file_of(one) for one in (*LICENCES, NATIVE, *BY_NODE, *DATA)})
+    programs = (NATIVE, *([STATIC] if is_static() else []), *BY_NODE)
+    members.update({one: file_of(one) for one in (*LICENCES, *programs, *DATA)})
     with tarfile.open(
         Path(sdist_directory) / f"{name}.tar.gz", "w:gz", format=tarfile.PAX_FORMAT
     ) as archive:
@@ -219,6 +235,7 @@ def is_source(path: Path) -> bool:
         ".typed",
         ".png",
         ".sh",
+        ".mjs",
     )
 
 

@@ -19,6 +19,7 @@ from .errors import (
     TimeLimitError,
 )
 from .groups import Group, Grouping, ListedGroup, Region
+from .people_file import read_people
 from .problem import Problem, problem_of
 from .program import Progress, find_program
 from .solving import solve
@@ -55,6 +56,7 @@ __all__ = [
     "judge",
     "problem_of",
     "read_census",
+    "read_people",
     "size",
     "solve",
 ]

@@ -71,6 +71,17 @@ class Answer:
         exact = min(1 - least / group.mean, greatest / group.mean - 1)
         return math.nextafter(float(exact), -math.inf)
 
+    def margin_of(self, group: Group) -> tuple[int, int]:
+        """Returns how many people fewer, and how many more, a group may have for its seats.
+
+        The ideal population is taken as it is. A number below 0 says how many are too many, or too
+        few.
+        """
+        low, high = (
+            self.ideal * group.seats * (1 + sign * self.problem.tolerance) for sign in (-1, 1)
+        )
+        return group.people - math.ceil(low), math.floor(high) - group.people
+
     @cached_property
     def group_of(self) -> dict[Label, Group]:
         """Returns the group of each county, by its label, also the withdrawn sets.
@@ -198,8 +209,8 @@ def answer_of(problem: Problem, stored: Stored, certificate: str | None) -> Answ
         Group(tuple(label_of[code] for code in one.codes), one.least, one.people)
         for one in report.groups
     ]
-    outcome = report.answer.split()[0]
-    return Answer(problem, outcome, report.counts, tuple(groups), certificate, stored.run.messages)
+    messages = stored.run.messages
+    return Answer(problem, report.answer, report.counts, tuple(groups), certificate, messages)
 
 
 def checked(problem: Problem, certificate: str) -> Answer:

@@ -4,7 +4,7 @@ from __future__ import annotations
 from dataclasses import dataclass
 from typing import Any, Iterable, Mapping, Sequence
 
-from . import files, tables
+from . import files, tables, texts
 from .adjacency import Adjacency
 from .answer import Answer
 from .best_groupings import UNBOUNDED
@@ -52,22 +52,9 @@ def size(
         codes_of([one.label for one in table.counties]),
         find_program(program),
     )
-    return _sizes_of(problem, problem.run("size", []).run.output)
-
-
-def _sizes_of(problem: Problem, text: str) -> Sizes:
-    """Returns what a size table says."""
-    found: dict[Label, tuple[int, int] | None] = {}
-    district = None
-    for line in text.splitlines():
-        if line.startswith("district ") and line != "district none":
-            _, least, _, most = line.split()
-            district = (int(least), int(most))
-        elif "|" in line:
-            code, _, *suited = line.split("|")
-            numbers = None if suited == ["none"] else (int(suited[0]), int(suited[1]))
-            found[problem.codes.label_of[code]] = numbers
-    return Sizes(district, found)
+    found = texts.read_sizes(problem.run("size", []).run.output)
+    label_of = problem.codes.label_of
+    return Sizes(found.district, {label_of[code]: suited for code, suited in found.seats.items()})
 
 
 @dataclass(frozen=True)
@@ -75,11 +62,14 @@ class Verdict:
     """Says what a grouping is.
 
     `outcome` is "best", "lawful" or "fault". A fault is in `fault`, and its reasons in `messages`.
+    `greater` has the counts of the answer's best grouping if they are greater than those of a
+    lawful grouping: by place, how many groups of 1, 2, .. counties it has. Else it is empty.
     """
 
     outcome: str
     fault: str
     messages: tuple[str, ...]
+    greater: tuple[int, ...] = ()
 
 
 def judge(grouping: Iterable[Any], of: Answer | Problem) -> Verdict:
@@ -97,12 +87,11 @@ def judge(grouping: Iterable[Any], of: Answer | Problem) -> Verdict:
         given[files.CERTIFICATE] = of.certificate
         words += ["--certificate", files.CERTIFICATE, "--budget", UNBOUNDED]
     run = problem.run("judge", words, given).run
-    line = next(one for one in run.output.splitlines() if one.startswith(("answer ", "fault ")))
-    kind, _, told = line.partition(" ")
-    if kind == "answer":
-        return Verdict(told, "", run.messages)
+    found = texts.read_verdict(run.output)
+    if not found.fault:
+        return Verdict(found.answer, "", run.messages, found.greater)
     legend = problem.codes.legend("\n".join(run.messages))
-    return Verdict("fault", told, (*run.messages, *legend))
+    return Verdict("fault", found.fault, (*run.messages, *legend))
 
 
 def _group_of(given: Any, problem: Problem) -> Group:
@@ -169,19 +158,18 @@ def audit(
         files.ASSIGNMENTS: files.text_of(lines),
     }
     words = ["--grouping", files.GROUPING, "--assignments", files.ASSIGNMENTS]
-    output = answer.problem.run("audit", words, given).run.output
-    return tuple(_finding_of(line, names, units) for line in output.splitlines()[1:])
+    found = texts.read_findings(answer.problem.run("audit", words, given).run.output)
+    return tuple(_finding_of(one, names, units) for one in found)
 
 
-def _finding_of(line: str, names: Sequence[Label], units: _Units) -> Finding:
-    """Returns a finding of its line, with the labels of districts and precincts."""
-    kind, _, rest = line.partition(" ")
-    first, blank, more = rest.partition(" ")
-    if kind in ("Crosses", "DistrictSize"):
+def _finding_of(found: texts.CodedFinding, names: Sequence[Label], units: _Units) -> Finding:
+    """Returns a finding with the labels of districts and precincts."""
+    first, *more = found.words
+    if found.kind in ("Crosses", "DistrictSize"):
         first = str(names[int(first) - 1])
-    if kind in ("UnknownBlock", "BlockTwice", "Unassigned"):
+    if found.kind in ("UnknownBlock", "BlockTwice", "Unassigned"):
         first = str(units.unit_of[first])
-    return Finding(kind, f"{first}{blank}{more}")
+    return Finding(found.kind, " ".join([first, *more]))
 
 
 class _Units:

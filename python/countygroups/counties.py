@@ -107,8 +107,8 @@ def rows_of(given: Any) -> list[Row]:
     if isinstance(given, Mapping) or is_series(given):
         return [_row_of_item(plain(key), value) for key, value in given.items()]
     if isinstance(given, (str, os.PathLike)):
-        told = f"{os.fspath(given)} is a path, and no counties"
-        raise InputError(f"{told}: read it by geopandas.read_file, pandas.read_csv or read_census.")
+        told = f"{os.fspath(given)} is a path, and no counties: read it by geopandas.read_file"
+        raise InputError(f"{told}, pandas.read_csv, read_census or read_people.")
     told = f"{type(given).__name__} is no table, no graph, no dict and no Series of counties"
     raise InputError(f"{told}: see `help(countygroups.solve)`.")
 

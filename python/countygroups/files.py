@@ -11,6 +11,8 @@ from .borders import Pair
 from .codes import Codes
 from .counties import County
 
+PEOPLE = "people.csv"
+# The counties with the blocks of a plan.
 GEO = "geo.pl"
 SEGMENT = "segment1.pl"
 ADJACENCY = "adjacency.txt"
@@ -78,11 +80,14 @@ def county_lines(counties: Sequence[County], codes: Codes) -> tuple[list[str], l
     return geo, [people_line(record, county.people) for record, county in numbered]
 
 
-def write_counties(folder: Path, counties: Sequence[County], codes: Codes) -> None:
-    """Writes the geographic header and segment 1."""
-    geo, segment = county_lines(counties, codes)
-    write(folder, GEO, geo)
-    write(folder, SEGMENT, segment)
+def write_people(folder: Path, counties: Sequence[County], codes: Codes) -> None:
+    """Writes the people file, as CSV with a header."""
+    text = io.StringIO()
+    table = csv.writer(text, lineterminator="\n")
+    table.writerow(["county", "people", "name"])
+    for one in counties:
+        table.writerow([codes.code_of[one.label], one.people, cleaned(one.name)])
+    write_text(folder / PEOPLE, text.getvalue())
 
 
 def write_adjacency(folder: Path, adjacency: Adjacency, codes: Codes) -> None:

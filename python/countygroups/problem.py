@@ -11,7 +11,7 @@ from fractions import Fraction
 from pathlib import Path
 from typing import Any, Hashable, Iterable, Mapping, Sequence, Union
 
-from . import files
+from . import files, texts
 from .adjacency import Adjacency, adjacency_of
 from .codes import Codes, Label, codes_of, plain
 from .counties import County, CountyTable, People, read_counties
@@ -30,8 +30,6 @@ OPTION_AND_FILE = re.compile(r"^--([a-z]+) [a-z]+\.txt:? ")
 
 # The exit statuses with which the program gives an answer, and the one of a text that is none.
 WITH_ANSWER = (0, 1, 3)
-# With which words a line of an answer begins, if it isn't the usual one.
-ANSWERS = {"size": ("people ",), "judge": ("answer ", "fault "), "audit": ("findings ",)}
 NO_CERTIFICATE = 1
 
 Tolerance = Union[Fraction, Decimal, float, str]
@@ -106,7 +104,7 @@ class Problem:
 
     def write(self, folder: Path) -> None:
         """Writes the files of the problem to `folder`, in the layouts of the program."""
-        files.write_counties(folder, self.counties, self.codes)
+        files.write_people(folder, self.counties, self.codes)
         files.write_adjacency(folder, self.adjacency, self.codes)
         if self.withdrawn:
             lines = [
@@ -116,8 +114,13 @@ class Problem:
             files.write(folder, files.WITHDRAWN, lines)
 
     def words(self, command: str = "solve") -> list[str]:
-        """Returns the words of the problem for a command. Its files lie in the working folder."""
-        words = ["--geo", files.GEO, "--segment", files.SEGMENT]
+        """Returns the words of the problem for a command. Its files lie in the working folder.
+
+        An audit reads the counties with the blocks, and other commands read the people file.
+        """
+        words = ["--people", files.PEOPLE]
+        if command == "audit":
+            words = ["--geo", files.GEO, "--segment", files.SEGMENT]
         words += ["--state", self.codes.state, "--chamber", str(self.seats)]
         return words + self._tolerance_words() + (self._border_words() if command != "size" else [])
 
@@ -155,12 +158,13 @@ class Problem:
             self.write(folder)
             for name, text in (given or {}).items():
                 files.write_text(folder / name, text)
-            done = self.program.run([command, *self.words(command), *words], folder, tell, seconds)
-            self._refuse_no_answer(command, done)
+            whole = [command, *self.words(command), *words, texts.AS_JSON]
+            done = self.program.run(whole, folder, tell, seconds)
+            self._refuse_no_answer(done)
             stored = [folder / name for name in files.STORED]
-            texts = {path.name: path.read_bytes().decode() for path in stored if path.is_file()}
+            found = {path.name: path.read_bytes().decode() for path in stored if path.is_file()}
         self._warn(done)
-        return Stored(done, texts)
+        return Stored(done, found)
 
     def _warn(self, done: Run) -> None:
         """Warns of what the program warned of, with the labels of its codes.
@@ -174,13 +178,11 @@ class Problem:
                 legend = self.codes.legend(told)
                 warn(f"{told} ({', '.join(legend)})" if legend else told)
 
-    def _refuse_no_answer(self, command: str, done: Run) -> None:
-        """Raises an error unless the text of the run has an answer of the command."""
-        words = ANSWERS.get(command, ("answer ",))
-        has_answer = any(line.startswith(words) for line in done.output.splitlines())
-        if has_answer and done.status in WITH_ANSWER:
+    def _refuse_no_answer(self, done: Run) -> None:
+        """Raises an error unless the text of the run has an answer."""
+        if done.status in WITH_ANSWER and texts.has_answer(done.output):
             return
-        line = done.output.strip()
+        line = texts.message_of(done.output)
         legend = self.codes.legend("\n".join([line, *done.messages]))
         is_no_certificate = done.status == NO_CERTIFICATE and line.startswith("no ")
         kind = CertificateError if is_no_certificate else ProgramError

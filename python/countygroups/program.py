@@ -1,10 +1,12 @@
 """Finds the program, runs it, and tells its progress."""
 from __future__ import annotations
 
+import importlib.util
 import os
 import platform
 import re
 import shutil
+import sys
 import time
 from dataclasses import dataclass
 from pathlib import Path
@@ -19,6 +21,14 @@ INSIDE = Path(__file__).resolve().parent / "bin"
 DIST = Path(__file__).resolve().parents[2] / "dist"
 NATIVE = "countygroups-x86_64-linux"
 BY_NODE = "countygroups.mjs"
+WASM = "countygroups.wasm"
+# Runs the script that `wasm_host.py` is, with the folder of wasmtime. The folder that Python is
+# started in has none of its modules.
+BY_WASMTIME = """
+import runpy, sys
+sys.path = [*filter(None, sys.path), sys.argv.pop(1)]
+runpy.run_path(sys.argv.pop(1), run_name="__main__")
+"""
 
 # What the program writes before a line of progress: to the beginning of the line, and clear it.
 CLEAR = b"\r\x1b[K"
@@ -151,7 +161,8 @@ def find_program(given: str | os.PathLike[str] | None = None) -> Program:
 
     It is the one that is given, or that of the variable `COUNTYGROUPS`, or that inside this
     package, or that of `dist/` of the repository in which this package lies, or `countygroups` on
-    the path. Node starts a name that ends in `.mjs`. Raises `ProgramNotFound` if there is none.
+    the path. What ends in `.mjs` is run by Node, or where there is no Node by the Python module
+    wasmtime. Raises `ProgramNotFound` if there is none.
     """
     found = program_without_path(given)
     on_path = shutil.which("countygroups")
@@ -181,11 +192,18 @@ def program_without_path(given: str | os.PathLike[str] | None = None) -> Program
 
 
 def _started(path: str) -> Program:
-    """Returns the program of a path."""
+    """Returns the program of a path. The WebAssembly is run by Node, or else by wasmtime."""
     if not path.endswith(".mjs"):
         return Program((path,))
     node = shutil.which("node")
-    if not node:
-        told = "needs Node 20 or later, and there is no `node` on the path"
-        raise ProgramNotFound(f"{path} {told}: nodejs.org has it.")
-    return Program((node, path))
+    if node:
+        return Program((node, path))
+    wasm = Path(path).with_name(WASM)
+    found = importlib.util.find_spec("wasmtime")
+    if found and found.origin and wasm.is_file():
+        host = Path(__file__).resolve().with_name("wasm_host.py")
+        folder = Path(found.origin).resolve().parents[1]
+        words = (sys.executable, "-c", BY_WASMTIME, str(folder), str(host), str(wasm))
+        return Program(words)
+    told = "needs Node 20 or later, or the Python module wasmtime, and neither is there"
+    raise ProgramNotFound(f"{path} {told}: nodejs.org has Node.")

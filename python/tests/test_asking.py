@@ -60,6 +60,24 @@ class Chamber(unittest.TestCase):
             sizes = countygroups.size(setting.carolina(), seats)
             self.assertEqual(sizes.district, problem.district_bounds)
 
+    def test_margins(self) -> None:
+        """A group of k seats may have 95 k to 105 k people."""
+        answer = solved_path()
+        margins = {group.counties: answer.margin_of(group) for group in answer.groups}
+        self.assertEqual(margins, {("C",): (5, 5), ("D",): (10, 10), ("A", "B"): (5, 5)})
+        self.assertEqual(answer.margin_of(countygroups.Group(("A",), 1, 50)), (-45, 55))
+        self.assertEqual(answer.margin_of(countygroups.Group(("D",), 1, 200)), (105, -95))
+
+    def test_margins_are_those_of_the_program(self) -> None:
+        """By `size` the seats of a county are those for which both margins are 0 or more."""
+        answer = countygroups.solve(setting.carolina(), setting.HOUSE, adjacency=setting.BORDERS)
+        sizes = countygroups.size(setting.carolina(), setting.HOUSE)
+        for county in answer.problem.counties:
+            groups = [countygroups.Group((county.label,), k, county.people) for k in range(1, 20)]
+            found = [one.seats for one in groups if min(answer.margin_of(one)) >= 0]
+            wanted = (found[0], found[-1]) if found else None
+            self.assertEqual(sizes.seats[county.label], wanted, county.name)
+
     def test_no_grouping(self) -> None:
         answer = countygroups.solve({"A": 94, "B": 106}, 2, adjacency=[("A", "B")], steps=0)
         if answer.outcome != "best":
@@ -122,10 +140,19 @@ class Judging(unittest.TestCase):
     def test_best_and_lawful(self) -> None:
         answer = solved_path()
         groups = [(["A", "B"], 1), (["C"], 1), (["D"], 2)]
-        self.assertEqual(countygroups.judge(groups, answer).outcome, "best")
-        self.assertEqual(countygroups.judge(groups, answer.problem).outcome, "lawful")
+        verdict = countygroups.judge(groups, answer)
+        self.assertEqual((verdict.outcome, verdict.greater), ("best", ()))
+        verdict = countygroups.judge(groups, answer.problem)
+        self.assertEqual((verdict.outcome, verdict.greater), ("lawful", ()))
+
+    def test_greater_counts(self) -> None:
+        """The best grouping of the path has two groups of one county, and one of two."""
+        answer = solved_path()
         lesser = [(["A", "B", "C"], 2), (["D"], 2)]
-        self.assertEqual(countygroups.judge(lesser, answer).outcome, "lawful")
+        verdict = countygroups.judge(lesser, answer)
+        self.assertEqual((verdict.outcome, verdict.fault, verdict.greater), ("lawful", "", (2, 1)))
+        verdict = countygroups.judge(lesser, answer.problem)
+        self.assertEqual((verdict.outcome, verdict.greater), ("lawful", ()))
 
     def test_enacted(self) -> None:
         answer = countygroups.solve(setting.carolina(), setting.SENATE, adjacency=setting.BORDERS)
@@ -134,7 +161,7 @@ class Judging(unittest.TestCase):
     def test_faults(self) -> None:
         answer = solved_path()
         verdict = countygroups.judge([(["A"], 1), (["B", "C"], 1), (["D"], 2)], answer)
-        self.assertEqual(verdict.outcome, "fault")
+        self.assertEqual((verdict.outcome, verdict.greater), ("fault", ()))
         self.assertTrue(verdict.fault.startswith("OutOfWindow"), verdict)
         with self.assertRaisesRegex(InputError, "no county is 'X'"):
             countygroups.judge([(["X"], 1)], answer)

@@ -10,7 +10,7 @@ from pathlib import Path
 from typing import Any
 from unittest import mock
 
-from countygroups import InputError, ProgramNotFound, find_program, read_census
+from countygroups import InputError, ProgramNotFound, find_program, read_census, read_people
 from countygroups.adjacency import adjacency_of
 from countygroups.codes import codes_of
 from countygroups.colours import colours_of
@@ -72,6 +72,63 @@ class Counties(unittest.TestCase):
             read_census(setting.DATA / "nc2020geo.pl", setting.BORDERS)
         with self.assertRaisesRegex(InputError, "can't be read"):
             read_census("no such file", setting.BORDERS)
+
+
+class PeopleFiles(unittest.TestCase):
+    """Tests the layouts of a people file, and its faults."""
+
+    def read(self, text: bytes) -> dict[str, dict[str, Any]]:
+        """Returns what a file with these bytes gives."""
+        with tempfile.TemporaryDirectory() as room:
+            path = Path(room, "p.csv")
+            path.write_bytes(text)
+            return read_people(path)
+
+    def test_layouts(self) -> None:
+        wanted = {
+            "37001": {"people": 171_415, "NAME": "Alamance County"},
+            "37183": {"people": 1_129_410, "NAME": 'The "W", 1'},
+        }
+        text = b'37001,171415,Alamance County\n37183,01129410,"The ""W"", 1"\n'
+        pipes = b'37001|171415|Alamance County\n37183|1129410|"The ""W"", 1"'
+        for held in (text, b"\xef\xbb\xbfcounty,people,name\r\n" + text, pipes):
+            self.assertEqual(self.read(held), wanted)
+        self.assertEqual(self.read(b"a|b\n" + pipes), wanted)
+        self.assertEqual(self.read(b"\n\r\na|\xff\n\n" + pipes + b"\n\n"), wanted)
+        greatest = self.read(b"37001,0004294967295\n45001,0\n")
+        people = {"37001": 4_294_967_295, "45001": 0}
+        self.assertEqual({code: one["people"] for code, one in greatest.items()}, people)
+        bare = {"37001": {"people": 5, "NAME": "37001"}}
+        self.assertEqual(self.read(b"37001,5"), bare)
+        self.assertEqual(self.read(b"37001,5,\n"), bare)
+        self.assertEqual(read_counties(wanted).counties[0].people, 171_415)
+
+    def test_refused(self) -> None:
+        form = "Line 2 of .* hasn't a county's code, its people and at most a name"
+        for line, told in {
+            b"37003": form,
+            b"37003,5,a,b": form,
+            b'37003,"5': form,
+            b'37003,"5"5': form,
+            b'37003,5,a"b': form,
+            b"3703,5": "Line 2 of .* has '3703', and a county's code has five digits",
+            b"37003,1.5": "Line 2 of .* has the people '1.5', which is no whole number up to",
+            b"37003,4294967296": "no whole number up to 4,294,967,295",
+            b"37003," + b"9" * 5000: "no whole number up to 4,294,967,295",
+            b"37003,5,\xff": "Line 2 of .* has a name that isn't UTF-8",
+            b"37003,5,\xed\xa0\x80": "Line 2 of .* has a name that isn't UTF-8",
+            b"\n37003": form.replace("2", "3"),
+            b"37001,5": "Line 2 of .* has county 37001, which stands before",
+        }.items():
+            with self.subTest(line=line), self.assertRaisesRegex(InputError, told):
+                self.read(b"37001,5\n" + line + b"\n")
+        with self.assertRaisesRegex(InputError, "Line 1 of .* hasn't a county's code"):
+            self.read(b'"county,people\n')
+        for text in (b"", b"county,people\n", b"\n\r\n"):
+            with self.assertRaisesRegex(InputError, "No line of .* is that of a county"):
+                self.read(text)
+        with self.assertRaisesRegex(InputError, "can't be read"):
+            read_people("no such file")
 
 
 class Labels(unittest.TestCase):
@@ -168,7 +225,9 @@ class Problems(unittest.TestCase):
         with tempfile.TemporaryDirectory() as room:
             problem.write(Path(room))
             found = {path.name: path.read_text().splitlines() for path in Path(room).iterdir()}
-        self.assertEqual(found["segment1.pl"][3], "||||0000004|200")
+        self.assertEqual(found["people.csv"][::4], ["county,people,name", "99004,200,D"])
+        self.assertIn("--people people.csv --state 99", " ".join(problem.words()))
+        self.assertIn("--segment segment1.pl --state 99", " ".join(problem.words("audit")))
         self.assertEqual(found["adjacency.txt"][0], "|99001||99002")
         self.assertEqual(found["links.txt"], ["-|99001|99002"])
         self.assertEqual(found["withdrawn.txt"], ["2|99004", "1|99001|99002"])

@@ -119,6 +119,9 @@ class Shapes(unittest.TestCase):
             with self.assertRaisesRegex(InputError, "Row 2 of the table has no polygon"):
                 contacts_of(geopandas.GeoSeries([square(0, 0), wrong]))
 
+    def test_outlines_are_valid(self) -> None:
+        self.assertTrue(outlines().is_valid.all())
+
     def test_outlines_of_carolina(self) -> None:
         """Compares with the border list, whose pairs were found by corners in common."""
         table = read_counties(outlines())

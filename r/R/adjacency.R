@@ -138,10 +138,14 @@ pairs_of_file <- function(path, labels) {
     stop_input("An adjacency file takes GEOIDs such as 37183 as labels, ", told)
   }
   if (!file.exists(path)) stop_input("The adjacency file ", path, " can't be read.")
+  if (begins_with(path, c("{", "["))) {
+    told <- " is JSON: give a graph of igraph, or a list of neighbours, in its place."
+    stop_input(path, told)
+  }
   words <- geoid_pairs_of(path)
   if (!any(grepl("^[0-9]{5}$", words[, 1]))) {
-    told <- " has a county's GEOID as the second field, at pipes or tabs."
-    stop_input("No line of ", path, told)
+    told <- " has a county's GEOID as the second field, at pipes or tabs: "
+    stop_input("No line of ", path, told, "put these there, or give a table of pairs.")
   }
   places <- matrix(match(words, geoids), ncol = 2)
   places[!is.na(places[, 1]) & !is.na(places[, 2]), , drop = FALSE]

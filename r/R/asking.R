@@ -10,16 +10,7 @@ seat_sizes <- function(counties, seats, people = NULL, tolerance = NULL, label =
     codes = codes_of(table$label), adjacency = list(listed = none, added = none, cut = none),
     withdrawn = list(), tolerance = tolerance_of(tolerance), program = find_program(program)
   )
-  lines <- run_program(problem, "size", character())$output
-  rows <- strsplit(lines[grepl("|", lines, fixed = TRUE)], "|", fixed = TRUE)
-  number <- function(place) {
-    vapply(rows, function(row) if (length(row) < 4) NA_real_ else as.numeric(row[place]), 0)
-  }
-  data.frame(
-    label = labels_of(problem$codes, vapply(rows, function(row) row[1], "")),
-    people = as.numeric(vapply(rows, function(row) row[2], "")),
-    least_seats = number(3), most_seats = number(4)
-  )
+  read_sizes(run_program(problem, "size", character())$output, problem$codes)
 }
 
 judge_groups <- function(answer, groups) {
@@ -30,11 +21,13 @@ judge_groups <- function(answer, groups) {
     words <- c(words, certificate_words)
   }
   run <- run_program(answer$problem, "judge", words, given)
-  outcome <- behind(run$output, "answer")
-  fault <- behind(run$output, "fault")
+  found <- read_verdict(run$output)
   messages <- run$messages
-  if (nzchar(fault)) messages <- c(messages, legend_of(answer$problem$codes, messages))
-  list(outcome = if (nzchar(fault)) "fault" else outcome, fault = fault, messages = messages)
+  if (nzchar(found$fault)) messages <- c(messages, legend_of(answer$problem$codes, messages))
+  list(
+    outcome = if (nzchar(found$fault)) "fault" else found$answer, fault = found$fault,
+    messages = messages, greater = found$greater
+  )
 }
 
 audit_plan <- function(answer, plan, counties, people, number = NULL) {
@@ -52,8 +45,8 @@ audit_plan <- function(answer, plan, counties, people, number = NULL) {
     assignments.csv = assigned
   )
   words <- c("--grouping", "grouping.txt", "--assignments", "assignments.csv")
-  lines <- run_program(problem, "audit", words, given)$output[-1]
-  findings_of(lines, districts, units)
+  found <- read_findings(run_program(problem, "audit", words, given)$output)
+  findings_of(found, districts, units)
 }
 
 # Returns the code that each precinct gets, and its name, in a data frame. Stops if the vectors
@@ -92,14 +85,13 @@ block_lines <- function(record, code) {
   apply(lines, 1, paste, collapse = "|")
 }
 
-# Returns the findings of an audit's lines, with the labels of districts and precincts.
-findings_of <- function(lines, districts, units) {
-  words <- strsplit(lines, " ", fixed = TRUE)
-  kind <- vapply(words, function(one) one[1], "")
-  told <- vapply(words, function(one) {
-    if (one[1] %in% c("Crosses", "DistrictSize")) one[2] <- districts[as.integer(one[2])]
-    if (one[1] == "Unassigned") one[2] <- units$name[match(one[2], units$code)]
-    paste(one[-1], collapse = " ")
+# Returns the findings of an audit in a data frame, with the labels of districts and precincts.
+findings_of <- function(found, districts, units) {
+  told <- vapply(found, function(one) {
+    words <- one$words
+    if (one$kind %in% c("Crosses", "DistrictSize")) words[1] <- districts[as.integer(words[1])]
+    if (one$kind == "Unassigned") words[1] <- units$name[match(words[1], units$code)]
+    paste(words, collapse = " ")
   }, "")
-  data.frame(kind = kind, told = told)
+  data.frame(kind = vapply(found, function(one) one$kind, ""), told = told)
 }

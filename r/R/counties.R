@@ -22,6 +22,10 @@ read_counties <- function(counties, people = NULL, label = NULL, name = NULL) {
   if (is.numeric(counties) && !is.null(names(counties))) {
     counties <- data.frame(GEOID = names(counties), people = unname(counties))
   }
+  if (is.character(counties) && length(counties) == 1) {
+    told <- " is a path, and no counties: read it by sf::st_read, read.csv or read_census."
+    stop_input(counties, told)
+  }
   if (!is.data.frame(counties)) {
     stop_input("`counties` is no data frame, no sf object and no named vector of people.")
   }
@@ -81,7 +85,9 @@ people_of <- function(counties, people, labels) {
   numbers <- suppressWarnings(as.numeric(words))
   wrong <- which(!is.finite(numbers) | numbers < 0 | numbers != floor(numbers))
   if (length(wrong) > 0) {
-    told <- paste0(" are ", found[wrong[1]], ", which is no whole number.")
+    is_heading <- grepl("[^0-9]", words[wrong[1]]) && !grepl("[0-9]", words[wrong[1]])
+    remedy <- if (is_heading) ": if this is a second heading, leave that row out." else "."
+    told <- paste0(" are ", found[wrong[1]], ", which is no whole number", remedy)
     stop_input("The people of county ", labels[wrong[1]], told)
   }
   numbers

@@ -16,10 +16,11 @@ county_groups <- function(counties, seats, people = NULL, adjacency = NULL, adde
 
 # Returns the answer of a run whose text is a report.
 answer_of <- function(problem, run, certificate) {
+  found <- read_report(run$output, problem$codes)
   structure(list(
-    outcome = strsplit(behind(run$output, "answer"), " ", fixed = TRUE)[[1]][1],
-    counts = counts_of(run$output),
-    groups = groups_of(run$output, problem$codes),
+    outcome = found$outcome,
+    counts = found$counts,
+    groups = found$groups,
     certificate = certificate,
     adjacency = list(
       pairs = labelled_pairs(problem), source = adjacency_words(problem$adjacency)
@@ -48,6 +49,18 @@ bounds_of <- function(problem) {
   c(least = below %/% over + (below %% over > 0), greatest = above %/% over)
 }
 
+group_margins <- function(answer, number = NULL) {
+  groups <- groups_at(answer, number)
+  people <- sum(answer$problem$table$people)
+  part <- answer$problem$tolerance[1]
+  whole <- answer$problem$tolerance[2]
+  over <- whole * answer$problem$seats
+  below <- people * (whole - part) * groups$seats
+  above <- people * (whole + part) * groups$seats
+  least <- below %/% over + (below %% over > 0)
+  data.frame(fewer = groups$people - least, more = above %/% over - groups$people)
+}
+
 # Returns the pairs that count, by labels.
 labelled_pairs <- function(problem) {
   pairs <- pairs_that_count(problem$adjacency)
@@ -68,7 +81,18 @@ best_groupings <- function(answer) {
   run <- run_list(answer, c("--groupings", "groupings.csv"))
   found <- read_list(run$output, answer$problem$codes)
   found$groupings <- read_groupings(run$groupings, answer$problem$table, answer$problem$codes)
-  found
+  structure(found, class = "county_groupings")
+}
+
+print.county_groupings <- function(x, ...) {
+  cat(x$number, if (x$number == 1) "best grouping\n" else "best groupings\n")
+  cat(nrow(x$shared), "groups of all of them\n")
+  for (region in x$regions) {
+    counties <- paste(region$counties, collapse = ", ")
+    told <- paste0(length(region$alternatives), " choices: ", counties)
+    cat(strwrap(told, 100, exdent = 4), sep = "\n")
+  }
+  invisible(x)
 }
 
 best_grouping <- function(answer, number) {

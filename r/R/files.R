@@ -38,11 +38,21 @@ header_of <- function(path) {
   data.frame(fields)
 }
 
+# Returns whether a file begins with one of some words.
+begins_with <- function(path, words) {
+  first <- readBin(path, "raw", 64)
+  text <- trimws(rawToChar(first[first > as.raw(0) & first < as.raw(128)]))
+  any(startsWith(text, words))
+}
+
 # Returns the fields at a sign of each line of a file in UTF-8. Stops if there is no file.
 #
 # Each byte that isn't UTF-8 becomes the sign U+FFFD: `strsplit` would lose such a line.
 fields_of <- function(path, at = "|") {
   if (!file.exists(path)) stop_input("The file ", path, " can't be read.")
+  if (begins_with(path, "PK")) {
+    stop_input(path, " is a zip archive: unpack it by utils::unzip, and name the file in it.")
+  }
   sign <- "\ufffd"
   # (as a native text it isn't translated, whatever the locale)
   Encoding(sign) <- "unknown"

@@ -63,6 +63,10 @@ as.data.frame.county_groups <- function(x, row.names = NULL, optional = FALSE, n
   frame
 }
 
+tidy.county_groups <- function(x, number = NULL, ...) {
+  as.data.frame(x, number = number)
+}
+
 as_sf.county_groups <- function(answer, number = NULL, shapes = NULL, ...) {
   given <- answer$problem$given
   if (is.null(shapes)) {

@@ -1,11 +1,17 @@
-# What the program's reports and lists say. A set of groups is a data frame with the list column
-# `counties`, which has labels.
+# What the program's texts say: the one place that reads them. A set of groups is a data frame with
+# the list column `counties`, which has labels.
 
 # The checker counts its steps. A certificate bounds them, so that this number stops nobody.
 unbounded <- "18446744073709551615"
 
 # The words by which `check` and `list` read the certificate of the working folder.
 certificate_words <- c("--certificate", "certificate.txt", "--budget", unbounded)
+
+# Returns whether the lines of a command have an answer.
+has_answer <- function(command, lines) {
+  begins <- switch(command, size = "people ", audit = "findings ", c("answer ", "fault "))
+  any(vapply(begins, function(word) any(startsWith(lines, word)), TRUE))
+}
 
 # Returns what stands behind `word` in the first line that begins with it, or "".
 behind <- function(lines, word) {
@@ -14,9 +20,10 @@ behind <- function(lines, word) {
   substring(found[1], nchar(word) + 2)
 }
 
-# Returns the numbers behind the word `counts`.
-counts_of <- function(lines) {
-  words <- behind(lines, "counts")
+# Returns the counts behind `word` in the first line that begins with it. Without such a line they
+# are empty.
+counts_of <- function(lines, word = "counts") {
+  words <- behind(lines, word)
   if (words %in% c("", "none")) return(integer())
   as.integer(strsplit(words, " ", fixed = TRUE)[[1]])
 }
@@ -58,6 +65,40 @@ field_of <- function(parts, place) {
 # Returns the labels of codes with blanks between.
 labels_in <- function(words, codes) {
   labels_of(codes, strsplit(words, " ", fixed = TRUE)[[1]])
+}
+
+# Returns what a report says: `outcome`, `counts` and `groups`.
+read_report <- function(lines, codes) {
+  list(
+    outcome = strsplit(behind(lines, "answer"), " ", fixed = TRUE)[[1]][1],
+    counts = counts_of(lines), groups = groups_of(lines, codes)
+  )
+}
+
+# Returns what a size table says: a data frame with a row for each county.
+read_sizes <- function(lines, codes) {
+  rows <- strsplit(lines[grepl("|", lines, fixed = TRUE)], "|", fixed = TRUE)
+  number <- function(place) {
+    vapply(rows, function(row) if (length(row) < 4) NA_real_ else as.numeric(row[place]), 0)
+  }
+  data.frame(
+    label = labels_of(codes, vapply(rows, function(row) row[1], "")),
+    people = as.numeric(vapply(rows, function(row) row[2], "")),
+    least_seats = number(3), most_seats = number(4)
+  )
+}
+
+# Returns what a judge says: `answer` and `fault`, of which one is empty, and `greater`.
+read_verdict <- function(lines) {
+  list(
+    answer = behind(lines, "answer"), fault = behind(lines, "fault"),
+    greater = counts_of(lines, "greater counts")
+  )
+}
+
+# Returns the findings of an audit: a list of lists of `kind` and `words`.
+read_findings <- function(lines) {
+  lapply(strsplit(lines[-1], " ", fixed = TRUE), function(one) list(kind = one[1], words = one[-1]))
 }
 
 # Returns what a list says: `number`, `shared` and `regions`.

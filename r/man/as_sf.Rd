@@ -3,6 +3,7 @@
 \alias{as_sf.county_groups}
 \alias{as.data.frame.county_groups}
 \alias{plot.county_groups}
+\alias{tidy.county_groups}
 \title{Tables and maps of an answer}
 \description{
 Gives a row for each county with its group, with or without shapes, or draws the groups.
@@ -13,6 +14,8 @@ as_sf(answer, ...)
 \method{as_sf}{county_groups}(answer, number = NULL, shapes = NULL, ...)
 
 \method{as.data.frame}{county_groups}(x, row.names = NULL, optional = FALSE, number = NULL, ...)
+
+\method{tidy}{county_groups}(x, number = NULL, ...)
 
 \method{plot}{county_groups}(x, number = NULL, shapes = NULL, main = NULL, ...)
 }
@@ -33,5 +36,5 @@ A copy of the \code{sf} object that was given, or a data frame, with these colum
 these sets), \code{SEATS} and \code{GROUP_POPULATION} of the group, and \code{COLOUR}, a number from 0
 on that differs for adjacent groups. If the \code{sf} object has a column of such a name, that column
 stays, and the new one is called \code{COUNTYGROUPS_GROUP} and so on. \code{plot} returns it
-invisibly.
+invisibly. \code{tidy} of the package \code{generics} gives the data frame, too.
 }

@@ -21,7 +21,7 @@ has the class \code{countygroups_no_grouping}}
 \item{groups}{a data frame of groups with the list column \code{counties}; the seats don't count}
 }
 \value{
-\code{best_groupings} returns a list of:
+\code{best_groupings} returns a list that is printed as a summary, of:
 \item{number}{how many best groupings there are}
 \item{shared}{the groups of all of them: a data frame with \code{least_seats}, \code{most_seats},
 \code{people} and the labels as a list, \code{counties}. The two numbers of seats are nearly always

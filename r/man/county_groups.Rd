@@ -81,7 +81,8 @@ senate <- county_groups(counties, seats = 50)
 best_groupings(senate)$number   # 16, as published
 plot(senate)
 }
-\figure{senate.png}{options: width=760 alt="North Carolina's Senate: 50 seats in 26 groups"}
+\if{html}{\figure{senate.png}{options: width=760 alt="Carolina's Senate: 50 seats in 26 groups"}}
+\if{latex}{\figure{senate.png}{options: width=12cm}}
 }
 \examples{
 people <- c(Alder = 50, Birch = 50, Cedar = 100, Dogwood = 200)

@@ -13,5 +13,7 @@ judge_groups(answer, groups)
 }
 \value{
 A list of \code{outcome}, which is \code{"best"}, \code{"lawful"} or \code{"fault"}, the
-\code{fault}, and \code{messages} with its reasons.
+\code{fault}, \code{messages} with its reasons, and \code{greater}. If the answer's best grouping has
+greater counts than a lawful grouping, \code{greater} has these counts: by place, how many groups of
+1, 2, .. counties it has. Else it is empty.
 }

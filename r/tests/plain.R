@@ -173,6 +173,130 @@ test("census files of 2010, also packed by gzip", {
   expect_equal(unlist(found[1, ]), c("37183", "Wake County", "900993"))
 })
 
+# The inputs that users hold, by the rows of the table in tools/test_inputs.py. Counties and their
+# people are Alamance and Wake of the census of 2020.
+two <- c("37001" = 171415, "37183" = 1129410)
+stored <- function(lines) {
+  path <- tempfile()
+  writeLines(lines, path)
+  path
+}
+packed <- function(text, open) {
+  path <- tempfile()
+  file <- open(path, "w")
+  writeLines(text, file)
+  close(file)
+  path
+}
+people_in <- function(frame, ...) input$read_counties(frame, ...)$people
+codes_in <- function(frame, ...) input$codes_of(input$read_counties(frame, ...)$label)$code
+borders_in <- function(path) {
+  input$adjacency_of(path, two, input$read_counties(two))$listed
+}
+geo_2020 <- vapply(names(two), function(code) {
+  line <- character(88)
+  line[c(3, 5, 8, 13, 15)] <- c("050", "00", code, "37", substr(code, 3, 5))
+  paste(line, collapse = "|")
+}, "")
+segment_2020 <- paste0("PLST|NC|000|01|", names(two), "|", two)
+
+test("inputs: PL 94-171 of 2020, unpacked", {
+  found <- read_census(stored(geo_2020), stored(segment_2020))
+  expect_equal(c(found$GEOID, found$people), c(names(two), unname(two)))
+})
+
+test("inputs: PL 94-171 of 2020, zip or gzip", {
+  found <- read_census(packed(geo_2020, gzfile), packed(segment_2020, gzfile))
+  expect_equal(found$people, unname(two))
+  zip <- tempfile()
+  writeBin(as.raw(c(0x50, 0x4b, 3, 4, 20, 0)), zip)
+  expect_refusal(read_census(zip, zip), "is a zip archive: unpack it by utils::unzip")
+})
+
+test("inputs: PL 94-171 of 2010", {
+  line <- paste0("PLST  NC", "050", "00", strrep(" ", 5), "0000007", strrep(" ", 2), "37183")
+  line <- paste0(formatC(line, width = -226), formatC("Wake County", width = -274))
+  found <- read_census(stored(line), stored("PLST,NC,000,01,0000007,900993,900993"))
+  expect_equal(unlist(found[1, ]), c("37183", "Wake County", "900993"))
+})
+
+test("inputs: JSON of the Census Bureau's API", {
+  frame <- data.frame(P1_001N = as.character(two), state = "37", county = c("001", "183"))
+  expect_equal(people_in(frame, people = "P1_001N"), unname(two))
+  expect_equal(codes_in(frame, people = "P1_001N"), names(two))
+})
+
+test("inputs: CSV of data.census.gov, two headings", {
+  codes <- c("Geography", paste0("0500000US", names(two)))
+  frame <- data.frame(GEO_ID = codes, P1_001N = c(" !!Total:", two))
+  expect_refusal(people_in(frame, people = "P1_001N"), "second heading, leave that row out")
+  expect_equal(codes_in(frame[-1, ], people = "P1_001N"), names(two))
+})
+
+test("inputs: Population Estimates", {
+  frame <- data.frame(STATE = 37, COUNTY = c(0, 1, 183), POPESTIMATE2024 = c(11046024, two))
+  read <- function(rows) codes_in(rows, people = "POPESTIMATE2024")
+  expect_refusal(read(frame), "is that of a state, not of a county: leave it out")
+  expect_equal(read(frame[-1, ]), names(two))
+})
+
+test("inputs: projections by counties' names", {
+  frame <- data.frame(County = c("Alamance", "Wake"), July = c("171,415", "1,129,410"))
+  expect_equal(people_in(frame, people = "July", label = "County"), unname(two))
+})
+
+test("inputs: CSV of codes and people", {
+  path <- stored(c("county,people,name", "37001,171415,Alamance County", "37183,1129410,Wake"))
+  frame <- utils::read.csv(path)
+  expect_equal(codes_in(frame, label = "county"), names(two))
+  expect_equal(people_in(frame), unname(two))
+})
+
+test("inputs: CSV of NHGIS", {
+  frame <- data.frame(GEOID = paste0("0500000US", names(two)), U7B001 = two)
+  expect_equal(people_in(frame, people = "U7B001"), unname(two))
+  expect_equal(codes_in(frame, people = "U7B001"), names(two))
+})
+
+test("inputs: shapefile or GeoPackage", {
+  for (path in c("counties.shp", "counties.gpkg")) {
+    expect_refusal(input$read_counties(path), "is a path, and no counties: read it by sf::st_read")
+  }
+})
+
+test("inputs: county adjacency file of 2023", {
+  lines <- c("County Name|County GEOID|Neighbor Name|Neighbor GEOID|Length")
+  path <- stored(c(lines, "Alamance County, NC|37001|Wake County, NC|37183|1"))
+  expect_equal(borders_in(path), cbind(1, 2))
+})
+
+test("inputs: county adjacency file with tabs", {
+  line <- "\"Alamance County, NC\"\t37001\t\"Alamance County, NC\"\t37001"
+  expect_equal(borders_in(stored(c(line, "\t\t\"Wake County, NC\"\t37183"))), cbind(1, 2))
+})
+
+test("inputs: county adjacency file with commas", {
+  path <- stored("Alamance County,37001,Wake County,37183,1")
+  expect_refusal(borders_in(path), "has a county's GEOID as the second field, at pipes or tabs: put these there")
+})
+
+test("inputs: dual graph in JSON", {
+  path <- stored("{\"nodes\": [{\"id\": 0}], \"adjacency\": [[]]}")
+  expect_refusal(borders_in(path), "is JSON: give a graph of igraph, or a list of neighbours")
+})
+
+test("inputs: JSON of Districtr", {
+  path <- stored("{\"plan\": {\"assignment\": {}}}")
+  expect_refusal(borders_in(path), "is JSON")
+  expect_refusal(input$read_counties(path), "is a path, and no counties")
+})
+
+test("inputs: xz, bzip2 or Excel", {
+  for (path in c("table.csv.xz", "table.csv.bz2", "table.xlsx")) {
+    expect_refusal(input$read_counties(path), "is a path, and no counties")
+  }
+})
+
 test("tolerance, seats and withdrawn sets", {
   expect_equal(input$tolerance_of(NULL), c(1, 20))
   expect_equal(input$tolerance_of(0.05), c(1, 20))
@@ -205,6 +329,33 @@ if (has_program) {
     expect_refusal(best_grouping(answer, 2), "`number` is 2, and has to be 1 to 1")
     expect_equal(grouping_number(answer, answer$groups), 1)
     expect_equal(c(answer$ideal, answer$district_bounds), c(100, 95, 105))
+  })
+
+  test("margins, tidy, and a summary of the list", {
+    answer <- solved(path_people, 4, adjacency = path_pairs)
+    expect_equal(group_margins(answer)$fewer, 5 * answer$groups$seats)
+    expect_equal(group_margins(answer)$more, 5 * answer$groups$seats)
+    if (requireNamespace("generics", quietly = TRUE)) {
+      expect_equal(generics::tidy(answer), as.data.frame(answer))
+    }
+    printed <- capture.output(print(best_groupings(answer)))
+    expect_equal(printed, c("1 best grouping", "3 groups of all of them"))
+  })
+
+  test("all best groupings by one call", {
+    program <- find_program()
+    if (.Platform$OS.type == "unix") {
+      calls <- tempfile()
+      counting <- tempfile()
+      run <- paste(shQuote(program), collapse = " ")
+      writeLines(c("#!/bin/sh", paste0("echo >>", calls), paste("exec", run, "\"$@\"")), counting)
+      Sys.chmod(counting)
+      ring <- cbind(c("A", "B", "C", "D"), c("B", "C", "D", "A"))
+      people <- c(A = 50, B = 50, C = 50, D = 50)
+      answer <- solved(people, 2, adjacency = ring, program = counting)
+      expect_equal(length(best_groupings(answer)$groupings), 2)
+      expect_equal(length(readLines(calls)), 2)
+    }
   })
 
   test("withdrawn sets", {
@@ -299,10 +450,15 @@ if (has_program) {
     sizes <- seat_sizes(path_people, 4)
     expect_equal(sizes$least_seats, c(NA, NA, 1, 2))
     answer <- solved(path_people, 4, adjacency = path_pairs)
-    expect_equal(judge_groups(answer, answer$groups)$outcome, "best")
+    verdict <- judge_groups(answer, answer$groups)
+    expect_equal(verdict$outcome, "best")
+    expect_equal(verdict$greater, integer())
     lesser <- data.frame(seats = c(2, 2))
     lesser$counties <- list(c("Alder", "Birch", "Cedar"), "Dogwood")
-    expect_equal(judge_groups(answer, lesser)$outcome, "lawful")
+    verdict <- judge_groups(answer, lesser)
+    expect_equal(verdict$outcome, "lawful")
+    # (the best grouping has two groups of one county, and one of two)
+    expect_equal(verdict$greater, c(2, 1))
     lesser$seats <- c(3, 2)
     expect_equal(startsWith(judge_groups(answer, lesser)$fault, "OutOfWindow"), TRUE)
     plan <- c(p = "x", q = "x", r = "y", s = "z", t = "w")

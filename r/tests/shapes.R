@@ -47,6 +47,13 @@ if (requireNamespace("sf", quietly = TRUE) && nzchar(data)) {
   counties <- sf::st_read(data_file("county_outlines.geojson"), quiet = TRUE)
   counties <- merge(counties, census[c("GEOID", "people")])
 
+  test("the outlines are valid, on the sphere and in the plane", {
+    expect_equal(all(sf::st_is_valid(counties)), TRUE)
+    plane <- sf::st_set_crs(sf::st_geometry(counties), NA)
+    expect_equal(all(sf::st_is_valid(plane)), TRUE)
+    expect_equal(length(sf::st_touches(counties)), 100)
+  })
+
   # The border list's pairs were found by corners in common, and not by sf.
   test("the outlines of North Carolina", {
     table <- input$read_counties(counties)

@@ -102,6 +102,17 @@ function textOf(name) {
 }
 
 /**
+ * Returns what is known of a file or a folder of a page, which has neither an owner nor a number.
+ *
+ * @param {number} type
+ * @param {bigint} size
+ * @returns {FileStatus}
+ */
+function statusOf(type, size) {
+  return { mode: type | PERMISSIONS, size, owner: 0, group: 0, device: 0n, number: 0n };
+}
+
+/**
  * The store over a page's files.
  *
  * @implements {FileStore}
@@ -181,6 +192,30 @@ export class BrowserFiles {
   }
 
   /**
+   * A page has no device and no pipe.
+   *
+   * @returns {never}
+   */
+  openToWrite() {
+    throw new HostError(ERRNO.ENODEV);
+  }
+
+  /** Leaves the permissions as they are, which are one for all files. */
+  setMode() {}
+
+  /** Leaves the owner as it is: nobody owns a page's files. */
+  setOwner() {}
+
+  /**
+   * A page has no symbolic link.
+   *
+   * @returns {never}
+   */
+  pathOfLink() {
+    throw new HostError(ERRNO.EINVAL);
+  }
+
+  /**
    * @param {number} file
    * @param {Uint8Array} into
    */
@@ -250,9 +285,17 @@ export class BrowserFiles {
   statusOfName(name) {
     const text = textOf(name);
     if (this.isFolder(text)) {
-      return { mode: FILE_TYPE.FOLDER | PERMISSIONS, size: 0n };
+      return statusOf(FILE_TYPE.FOLDER, 0n);
     }
-    return { mode: FILE_TYPE.PLAIN | PERMISSIONS, size: BigInt(this.file(text).size) };
+    return statusOf(FILE_TYPE.PLAIN, BigInt(this.file(text).size));
+  }
+
+  /**
+   * @param {Uint8Array} name
+   * @returns {FileStatus}
+   */
+  statusOfLink(name) {
+    return this.statusOfName(name);
   }
 
   /**
@@ -265,7 +308,7 @@ export class BrowserFiles {
       throw new HostError(ERRNO.EBADF);
     }
     const size = open instanceof MadeFile ? open.size : open.blob.size;
-    return { mode: FILE_TYPE.PLAIN | PERMISSIONS, size: BigInt(size) };
+    return statusOf(FILE_TYPE.PLAIN, BigInt(size));
   }
 
   /**

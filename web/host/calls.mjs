@@ -22,13 +22,24 @@ import { HostError } from "./file_store.mjs";
  */
 
 /** The flags of `open` that the program gives, as Linux has them. */
-const OPEN = Object.freeze({ ACCESS: 3, READ: 0, CREATE: 0o100, EXCLUSIVE: 0o200 });
+const OPEN = Object.freeze({ ACCESS: 3, READ: 0, WRITE: 1, CREATE: 0o100, EXCLUSIVE: 0o200 });
 
-/** What `statx` is asked for: a path from the folder of the process, or an open file. */
-const STATX = Object.freeze({ FROM_FOLDER: -100, OF_FILE: 0x1000 });
+/** What `statx` is asked for: a path from the folder of the process, a link, or an open file. */
+const STATX = Object.freeze({ FROM_FOLDER: -100, OF_NAME: 0, OF_LINK: 0x100, OF_FILE: 0x1000 });
 
 /** The fields of `struct statx` that are filled: where they lie, and the mask that says so. */
-const STATX_FIELDS = Object.freeze({ LENGTH: 256, MASK: 0, MODE: 28, SIZE: 40, FILLED: 0x203 });
+const STATX_FIELDS = Object.freeze({
+  LENGTH: 256,
+  MASK: 0,
+  OWNER: 20,
+  GROUP: 24,
+  MODE: 28,
+  NUMBER: 32,
+  SIZE: 40,
+  DEVICE_MAJOR: 136,
+  DEVICE_MINOR: 140,
+  FILLED: 0x31b,
+});
 
 /** The clocks of `clock_gettime`. */
 const CLOCK = Object.freeze({ REAL_TIME: 0, MONOTONIC: 1 });
@@ -113,7 +124,8 @@ function perform(process, call) {
 }
 
 /**
- * Opens a file of `store` as `flags` say, to read it or to create it, and returns its number.
+ * Opens a file of `store` as `flags` say, to read it, to create it, or to write into a device or a
+ * pipe, and returns its number.
  *
  * @param {FileStore} store
  * @param {Uint8Array} name
@@ -125,9 +137,12 @@ function openAsAsked(store, name, flags, mode) {
   if ((flags & OPEN.ACCESS) === OPEN.READ) {
     return store.openToRead(name);
   }
+  if ((flags & OPEN.ACCESS) === OPEN.WRITE && (flags & OPEN.CREATE) === 0) {
+    return store.openToWrite(name);
+  }
   const asked = OPEN.CREATE | OPEN.EXCLUSIVE;
   if ((flags & asked) !== asked) {
-    throw new HostError(ERRNO.EINVAL, "a file is opened to be read, or to be created");
+    throw new HostError(ERRNO.EINVAL, "a file is opened to be read, written or created");
   }
   return store.create(name, mode());
 }
@@ -149,10 +164,12 @@ function byteCalls(process) {
 }
 
 /**
- * Makes the calls on files by number: `close`, `fsync`, `lseek`, `isatty`.
+ * Makes the calls on files by number: `close`, `fsync`, `fdatasync`, `ftruncate`, `fchmod`,
+ * `flock`, `lseek`, `isatty`.
  *
  * No store can move the place at which standard input is read, as `lseek` asks. So standard input
- * is to the program as a pipe is.
+ * is to the program as a pipe is. Nor has a store advisory locks, which `flock` asks for. The
+ * program is linked with `ftruncate`, but never cuts a file.
  *
  * @param {Process} process
  */
@@ -162,6 +179,12 @@ function numberCalls(process) {
   const close = (file) => perform(process, () => store.close(file));
   /** @type {(file: number) => number} */
   const fsync = (file) => perform(process, () => store.sync(file));
+  /** @type {(file: number, mode: number) => number} */
+  const fchmod = (file, mode) => perform(process, () => store.setMode(file, mode));
+  const missing = () =>
+    perform(process, () => {
+      throw new HostError(ERRNO.ENOSYS);
+    });
   const lseek = () =>
     answer(process, -1n, () => {
       throw new HostError(ERRNO.ESPIPE);
@@ -174,11 +197,13 @@ function numberCalls(process) {
       }
       return 1;
     });
-  return { close, fsync, lseek, isatty };
+  return {
+    close, fsync, fdatasync: fsync, ftruncate: missing, fchmod, flock: missing, lseek, isatty,
+  };
 }
 
 /**
- * Makes the calls on files by name: `open`, `rename`, `unlink`.
+ * Makes the calls on files by name: `open`, `rename`, `unlink`, `readlink`, `lchown`.
  *
  * `open` is variadic in C, so its mode stands in memory, at the pointer that comes last.
  *
@@ -197,11 +222,45 @@ function nameCalls(process) {
     perform(process, () => store.rename(nameAt(process, from), nameAt(process, to)));
   /** @type {(name: bigint) => number} */
   const unlink = (name) => perform(process, () => store.unlink(nameAt(process, name)));
-  return { open, rename, unlink };
+  /** @type {(name: bigint, at: bigint, room: bigint) => bigint} */
+  const readlink = (name, at, room) =>
+    answer(process, -1n, () => {
+      const path = store.pathOfLink(nameAt(process, name));
+      const length = BigInt(Math.min(path.length, Number(room)));
+      bytesAt(process, at, length).set(path.subarray(0, Number(length)));
+      return length;
+    });
+  /** @type {(name: bigint, owner: number, group: number) => number} */
+  const lchown = (name, owner, group) =>
+    perform(process, () => store.setOwner(nameAt(process, name), owner, group));
+  return { open, rename, unlink, readlink, lchown };
 }
 
 /**
- * Makes `statx`, which fills the mode and the size, and says by its mask that it fills no more.
+ * Returns what `store` knows of what `statx` is asked for by its first three arguments.
+ *
+ * @param {FileStore} store
+ * @param {number} file
+ * @param {Uint8Array} path
+ * @param {number} flags
+ * @returns {import("./file_store.mjs").FileStatus}
+ */
+function statusAsAsked(store, file, path, flags) {
+  if (flags === STATX.OF_FILE && path.length === 0) {
+    return store.statusOfFile(file);
+  }
+  if (file === STATX.FROM_FOLDER && flags === STATX.OF_NAME) {
+    return store.statusOfName(path);
+  }
+  if (file === STATX.FROM_FOLDER && flags === STATX.OF_LINK) {
+    return store.statusOfLink(path);
+  }
+  throw new HostError(ERRNO.EINVAL, "statx is asked of a path, a link or an open file");
+}
+
+/**
+ * Makes `statx`. It fills the mode, the size, the owner, the group and the numbers of the file and
+ * of its device, and says by its mask that it fills no more.
  *
  * @param {Process} process
  */
@@ -210,18 +269,18 @@ function statusCalls(process) {
   /** @type {(file: number, name: bigint, flags: number, mask: number, at: bigint) => number} */
   const statx = (file, name, flags, _mask, at) =>
     perform(process, () => {
-      const path = nameAt(process, name);
-      const isOfFile = flags === STATX.OF_FILE && path.length === 0;
-      if (!isOfFile && (flags !== 0 || file !== STATX.FROM_FOLDER)) {
-        throw new HostError(ERRNO.EINVAL, "statx is asked of a path or of an open file");
-      }
-      const { mode, size } = isOfFile ? store.statusOfFile(file) : store.statusOfName(path);
-      const { LENGTH, MASK, MODE, SIZE, FILLED } = STATX_FIELDS;
-      bytesAt(process, at, BigInt(LENGTH)).fill(0);
-      const fields = new DataView(bufferOf(process), Number(at), LENGTH);
-      fields.setUint32(MASK, FILLED, true);
-      fields.setUint16(MODE, mode, true);
-      fields.setBigUint64(SIZE, size, true);
+      const status = statusAsAsked(store, file, nameAt(process, name), flags);
+      const places = STATX_FIELDS;
+      bytesAt(process, at, BigInt(places.LENGTH)).fill(0);
+      const fields = new DataView(bufferOf(process), Number(at), places.LENGTH);
+      fields.setUint32(places.MASK, places.FILLED, true);
+      fields.setUint32(places.OWNER, status.owner, true);
+      fields.setUint32(places.GROUP, status.group, true);
+      fields.setUint16(places.MODE, status.mode, true);
+      fields.setBigUint64(places.NUMBER, status.number, true);
+      fields.setBigUint64(places.SIZE, status.size, true);
+      fields.setUint32(places.DEVICE_MAJOR, Number(status.device >> 32n), true);
+      fields.setUint32(places.DEVICE_MINOR, Number(status.device & 0xffffffffn), true);
     });
   return { statx };
 }

@@ -13,6 +13,10 @@
  * @typedef {object} FileStatus
  * @property {number} mode The type and the permissions, as POSIX's `st_mode` has them.
  * @property {bigint} size The number of bytes.
+ * @property {number} owner The number of its owner, or 0 if owners aren't known.
+ * @property {number} group The number of its group, or 0 if groups aren't known.
+ * @property {bigint} device The number of its device, from 0 to 2^64 - 1.
+ * @property {bigint} number Its own number on the device, from 0 to 2^64 - 1. 0 if files have none.
  */
 
 /**
@@ -24,6 +28,15 @@
  * @property {(name: Uint8Array, mode: number) => number} create
  *   Creates the file `name` with the permissions `mode`, opens it for writing, and returns its
  *   number. `EEXIST` if the name is taken.
+ * @property {(name: Uint8Array) => number} openToWrite
+ *   Opens the device or the pipe `name` for writing, and returns its number. A regular file is
+ *   emptied.
+ * @property {(file: number, mode: number) => void} setMode
+ *   Gives `file` the permissions `mode`.
+ * @property {(name: Uint8Array, owner: number, group: number) => void} setOwner
+ *   Gives the file `name` this owner and this group. -1 leaves what there is.
+ * @property {(name: Uint8Array) => Uint8Array} pathOfLink
+ *   Returns the path that the symbolic link `name` has. `EINVAL` if it is no link.
  * @property {(file: number, into: Uint8Array) => number} read
  *   Puts the next bytes of `file` at the start of `into`, and returns how many. 0 is the end.
  * @property {(file: number, bytes: Uint8Array) => number} write
@@ -38,6 +51,8 @@
  *   Removes the name `name`.
  * @property {(name: Uint8Array) => FileStatus} statusOfName
  *   Returns what is known of what `name` leads to.
+ * @property {(name: Uint8Array) => FileStatus} statusOfLink
+ *   Returns what is known of `name` itself, if it is a symbolic link, and else as `statusOfName`.
  * @property {(file: number) => FileStatus} statusOfFile
  *   Returns what is known of `file`.
  * @property {(file: number) => boolean} isTerminal

@@ -3,7 +3,9 @@
  * machine. Its module, countygroups.wasm, lies beside this file.
  *
  * One thing differs: Node opens the null device in the place of a standard stream that is closed.
- * So closed standard input is empty, and what is written to closed standard output is lost.
+ * So closed standard input is empty. If the launcher is called by its own name, a shell sees before
+ * Node that standard output is closed, and the run ends with 5 (`tools/launcher.py`). If Node is
+ * called with the launcher's name, what is written to closed standard output is lost.
  */
 
 import fs from "node:fs";

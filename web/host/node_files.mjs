@@ -75,11 +75,18 @@ function readSync(file, into, room) {
 /**
  * Returns what Node's `status` says.
  *
- * @param {{ mode: bigint, size: bigint }} status
+ * @param {import("node:fs").Status} status
  * @returns {FileStatus}
  */
-function fileStatus({ mode, size }) {
-  return { mode: Number(mode), size };
+function fileStatus({ mode, size, uid, gid, dev, ino }) {
+  return {
+    mode: Number(mode),
+    size,
+    owner: Number(uid),
+    group: Number(gid),
+    device: BigInt.asUintN(64, dev),
+    number: BigInt.asUintN(64, ino),
+  };
 }
 
 /**
@@ -100,6 +107,34 @@ export class NodeFiles {
   create(name, mode) {
     const { O_RDWR, O_CREAT, O_EXCL } = fs.constants;
     return withErrno(() => fs.openSync(Buffer.from(name), O_RDWR | O_CREAT | O_EXCL, mode));
+  }
+
+  /** @param {Uint8Array} name */
+  openToWrite(name) {
+    const { O_WRONLY, O_TRUNC } = fs.constants;
+    return withErrno(() => fs.openSync(Buffer.from(name), O_WRONLY | O_TRUNC));
+  }
+
+  /**
+   * @param {number} file
+   * @param {number} mode
+   */
+  setMode(file, mode) {
+    withErrno(() => fs.fchmodSync(file, mode));
+  }
+
+  /**
+   * @param {Uint8Array} name
+   * @param {number} owner
+   * @param {number} group
+   */
+  setOwner(name, owner, group) {
+    withErrno(() => fs.lchownSync(Buffer.from(name), owner, group));
+  }
+
+  /** @param {Uint8Array} name */
+  pathOfLink(name) {
+    return withErrno(() => fs.readlinkSync(Buffer.from(name), "buffer"));
   }
 
   /**
@@ -145,6 +180,11 @@ export class NodeFiles {
   /** @param {Uint8Array} name */
   statusOfName(name) {
     return fileStatus(withErrno(() => fs.statSync(Buffer.from(name), { bigint: true })));
+  }
+
+  /** @param {Uint8Array} name */
+  statusOfLink(name) {
+    return fileStatus(withErrno(() => fs.lstatSync(Buffer.from(name), { bigint: true })));
   }
 
   /** @param {number} file */

@@ -52,7 +52,8 @@ export function deckHtml(page, answer) {
       districts are drawn. `;
   const rule = "Each group needs enough people for a whole number of districts, within "
     + `${toleranceWords(answer.tolerance)} of the ideal. As many groups as possible have one `
-    + "county, then as many as possible two, and so on. ";
+    + "county, then as many as possible two, and so on. A grouping may be used only if it is best "
+    + "by this. ";
   const { year } = page.census;
   const source = year ? `By the ${year} census` : "By the files of this page";
   const taken = answer.taken.length
@@ -412,10 +413,10 @@ export function groupTableHtml(geography, answer, groups, sortKey, isUp) {
     percent</span><span aria-hidden="true"><i>−${percent}</i><i>0</i><i>+${percent}</i></span>
     </th>`;
   const rows = order.map((at) => groupRow(geography, answer, groups[at], at, share));
-  return html`
-    <table class="groups"><thead><tr>
-    ${COLUMNS.map((one) => head(...one))}${scale}${head("options", "In options", "")}</tr>
-    </thead><tbody>${rows}</tbody></table>`;
+  const heads = html`
+    <thead><tr>${COLUMNS.map((one) => head(...one))}${scale}${head("options", "In options", "")}
+    </tr></thead>`;
+  return html`<table class="groups">${[heads, html`<tbody>${rows}</tbody>`]}</table>`;
 }
 
 /**

@@ -7,7 +7,7 @@ import {
 import { groupsOf, isOption, movedCounties, optionNumber, turned } from "./answers.mjs";
 import { closenessHtml } from "./closeness.mjs";
 import { openCounty } from "./county_view.mjs";
-import { append, fill, html } from "./html.mjs";
+import { append, fill, html, refill } from "./html.mjs";
 import { hashOf } from "./page.mjs";
 import { chamberButtons, find, findAll, findInput, showToast, speak } from "./dom.mjs";
 import { choiceWords, groupSentence, moveSentences, namesOf } from "./group_words.mjs";
@@ -108,7 +108,7 @@ function tellGroup(page, state, at, isLoud) {
  */
 function paintChoices(page, state) {
   const { answer, choices } = current(page, state);
-  fill(find("#switches"), answer.areas.map((area, at) => {
+  refill(find("#switches"), answer.areas.map((area, at) => {
     const letters = area.choices.map((_, choice) => (
       html`
         <button type="button" data-area="${at}" data-choice="${choice}"
@@ -129,7 +129,8 @@ function paintChoices(page, state) {
  */
 function paintTable(page, state) {
   const { answer, groups } = current(page, state);
-  fill(find("#table"), groupTableHtml(
+  findAll("#table tr.on").forEach((row) => row.classList.remove("on"));
+  refill(find("#table"), groupTableHtml(
     page.geography, answer, groups, sorting.key, sorting.isUp));
 }
 

@@ -67,8 +67,9 @@ function becomesWords({ census }, answer, { best, counts, grouping }) {
       + numberWord(other.one) : "";
   const year = census.enactedYear;
   const enacted = grouping === "best" ? ` The groups of ${year} stay among the best.`
-    : grouping === "lawful" ? ` The groups of ${year} are lawful then, and not best.`
-      : grouping === "not lawful" ? ` The groups of ${year} aren’t lawful then.` : "";
+    : grouping === "lawful" ? ` The groups of ${year} then meet the conditions, and aren’t best.`
+      : grouping === "not lawful"
+        ? ` The groups of ${year} then no longer meet the conditions.` : "";
   return `${list}${sizes}.${enacted}`;
 }
 
@@ -118,7 +119,31 @@ export function closenessHtml(page, answer) {
   return html`
     <h2>How close is it?</h2><p class="note">${lead} Each county was tried alone, up to
     ${numberText(within)} more or fewer, when this page was made.</p>
-    <table class="close"><tbody>${rows.slice(0, MOST_ROWS)}</tbody></table>${rest}`;
+    <table class="close"><tbody>${rows.slice(0, MOST_ROWS)}</tbody></table>${rest}
+    ${otherCensusesHtml(page, answer)}`;
+}
+
+/**
+ * Returns the least change by each other census that has a table, with a link to its answer.
+ * @param {Page} page
+ * @param {Answer} answer
+ */
+function otherCensusesHtml(page, answer) {
+  const { data, census } = page;
+  const all = [{ year: data.year ?? 0, chambers: data.chambers }, ...(data.further ?? [])];
+  const told = all.flatMap(({ year, chambers }) => {
+    const table = chambers.find((one) => one.key === answer.key)?.close;
+    if (year === census.year || !table) return [];
+    const { within, thresholds: [first] } = thresholdsOf(page, table);
+    const path = year === (data.year ?? 0) ? `#${answer.key}` : `#${year}/${answer.key}`;
+    const sign = first?.change > 0 ? "more" : "fewer";
+    const least = first ? `${numberText(Math.abs(first.change))} ${sign}`
+      : `none up to ${numberText(within)}`;
+    return [html`<a href="${path}">${year}</a>: ${least}`];
+  });
+  const parts = told.map((one, at) => (at ? html`; ${one}` : one));
+  return told.length ? html`
+    <p class="note years">The least such change by the counts of ${parts}.</p>` : "";
 }
 
 /**

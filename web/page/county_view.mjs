@@ -4,7 +4,7 @@ import { countyHtml } from "./county_parts.mjs";
 import { find, findAll, findInput, verdictHtml } from "./dom.mjs";
 import { codesOf } from "./geography.mjs";
 import { NOTHING, append, fill, html } from "./html.mjs";
-import { whyNotGroup } from "./other_group.mjs";
+import { togetherWords, whyNotGroup } from "./other_group.mjs";
 import { answerFor, hashOf } from "./page.mjs";
 import { wasStopped, whyNoProgram } from "./program.mjs";
 import { pickOnMap, pin } from "./map_host.mjs";
@@ -91,7 +91,8 @@ async function askWhy(page, state) {
   try {
     const { isBest, words } = await whyNotGroup(page, answer, counties);
     const head = isBest ? "They are one of the groups." : "Not in a best grouping.";
-    if (asked === mine) fill(place, verdictHtml(isBest, head, words));
+    const together = isBest ? "" : togetherWords(geography, answer, counties);
+    if (asked === mine) fill(place, verdictHtml(isBest, head, html`${words} ${together}`));
   } catch (fault) {
     const words = fault instanceof Error ? fault.message : String(fault);
     if (asked === mine && !wasStopped(fault)) {

@@ -34,6 +34,15 @@ export function findInput(selector, root = document) {
 }
 
 /**
+ * Scrolls to a part of the page if it doesn't begin in the upper half of the window.
+ * @param {HTMLElement} part
+ */
+export function bringIntoView(part) {
+  const { top } = part.getBoundingClientRect();
+  if (top < 0 || top > innerHeight / 2) part.scrollIntoView({ behavior: "smooth" });
+}
+
+/**
  * Has a screen reader speak `text`.
  * @param {string} text
  */

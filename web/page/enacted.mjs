@@ -4,10 +4,11 @@ import { codesOf, countyName, pairOf, placesOf } from "./geography.mjs";
 import { faultWords } from "./fault_words.mjs";
 import { chamberWords, textsFor } from "./page.mjs";
 import { withFile } from "./program.mjs";
-import { readGrouping, readReport } from "./program_texts.mjs";
+import { isLawful, messageOf, readGrouping, readReport } from "./program_texts.mjs";
+import { firstDifference, sizeWords } from "./other_group.mjs";
 import { verdictHtml } from "./dom.mjs";
 import { html } from "./html.mjs";
-import { andList } from "./words.mjs";
+import { andList, numberWord } from "./words.mjs";
 
 /** @typedef {import("./page.mjs").Page} Page */
 /** @typedef {import("./answers.mjs").Answer} Answer */
@@ -17,8 +18,8 @@ import { andList } from "./words.mjs";
 /** @typedef {import("./what_if.mjs").WhatIf} WhatIf */
 /** @typedef {import("./what_if.mjs").Outcome} Outcome */
 /**
- * What the program says of the enacted groups; `why` says in a sentence why they aren't lawful, or
- * aren't compared.
+ * What the program says of the enacted groups; `why` says in a sentence why they aren't best,
+ * aren't lawful, or aren't compared.
  * @typedef {{verdict: "best" | "lawful" | "not lawful" | "not compared", why: string}} Enacted
  */
 
@@ -72,17 +73,32 @@ export async function judgedEnacted(page, base, whatIf, found, run) {
     words.push("--certificate", "certificate");
   }
   const judged = await run(words, files);
-  if (judged.status === 0) {
-    const isBest = readReport(judged.output).answer === "best";
-    return { verdict: isBest ? "best" : "lawful", why: "" };
+  const report = readReport(judged.output);
+  if (isLawful(report)) {
+    return report.answer === "best" ? { verdict: "best", why: "" }
+      : { verdict: "lawful", why: lesserWords(found.report.counts, report.counts) };
   }
   if (judged.status !== 1) return { verdict: "not compared", why: judged.errors.trim() };
   const { geography } = found;
   const given = groups.map(({ seats, codes }) => (
     { seats, counties: placesOf(geography, codes) }));
   const borders = changedBorders(geography, whatIf);
-  const { told } = faultWords({ ...geography, borders }, base, given, judged.output);
+  const said = messageOf(judged.output);
+  const { told } = faultWords({ ...geography, borders }, base, given, said);
   return { verdict: "not lawful", why: told };
+}
+
+/**
+ * Returns at which size lawful groups fall short of the best ones, in a sentence.
+ * @param {number[]} best
+ * @param {number[]} own
+ */
+function lesserWords(best, own) {
+  const differing = firstDifference(best, own);
+  if (!differing) return "";
+  const { size, one, other } = differing;
+  return `They have ${numberWord(other)} ${sizeWords(other, size)}; a best grouping has `
+    + `${numberWord(one)}.`;
 }
 
 /**
@@ -112,8 +128,8 @@ export function enactedHtml({ census }, enacted) {
     return verdictHtml(true, `${groups} are among the best here.`, "The program judged them.");
   }
   if (verdict === "lawful") {
-    return verdictHtml(false, `${groups} are lawful here, and not best.`,
-      "The program judged them.");
+    const only = "By the rule a grouping may be used only if it is best.";
+    return verdictHtml(false, `${groups} are lawful here, and not best.`, `${why} ${only}`);
   }
   if (verdict === "not lawful") return verdictHtml(false, `${groups} aren’t lawful here.`, why);
   return verdictHtml(false, `${groups} aren’t compared.`, why);

@@ -152,7 +152,8 @@ function byTable(text, lines) {
   const isGrouping = columnOf(header, GROUP_COLUMNS) >= 0 && columnOf(header, COUNTY_COLUMNS) >= 0;
   if (isGrouping || /^\s*\d{1,3}[\s:|,]+\D/.test(lines[0])) return known("grouping");
   if (columnOf(header, DISTRICT_COLUMNS) >= 0) return known("plan");
-  return refused("This is a text whose layout isn’t known here.");
+  return refused("This is a text whose layout isn’t known here. A table of counties and people "
+    + "goes under What if, Other counts of people.");
 }
 
 /**

@@ -2,7 +2,7 @@
 
 import { fill, html } from "./html.mjs";
 import { chamberOptions, solveGiven, solvedAs } from "./solve_files.mjs";
-import { find, findInput } from "./dom.mjs";
+import { bringIntoView, find, findInput } from "./dom.mjs";
 import { KIND_WORDS, placedFiles } from "./given_files.mjs";
 import { followGrouping, paintGrouping, takeGrouping } from "./grouping_view.mjs";
 import { followPlan, paintPlan, takePlan } from "./plan_view.mjs";
@@ -73,6 +73,8 @@ function paintChambers() {
 async function takeFiles(page, state, files, slot) {
   /** @type {string[]} */
   const told = [];
+  /** @type {Set<FileKind>} */
+  const kinds = new Set();
   const line = find(slot === "plan" ? "#audit-result" : "#dropped");
   line.textContent = "Looking at the files.";
   for (const file of files) {
@@ -81,6 +83,7 @@ async function takeFiles(page, state, files, slot) {
       if (problem) told.push(problem);
       for (const one of placed) {
         await takeFile(page, state, one.kind, one.file);
+        kinds.add(one.kind);
         if (one.kind !== slot || placed.length > 1) {
           told.push(`${one.file.name} is ${KIND_WORDS.get(one.kind)}.`);
         }
@@ -93,6 +96,8 @@ async function takeFiles(page, state, files, slot) {
   if (reason) told.push(reason);
   const isPlanShown = slot === "plan" && given.has("plan");
   if (!isPlanShown || told.length) line.textContent = told.join(" ");
+  // (the verdict on a plan is further down than the other places to drop it)
+  if (kinds.size === 1 && kinds.has("plan")) bringIntoView(find("#quick"));
 }
 
 /**

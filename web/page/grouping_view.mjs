@@ -12,7 +12,7 @@ import { handoutButton, openHandout } from "./handout.mjs";
 import { readGivenGrouping } from "./grouping_input.mjs";
 import { clearMap, showMap } from "./map_host.mjs";
 import { carriedProblem, runProgram, storedFile, whyNoProgram, withFile } from "./program.mjs";
-import { readReport } from "./program_texts.mjs";
+import { isLawful, messageOf, readReport, refusalOf } from "./program_texts.mjs";
 import { problemWords } from "./problem.mjs";
 import { decodedText } from "./tables.mjs";
 import { tintLike } from "./tints.mjs";
@@ -160,6 +160,7 @@ function showLesser(page, answer, given, counts) {
   fill(find("#judge-result"), verdictHtml(false, "Lawful, but not best.",
     `It has ${numberWord(mine)} ${noun} of ${numberWord(size)} `
     + `${nounFor(size, "county", "counties")}; a best grouping has ${numberWord(best)}. `
+    + "By the rule a grouping may be used only if it is best. "
     + "Outlined: groups that no best grouping has."));
   const known = new Set(answer.groups.map((group) => setKey(group.counties)));
   const groups = mapGroups(page, answer, given);
@@ -227,16 +228,15 @@ async function judge(page, state) {
  */
 function showVerdict(page, answer, given, run) {
   const report = readReport(run.output);
-  if (run.status === 0 && report.answer === "best") showBest(page, answer, given);
-  else if (run.status === 0) showLesser(page, answer, given, report.counts);
+  if (report.answer === "best") showBest(page, answer, given);
+  else if (isLawful(report)) showLesser(page, answer, given, report.counts);
   else if (run.status === 1) {
-    const { verdict, group } = faultOf(page, answer, given, run.output);
+    const { verdict, group } = faultOf(page, answer, given, messageOf(run.output));
     fill(find("#judge-result"), verdict);
     if (group) showGroups(page, answer, mapGroups(page, answer, given), group.counties);
   } else {
-    const said = (run.errors || run.output).trim().split("\n").slice(0, 2).join(" ");
     fill(find("#judge-result"), verdictHtml(
-      false, "The program refused it.", html`<code>${said}</code>`));
+      false, "The program refused it.", html`<code>${refusalOf(run, 2)}</code>`));
   }
 }
 

@@ -3,7 +3,7 @@
 
 import { find, findAll } from "./dom.mjs";
 import { groupSentence } from "./group_words.mjs";
-import { NOTHING, fill, html } from "./html.mjs";
+import { NOTHING, fill, html, refill } from "./html.mjs";
 import { mapSvg } from "./map_svg.mjs";
 
 /** @typedef {import("./geography.mjs").Geography} Geography */
@@ -21,14 +21,15 @@ import { mapSvg } from "./map_svg.mjs";
  *   turn?: (area: number, choice: number) => void, pick?: (county: number) => void}} MapShown
  */
 /**
- * What is known of a host. `picking` is called with a county that is clicked, in the place of what
- * else a click does.
- * @typedef {{shown: MapShown, hovered: number | null, pinned: number | null,
- *   picking?: ((county: number) => void) | null}} HostState
+ * What is known of a host. `id` begins the ids of its maps, of which `width` is the width.
+ * `picking` is called with a county that is clicked, in the place of what else a click does.
+ * @typedef {{shown: MapShown, id: string, width: number, hovered: number | null,
+ *   pinned: number | null, picking?: ((county: number) => void) | null}} HostState
  */
 
 /** @type {WeakMap<HTMLElement, HostState>} */
 const states = new WeakMap();
+let hosts = 0;
 
 const PRINT_WIDTH = 1240;
 const MOST_TALL = 900;
@@ -47,12 +48,17 @@ export function showMap(host, shown) {
     return;
   }
   const known = states.get(host);
-  states.set(host, { shown, hovered: null, pinned: null, picking: known?.picking });
+  letGo(host);
+  if (!known) hosts += 1;
+  const id = known?.id ?? `host${hosts}`;
   const tall = (MOST_TALL * sheet.width) / sheet.height;
   const space = Math.min(Math.max(300, host.clientWidth || 1360), tall);
   const width = shown.isPrinted ? PRINT_WIDTH : space;
+  states.set(host, { shown, id, width, hovered: null, pinned: null, picking: known?.picking });
   host.style.maxWidth = sheet.height > sheet.width ? `${Math.round(tall)}px` : "";
-  fill(host, svgTexts(shown, sheet, width));
+  // (another option of a chamber differs in few counties)
+  const isLike = known?.width === width && known.shown.chamber === shown.chamber;
+  (isLike ? refill : fill)(host, svgTexts(shown, sheet, width, id));
   host.classList.toggle("cut", host.children.length > 1);
   const first = host.querySelector(".badge");
   if (first instanceof SVGElement) first.tabIndex = 0;
@@ -60,12 +66,22 @@ export function showMap(host, shown) {
 }
 
 /**
+ * Has no group of a host marked, and no stop that the keyboard comes to first.
+ * @param {HTMLElement} host
+ */
+function letGo(host) {
+  mark(host, null);
+  for (const stop of findAll("svg [tabindex='0']", host)) stop.tabIndex = -1;
+}
+
+/**
  * Returns the maps for a width: one, or two where a wide state would be too small.
  * @param {MapShown} shown
  * @param {Sheet} sheet
  * @param {number} width
+ * @param {string} id
  */
-function svgTexts({ geography, drawing, hasKeep }, sheet, width) {
+function svgTexts({ geography, drawing, hasKeep }, sheet, width, id) {
   const isCut = width < PHONE && sheet.width > sheet.height * 1.6;
   if (!isCut) {
     /** @type {"county" | "group"} */
@@ -73,13 +89,15 @@ function svgTexts({ geography, drawing, hasKeep }, sheet, width) {
     const { width: wide, height: high } = sheet;
     const keep = width >= 1240 && hasKeep
       ? { x: wide * 0.18, y: high * 0.85, w: wide * 0.36, h: high * 0.34 } : null;
-    return [mapSvg(geography, { ...drawing, width, labels, keep })];
+    return [mapSvg(geography, { ...drawing, id, width, labels, keep })];
   }
   const half = sheet.width * 0.54;
   const plain = { ...drawing, hasSwitches: false, width, labels: /** @type {const} */ ("group") };
   const high = sheet.height - 20;
-  const west = mapSvg(geography, { ...plain, box: [0, 20, half, westHeight(geography, half)] });
-  const east = mapSvg(geography, { ...plain, box: [sheet.width - half, 20, half, high] });
+  const west = mapSvg(geography, {
+    ...plain, id: `${id}w`, box: [0, 20, half, westHeight(geography, half)] });
+  const east = mapSvg(geography, {
+    ...plain, id: `${id}e`, box: [sheet.width - half, 20, half, high] });
   return [west, east];
 }
 

@@ -24,8 +24,10 @@ import { nounFor } from "./words.mjs";
  * counties that leave room for the seats of their group in some option. `areas` are hatched and
  * outlined; `hasSwitches` places their switches outside the `keep` rectangle. `only` greys all
  * other counties. `moved` counties have the strong tint, `flash` ones flash, `taken` ones are
- * dotted, and groups with `isNew` have the tint of a change.
+ * dotted, and groups with `isNew` have the tint of a change. A map that is drawn again has the same
+ * `id`, with which the ids of its patterns begin.
  * @typedef {{groups: Group[], width: number, labels: 'county' | 'group' | 'badge', box?: Box,
+ *   id?: string,
  *   leaders?: Set<number>, areas?: ShownArea[], hasSwitches?: boolean, keep?: Place | null,
  *   only?: number[], isMini?: boolean, moved?: Set<number>, flash?: Set<number> | null,
  *   taken?: Set<number>, isNew?: (group: Group) => boolean}} Drawing
@@ -58,9 +60,11 @@ export function mapSvg(geography, drawing) {
   const switches = drawing.hasSwitches ? switchesOn(canvas, names) : [];
   placed.push(...switches);
   const parts = [
-    patterns(canvas), countyShapes(canvas), borderLines(canvas), waterTies(canvas),
-    html`<g class="selected"></g>`, names.map((name) => countyNameText(canvas, name)),
-    badgeParts(canvas, names, placed), switches.map((one) => switchPart(canvas, one)),
+    patterns(canvas), ...countyShapes(canvas), ...borderLines(canvas),
+    html`<g>${waterTies(canvas)}</g>`, html`<g class="selected"></g>`,
+    html`<g>${names.flatMap((name) => countyNameText(canvas, name))}</g>`,
+    html`<g>${badgeParts(canvas, names, placed)}</g>`,
+    html`<g>${switches.flatMap((one) => switchPart(canvas, one))}</g>`,
   ];
   return html`
     <svg viewBox="${box.map(short).join(" ")}" ${role} data-scale="${scale}"
@@ -125,7 +129,7 @@ function canvasOf(geography, drawing) {
     areaAt[county] = at;
   }));
   drawn += 1;
-  const id = `${typeof document === "undefined" ? "s" : "m"}${drawn}`;
+  const id = drawing.id ?? `${typeof document === "undefined" ? "s" : "m"}${drawn}`;
   const only = drawing.only ? new Set(drawing.only) : null;
   const px = (/** @type {number} */ pixels) => (pixels / scale).toFixed(2);
   return { geography, sheet, drawing, box, scale, id, groupAt, areaAt, only, px };
@@ -186,11 +190,13 @@ function countyShapes(canvas) {
     return use(county, html`class="${countyClass(canvas, county)}"${dots}${told}`);
   });
   const hatched = drawing.isMini ? [] : places.filter((county) => areaAt[county] >= 0);
-  const flashing = [...(drawing.flash ?? [])];
-  return html`
-    <g>${fills}</g>
-    <g class="hatch" fill="url(#${id}h)">${hatched.map((one) => use(one, NOTHING))}</g>
-    <g>${flashing.map((one) => use(one, html`class="flash"`))}</g>`;
+  const flashing = [...(drawing.flash ?? [])].map((one) => use(one, NOTHING));
+  return [
+    html`<g>${fills}</g>`,
+    html`
+      <g class="hatch" fill="url(#${id}h)">${hatched.map((one) => use(one, NOTHING))}</g>`,
+    flashing.length ? html`<g data-key="flash ${drawn}" class="flash">${flashing}</g>` : NOTHING,
+  ];
 }
 
 /**
@@ -277,7 +283,7 @@ function partsOf(sheet, counties) {
 }
 
 /**
- * Returns the name of a county, with its line if it stands beside the land.
+ * Returns the name of a county, with its line and point if it stands beside the land.
  * @param {Canvas} canvas
  * @param {Name} name
  */
@@ -292,11 +298,13 @@ function countyNameText({ scale, px }, name) {
   const style = `font-size:${name.size.toFixed(2)}px;stroke-width:${px(2.2)}`;
   const text = html`
     <text class="name" style="${style}"${squeezed} x="${x}" y="${short(top)}">${lines}</text>`;
-  if (!name.leader) return text;
+  if (!name.leader) return [text];
   const [fromX, fromY, toX, toY] = name.leader.map(short);
-  return html`
-    <path class="leader" style="stroke-width:${px(0.8)}" d="M${fromX} ${fromY}L${toX} ${toY}"/>
-    <circle cx="${fromX}" cy="${fromY}" r="${px(1.5)}" fill="var(--soft)"/>${text}`;
+  const line = html`
+    <path class="leader" style="stroke-width:${px(0.8)}" d="M${fromX} ${fromY}L${toX} ${toY}"/>`;
+  return [
+    line, html`<circle cx="${fromX}" cy="${fromY}" r="${px(1.5)}" fill="var(--soft)"/>`, text,
+  ];
 }
 
 /**
@@ -326,10 +334,12 @@ function badgeParts(canvas, names, placed) {
  * @param {import('./badges.mjs').Badge} badge
  */
 function groupNameText({ px }, badge) {
+  // (so that a name keeps to its place where the browser has a wider typeface)
+  const width = html`textLength="${short(badge.nameWide)}" lengthAdjust="spacingAndGlyphs"`;
   const style = `font-size:${px(10.5)}px;stroke-width:${px(2.6)};stroke-opacity:.8`;
   return html`
-    <text class="name of-group" style="${style}" x="${short(badge.x)}" y="${short(badge.nameY)}">
-    ${badge.name}</text>`;
+    <text data-key="name ${badge.name}" class="name of-group" style="${style}" ${width}
+    x="${short(badge.x)}" y="${short(badge.nameY)}">${badge.name}</text>`;
 }
 
 /**
@@ -344,7 +354,8 @@ function pillPart({ geography, drawing, scale, px }, { group: at, x, y, wide, hi
   const label = `${groupName(geography, group)}: ${seats}`
     + (isChoice ? ", there is a choice" : "");
   const told = drawing.isMini ? ""
-    : html` data-group="${at}" role="button" tabindex="-1" aria-label="${label}"`;
+    : html` data-key="seats ${group.counties[0]}" data-group="${at}" role="button" tabindex="-1"
+      aria-label="${label}"`;
   return html`
     <g class="badge${isChoice ? " choice" : ""}"${told}><rect x="${short(x - wide / 2)}"
     y="${short(y - high / 2)}" width="${short(wide)}" height="${short(high)}"
@@ -369,8 +380,9 @@ function smallName(canvas, county, placed) {
   if (!best) return NOTHING;
   placed.push(best);
   return html`
-    <text class="name small" style="font-size:${px(10.2)}px;stroke-width:${px(2)}"
-    x="${short(best.x)}" y="${short(best.y + 3.5 / scale)}">${name}</text>`;
+    <text data-key="name ${name}" class="name small"
+    style="font-size:${px(10.2)}px;stroke-width:${px(2)}" x="${short(best.x)}"
+    y="${short(best.y + 3.5 / scale)}">${name}</text>`;
 }
 
 /**
@@ -425,9 +437,10 @@ function switchPart({ drawing, scale, px }, one) {
       rx="${px(choice === area.choices - 1 ? 4 : 0)}" ${stroke}/><text
       x="${short(x + one.letterWidth / 2)}" y="${textY}" ${size}>${choice + 1}</text></g>`;
   });
-  return html`
-    ${line}<g class="switch"><rect x="${short(left)}" y="${short(top)}" width="${short(one.w)}"
+  const shown = html`
+    <g class="switch"><rect x="${short(left)}" y="${short(top)}" width="${short(one.w)}"
     height="${short(one.h)}" rx="${px(4)}" ${stroke}/><text
     x="${short(left + one.nameWidth / 2)}" y="${textY}" ${size}>${area.name}</text>${letters}
     </g>`;
+  return [line, shown];
 }

@@ -7,7 +7,7 @@ import { carriedProblem, startProgram, withFile } from "./program.mjs";
 import { html } from "./html.mjs";
 import { chamberWords } from "./page.mjs";
 import { plainWords } from "./problem.mjs";
-import { readReport } from "./program_texts.mjs";
+import { readReport, refusalOf } from "./program_texts.mjs";
 import { idealWords, joinedParts, suitingSeats } from "./seats.mjs";
 
 /** @typedef {import("./page.mjs").Page} Page */
@@ -79,7 +79,7 @@ async function countsWith(page, answer, counties, seats) {
   const { result } = await startProgram(words, files);
   const run = await result;
   if (run.status === 1) return null;
-  if (run.status !== 0) throw new Error((run.errors || run.output).trim().split("\n")[0]);
+  if (run.status !== 0) throw new Error(refusalOf(run, 1));
   const { counts } = readReport(run.output);
   while (counts.length < counties.length) counts.push(0);
   counts[counties.length - 1] += 1;
@@ -136,6 +136,24 @@ function inSomeWords(answer, names, counties) {
 }
 
 /**
+ * Returns whether a best grouping has counties in one larger group, and with which others.
+ * @param {import("./geography.mjs").Geography} geography
+ * @param {Answer} answer
+ * @param {number[]} counties
+ */
+export function togetherWords(geography, answer, counties) {
+  const larger = answer.groups.filter((group) => (
+    counties.every((one) => group.counties.includes(one))));
+  if (!larger.length) return "No best grouping has them in one group.";
+  const others = larger.map((group) => {
+    const rest = group.counties.filter((one) => !counties.includes(one));
+    const names = byPeople(geography, rest).map((one) => countyName(geography, one));
+    return `with ${andList(names)} in ${answer.shared.includes(group.id) ? "all" : "some"}`;
+  });
+  return `The best groupings have them in a larger group: ${others.join("; ")}.`;
+}
+
+/**
  * Returns by which counts groupings with a group fall short.
  * @param {ReturnType<typeof firstDifference>[]} found
  */
@@ -143,5 +161,6 @@ function lesserWords(found) {
   const [{ size, one, other }] = found.flatMap((it) => (it ? [it] : []));
   const smaller = size > 1 ? ", with as many smaller ones" : "";
   return `But then the state has at most ${numberWord(other)} ${sizeWords(other, size)} in place `
-    + `of ${numberWord(one)}${smaller}. So no best grouping has this group. Proved in this page in`;
+    + `of ${numberWord(one)}${smaller}. So no best grouping has this group, and by the rule only a `
+    + "best one may be used. Proved in this page in";
 }

@@ -14,10 +14,11 @@ import { stateName } from "./state_names.mjs";
 /**
  * A chamber as the page's data have it: texts of the program, the grouping of the enacted plan with
  * the act that has the plan, what became of each disputed border (a table of `tools/what_if.py`),
- * and which changes of people change the answer (a table of `tools/closeness.py`).
+ * which changes of people change the answer (a table of `tools/closeness.py`), and which borders
+ * do if they are left out (a table of `tools/deciding_borders.py`).
  * @typedef {{key: string, name: string, list: string, table: string, record: string,
- *   recordText?: string, enacted: string, act?: string, tried: string,
- *   close?: string}} ChamberTexts
+ *   recordText?: string, enacted: string, act?: string, tried: string, close?: string,
+ *   deciding?: string}} ChamberTexts
  */
 /**
  * The answers by the counts of one census. `year` is 0 where it isn't known, and so is

@@ -3,7 +3,7 @@
 import { stripSvg } from "./answer_parts.mjs";
 import { groupingText, groupsOf } from "./answers.mjs";
 import { planOf, planTable } from "./block_plan.mjs";
-import { find, findInput, stepList, verdictHtml } from "./dom.mjs";
+import { bringIntoView, find, findInput, stepList, verdictHtml } from "./dom.mjs";
 import { districtFaults, findingKinds, setsOfDistrict } from "./findings_words.mjs";
 import { placesOf } from "./geography.mjs";
 import { groupName } from "./group_words.mjs";
@@ -13,7 +13,7 @@ import { problemWords } from "./problem.mjs";
 import {
   carriedProblem, startProgram, wasStopped, whyNoProgram, withFile,
 } from "./program.mjs";
-import { readDistricts, readFindings, readGrouping } from "./program_texts.mjs";
+import { readDistricts, readFindings, readGrouping, refusalOf } from "./program_texts.mjs";
 import { handoutButton, openHandout } from "./handout.mjs";
 import { quickHtml } from "./quick_plan.mjs";
 import { lastSolved } from "./solve_files.mjs";
@@ -182,6 +182,7 @@ async function audit(page, state, given) {
     fill(result, verdictHtml(false, "The plan can’t be audited.", words));
   }
   findInput("#audit").disabled = false;
+  bringIntoView(result);
 }
 
 /**
@@ -248,7 +249,7 @@ async function runAudit(census, choice, plan, step) {
     throw new Error("The geographic header has no blocks: it is an extract. Take the state’s whole "
       + "files, from the Census Bureau’s zip.");
   }
-  throw new Error((run.errors || run.output).trim().split("\n").slice(0, 3).join(" "));
+  throw new Error(refusalOf(run, 3));
 }
 
 /**

@@ -21,6 +21,7 @@ import { tieKinds } from "./disputed.mjs";
 function inert(piece) {
   return piece.text
     .replace(/ data-(group|county|area|choice)="-?\d+"/g, "")
+    .replace(/ data-key="[^"]*"/g, "")
     .replace(/ role="button" tabindex="-1"/g, "")
     .replace(/<\/?button[^>]*>/g, "");
 }

@@ -1,5 +1,6 @@
-// Reads the texts that `countygroups` writes (docs/formats.md): list, report, tables, record,
-// findings.
+// Reads what `countygroups` writes (docs/reference/formats.md): list, report, tables, record,
+// findings. What it prints is read in both forms, the lines and the object of `--json`; no other
+// module of the page looks into what a run printed.
 
 import { rowsOf } from "./tables.mjs";
 
@@ -45,6 +46,36 @@ function countsOf(words) {
 }
 
 /**
+ * Returns the object that `--json` prints, or null if a text is of lines.
+ * @param {string} text
+ * @returns {any}
+ */
+function objectOf(text) {
+  return text.startsWith("{") ? JSON.parse(text) : null;
+}
+
+/**
+ * Returns what a run printed in the place of an answer, such as a fault: its lines, without the
+ * last line end.
+ * @param {string} text
+ * @returns {string}
+ */
+export function messageOf(text) {
+  const object = objectOf(text);
+  return (object ? object.message ?? "" : text).trim();
+}
+
+/**
+ * Returns why a run gave no answer: the first lines of what it told on standard error, or else of
+ * what it printed.
+ * @param {{output: string, errors: string}} run
+ * @param {number} most  lines
+ */
+export function refusalOf({ output, errors }, most) {
+  return (errors.trim() || messageOf(output)).split("\n").slice(0, most).join(" ");
+}
+
+/**
  * Returns the group of a line of a list.
  * @param {string[]} words
  * @returns {ListedGroup}
@@ -57,11 +88,42 @@ function listedGroup(words) {
 }
 
 /**
+ * Returns the list of an object.
+ * @param {any} object
+ * @returns {Listing}
+ */
+function listingOf(object) {
+  const groupOf = (/** @type {any} */ { seats, people, counties }) => (
+    { codes: counties, least: seats?.least ?? 0, most: seats?.greatest ?? 0, people });
+  const { people, chamber, tolerance, regions, counts } = object;
+  return {
+    people, chamber, window: tolerance, seatsLeft: object.seats_left, counts,
+    number: object.best_groupings, shared: object.shared_groups.map(groupOf),
+    regions: regions.map((/** @type {any} */ region) => (
+      region.alternatives.map((/** @type {any} */ one) => one.groups.map(groupOf)))),
+    combinations: object.every_choice ? null : object.groupings.map((/** @type {any} */ one) => (
+      one.alternatives.map((/** @type {number} */ number) => number - 1))),
+  };
+}
+
+/**
+ * Returns the number that a list gives the grouping of `--which`, or 0 if it isn't one of the best.
+ * @param {string} text
+ * @returns {number}
+ */
+export function readWhich(text) {
+  const object = objectOf(text);
+  return Number(object ? object.number ?? 0 : text.match(/^number (\d+)$/m)?.[1] ?? 0);
+}
+
+/**
  * Returns what a list says. Throws if the text is no list.
  * @param {string} text
  * @returns {Listing}
  */
 export function readList(text) {
+  const object = objectOf(text);
+  if (object?.answer === "all") return listingOf(object);
   /** @type {Listing} */
   const listing = {
     people: 0, chamber: 0, window: [1, 20], seatsLeft: 0, counts: [], number: 0, shared: [],
@@ -108,6 +170,13 @@ function readListLine(listing, line, words) {
 export function readReport(text) {
   /** @type {Report} */
   const report = { answer: "", seatsLeft: 0, counts: [], groups: [] };
+  const object = objectOf(text);
+  if (object) {
+    const { answer = "", seats_left: seatsLeft = 0, counts = [], groups } = object;
+    const read = (groups ?? []).map((/** @type {any} */ { seats, people, counties }) => (
+      { seats, people, codes: counties }));
+    return { answer, seatsLeft, counts, groups: read };
+  }
   for (const line of text.split("\n")) {
     const words = line.split(" ");
     if (words[0] === "answer") report.answer = words.slice(1).join(" ");
@@ -122,11 +191,24 @@ export function readReport(text) {
 }
 
 /**
+ * Returns whether the grouping that a report of `judge` is of is lawful. If a certificate has
+ * greater counts, the status is 1, as it is for a fault; only a fault has no such answer.
+ * @param {Report} report
+ */
+export function isLawful({ answer }) {
+  return answer === "best" || answer === "lawful";
+}
+
+/**
  * Returns the counties of a size table with their people.
  * @param {string} text
  * @returns {{geoid: string, people: number}[]}
  */
 export function readSizes(text) {
+  const object = objectOf(text);
+  if (object) {
+    return object.sizes.map((/** @type {any} */ { county, people }) => ({ geoid: county, people }));
+  }
   const lines = text.split("\n").filter((line) => /^\d{5}\|/.test(line));
   return lines.map((line) => {
     const fields = line.split("|");
@@ -194,11 +276,30 @@ export function readGrouping(text) {
 }
 
 /**
+ * Returns a finding of an object, with the words that its line has.
+ * @param {any} finding
+ * @returns {Finding}
+ */
+function findingOf({ finding: kind, fault, block, district, sets, set, seats, districts, people }) {
+  const setWords = (/** @type {any} */ one) => (
+    one.group ? ["group", one.group] : ["withdrawn", one.withdrawn]);
+  /** @type {Record<string, () => (string | number)[]>} */
+  const words = {
+    Grouping: () => fault.split(" "), Crosses: () => [district, ...sets.flatMap(setWords)],
+    WrongNumber: () => [...setWords(set), "seats", seats, "districts", districts],
+    DistrictSize: () => [district, "people", people],
+  };
+  return { kind, words: (words[kind]?.() ?? [block]).map(String) };
+}
+
+/**
  * Returns the findings of an audit.
  * @param {string} text
  * @returns {Finding[]}
  */
 export function readFindings(text) {
+  const object = objectOf(text);
+  if (object) return object.findings.map(findingOf);
   const lines = text.split("\n").slice(1).filter(Boolean);
   return lines.map((line) => {
     const [kind, ...words] = line.split(" ");

@@ -2,7 +2,9 @@
 
 import { Refusal, comparedFiles } from "./compared_files.mjs";
 import { NOTHING, fill, html } from "./html.mjs";
-import { answerFor, chamberWords, hashOf, textsFor } from "./page.mjs";
+import {
+  answerFor, chamberWords, enactedGroupsWords, hashOf, textsFor,
+} from "./page.mjs";
 import { chamberButtons, find, findInput, stepList, verdictHtml } from "./dom.mjs";
 import { peopleOf, placesOf, setKey } from "./geography.mjs";
 import { problemWords } from "./problem.mjs";
@@ -10,7 +12,7 @@ import {
   carriedFiles, compiledProgram, fileOf, hasProgram, runProgram, storedFile, sumOf,
   whyNoProgram, withFile,
 } from "./program.mjs";
-import { readList } from "./program_texts.mjs";
+import { messageOf, readList, readWhich } from "./program_texts.mjs";
 import { shownOption } from "./view_state.mjs";
 import { capital, numberText } from "./words.mjs";
 
@@ -156,7 +158,7 @@ async function runChecks(page, answer, steps, files, certificate, isSpoiled) {
   const seconds = ((performance.now() - start) / 1000).toFixed(2);
   if (run.status !== 0) {
     step.end(false, "Stopped at a line that is wrong");
-    const told = run.output.trim() || `status ${run.status}`;
+    const told = messageOf(run.output) || `status ${run.status}`;
     const intact = isSpoiled
       ? " So it does read the lines. The certificate that the page carries is untouched." : "";
     const answered = html`Its answer was <code>${told}</code>.${intact}`;
@@ -166,8 +168,10 @@ async function runChecks(page, answer, steps, files, certificate, isSpoiled) {
   step = steps.begin("Listing every best grouping, and comparing with the map");
   const { listed, which } = await listedWith(page, answer, words, files);
   const isSame = listed.status === 0 && showsTheSame(page, answer, listed.output);
+  const enacted = which ? `; ${enactedGroupsWords(page, answer)} are option ${which} of them` : "";
   step.end(isSame, isSame
     ? `The page shows the same ${numberText(answer.number)} groupings that the program lists`
+      + enacted
     : "The page shows other groupings than the program lists");
   if (!isSame) {
     return verdictHtml(false, "No.", "The certificate is good, "
@@ -212,9 +216,7 @@ async function listedWith(page, answer, words, files) {
   if (!answer.enacted) return { listed: await runProgram(["list", ...words], files), which: 0 };
   const all = withFile(files, "which", textsFor(page, answer.key).enacted);
   const listed = await runProgram(["list", ...words, "--which", "which"], all);
-  if (listed.status === 0) {
-    return { listed, which: Number(listed.output.match(/^number (\d+)$/m)?.[1] ?? 0) };
-  }
+  if (listed.status === 0) return { listed, which: readWhich(listed.output) };
   return { listed: await runProgram(["list", ...words], files), which: 0 };
 }
 
@@ -311,8 +313,8 @@ function byWhat(page) {
   const sum = fileOf("program")?.sum;
   const copy = sum
     ? html`
-      The copy in this page has the sum <code>${sum}</code>. Compare it with the line of
-      <code>countygroups.wasm</code> in <code>dist/SHA256SUMS</code>. `
+      The copy in this page has the sum <code>${sum}</code>. Compare it with the line of <code>
+      countygroups.wasm</code> in <code>dist/SHA256SUMS</code>. `
     : "";
   return [
     html`

@@ -92,8 +92,8 @@ export function quickHtml(page, plan) {
     + `${countedInWords(best.crossing.length, "district")} ${nounFor(best.crossing.length,
       "crosses", "cross")} its groups (${labelWords(best.crossing)}).` : "";
   return html`
-    ${verdictHtml(follows, head, html`${nearest} ${numberWords(districts, answer)}
-    <a href="${hashOf(page, `${answer.key}/${best.option}`)}">See option ${best.option}</a>`)}
+    ${verdictHtml(follows, head, html`${nearest} ${numberWords(districts, answer)} <a
+    href="${hashOf(page, `${answer.key}/${best.option}`)}">See option ${best.option}</a>`)}
     <p class="note">${counted(plan.blocks, "block")} in ${counted(districts.size, "district")};
     ${counted(split, "county is", "counties are")} in more than one district.
     ${restWords(others)} By the counties of the blocks alone: no people were counted here, and
@@ -119,6 +119,6 @@ function restWords(others) {
   if (!others.length) return "";
   const some = others.slice(0, 4).map(({ option, crossing }) => (
     `option ${option}: ${numberText(crossing.length)}`));
-  const more = others.length > 4 ? ", and more in the others" : "";
+  const more = others.length > 4 ? ", and no fewer in the others" : "";
   return `Districts that cross groups of further options: ${some.join(", ")}${more}.`;
 }

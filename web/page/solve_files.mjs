@@ -8,7 +8,7 @@ import { NOTHING, append, fill, html } from "./html.mjs";
 import { clearMap, showMap } from "./map_host.mjs";
 import { shapesSvg } from "./map_svg.mjs";
 import { PROBLEM_FILES, runProgram, startProgram, wasStopped, withFile } from "./program.mjs";
-import { readSizes } from "./program_texts.mjs";
+import { readSizes, refusalOf } from "./program_texts.mjs";
 import { whyNotTogether } from "./matched_files.mjs";
 import { sheetOf } from "./sheet.mjs";
 import { hashOf } from "./page.mjs";
@@ -146,7 +146,7 @@ async function runStep(words, files, step, doing) {
     button.hidden = true;
   });
   if (run.status === 0) return run;
-  const said = (run.errors || run.output).trim().split("\n").slice(0, 3).join(" ");
+  const said = refusalOf(run, 3);
   if (run.status === 3) return refuse(step, "The search wasn’t finished.", STEPS_RAN_OUT);
   if (run.status === 1 && words[0] === "solve") {
     return refuse(step, "No grouping is lawful.", "By these files no way of grouping the counties "

@@ -8,7 +8,7 @@ import { judgedEnacted } from "./enacted.mjs";
 import { codesOf, placesOf, setKey } from "./geography.mjs";
 import { changedGeography, withPeople } from "./other_counts.mjs";
 import { startProgram, withFile } from "./program.mjs";
-import { readReport } from "./program_texts.mjs";
+import { messageOf, readReport } from "./program_texts.mjs";
 import { plainWords } from "./problem.mjs";
 
 /** @typedef {import("./page.mjs").Page} Page */
@@ -178,7 +178,7 @@ export async function startWhatIf(page, base, whatIf, files, onProgress, isJudge
 function foundOf(page, whatIf, { words, files }, solved) {
   return {
     status: solved.status, report: readReport(solved.output), answer: null,
-    said: (solved.errors || solved.output).trim(), enacted: null, words, files,
+    said: solved.errors.trim() || messageOf(solved.output), enacted: null, words, files,
     geography: changedGeography(page.geography, whatIf.people),
     certificate: solved.stored.get("certificate") ?? null,
   };

@@ -5,11 +5,14 @@ import { leadersOf } from "./answer_parts.mjs";
 import { startTrials, storedTrials, trialsWords } from "./border_trials.mjs";
 import { NOTHING, fill, html } from "./html.mjs";
 import { whatIfCommands } from "./commands.mjs";
+import { decidingHtml } from "./deciding_borders.mjs";
 import { openHandout } from "./handout.mjs";
-import { countsText, readCounts } from "./other_counts.mjs";
+import { changedGeography, countsText, readCounts } from "./other_counts.mjs";
 import { answerFor, chamberWords, hashOf, textsFor } from "./page.mjs";
 import { tieKinds } from "./disputed.mjs";
-import { chamberButtons, find, findAll, findInput, saveFile, verdictHtml } from "./dom.mjs";
+import {
+  bringIntoView, chamberButtons, find, findAll, findInput, saveFile, verdictHtml,
+} from "./dom.mjs";
 import { enactedHtml } from "./enacted.mjs";
 import { countyName, pairOf, peopleOf, peopleWindow } from "./geography.mjs";
 import { showMap } from "./map_host.mjs";
@@ -38,10 +41,12 @@ import { current } from "./view_state.mjs";
  * The view's own state: the what-if of the form, the set that clicks on the map go to (-1 for a new
  * one), the outcome shown with the query and the steps that it is of, and the run at work. `trials`
  * has what is known of disputed borders by their problems, of which `tried` is the one that is
- * shown. `fault` says why the counts in the form can't be read.
+ * shown. `deciding` is the answer of which the deciding borders are shown. `fault` says why the
+ * counts in the form can't be read.
  * @typedef {{whatIf: WhatIf, set: number, chamber: string, outcome: Outcome | null, query: string,
  *   steps: number, told: string, solving: Solving | null, trials: Map<string, Trials>,
- *   tried: string, stopTrials: (() => void) | null, fault: string}} Work
+ *   tried: string, stopTrials: (() => void) | null, fault: string,
+ *   deciding: import("./answers.mjs").Answer | null}} Work
  */
 
 /** @type {Work} */
@@ -50,7 +55,7 @@ const work = {
     sets: [], added: new Set(), cut: new Set(), percent: 5, people: new Map(), steps: 0,
   },
   set: -1, chamber: "", outcome: null, query: "", steps: 0, told: "", solving: null,
-  trials: new Map(), tried: "", stopTrials: null, fault: "",
+  trials: new Map(), tried: "", stopTrials: null, fault: "", deciding: null,
 };
 
 const KINDS = /** @type {const} */ ([
@@ -184,7 +189,7 @@ function paintForm(page, state) {
   work.fault = "";
   find("#people-note").textContent = "";
   const reason = whyNoProgram();
-  findInput("#solve-again").disabled = reason !== null || work.solving !== null;
+  findInput("#solve-again").disabled = reason !== null;
   findInput("#try-borders").disabled = reason !== null || work.stopTrials !== null;
   if (!work.solving) find("#whatif-progress").textContent = reason ?? "";
   paintSets(page, state);
@@ -243,12 +248,84 @@ function paintBorders(page, state, names) {
     const isOpen = openBefore.includes(kind);
     return pairs.length ? pairsHtml(page, pairs, kind, words, trials, isOpen) : "";
   });
-  const other = find("#other-pair");
   if (names) {
-    for (const select of findAll("select", other)) fill(select, names);
+    for (const select of pairSelects()) {
+      const { value } = select;
+      fill(select, names);
+      if (value) select.value = value;
+    }
   }
   fill(find("#disputed"), blocks);
   fill(find("#changed-pairs"), changedPairs(page, disputed));
+  paintPair(page);
+  paintDeciding(page, state);
+}
+
+/** Returns the two lists of counties of the reader's own pair. */
+function pairSelects() {
+  return /** @type {HTMLSelectElement[]} */ (findAll("#other-pair select"));
+}
+
+/**
+ * Returns the pair that the reader chose, or null if it is one county twice.
+ */
+function chosenPair() {
+  const [one, other] = pairSelects().map((select) => Number(select.value));
+  return one === other ? null : pairOf(one, other);
+}
+
+/**
+ * Returns whether the file of borders has a pair.
+ * @param {Page} page
+ * @param {number[]} pair
+ */
+function isInFile({ geography }, pair) {
+  return geography.borders.some((some) => some.join(" ") === pair.join(" "));
+}
+
+/**
+ * Says whether the chosen pair counts as neighbors, and what the button beside it does.
+ * @param {Page} page
+ */
+function paintPair(page) {
+  const pair = chosenPair();
+  const button = find("#change-pair");
+  const note = find("#pair-note");
+  if (!pair) {
+    note.textContent = "Choose two different counties.";
+    button.textContent = "Count it, or leave it out";
+    return;
+  }
+  const codes = pairCodes(page.geography, pair);
+  const isCounted = isInFile(page, pair)
+    ? !work.whatIf.cut.has(codes) : work.whatIf.added.has(codes);
+  const [one, other] = pair.map((place) => countyName(page.geography, place));
+  const verb = isCounted ? "count" : "don’t count";
+  note.textContent = `${one} and ${other} ${verb} as neighbors here.`;
+  button.textContent = isCounted ? "Leave it out" : "Count it";
+}
+
+/**
+ * Draws the borders that decide the answer, once, and marks those that are left out.
+ * @param {Page} page
+ * @param {ViewState} state
+ */
+function paintDeciding(page, state) {
+  const answer = answerFor(page, state.chamber);
+  const panel = find("#deciding");
+  if (work.deciding !== answer) {
+    const held = decidingHtml(page, answer);
+    panel.hidden = held === null;
+    fill(find("#deciding-borders"), held ?? NOTHING);
+    work.deciding = answer;
+  }
+  for (const link of findAll("a[data-cut]", panel)) {
+    const isCut = work.whatIf.cut.has(link.dataset.cut ?? "");
+    if (isCut) link.setAttribute("aria-current", "true");
+    else link.removeAttribute("aria-current");
+    const fold = isCut && link.closest("details");
+    if (fold) fold.open = true;
+  }
 }
 
 /**
@@ -367,7 +444,8 @@ function paintWindow(page, state) {
     line.textContent = why;
     return;
   }
-  const [least, most] = peopleWindow(page.geography.total, seats, 1, tolerance);
+  const { total } = changedGeography(page.geography, work.whatIf.people);
+  const [least, most] = peopleWindow(total, seats, 1, tolerance);
   line.textContent = `${numberText(least)} to ${numberText(most)} people per district`;
 }
 
@@ -435,6 +513,7 @@ function takeCounts(page, state) {
   }
   line.classList.toggle("bad", work.fault !== "");
   paintBorders(page, state);
+  paintWindow(page, state);
 }
 
 /**
@@ -483,7 +562,7 @@ function showSolved(page, state, asked, outcome) {
   Object.assign(work, { outcome, query, steps: asked.steps });
   nameAddress(page, state);
   showOutcome(page, state, outcome);
-  if (innerWidth < 1000) find("#whatif-result").scrollIntoView({ behavior: "smooth" });
+  bringIntoView(find("#whatif-result"));
 }
 
 /** Shows that the program works, and returns its run. Until it has started nothing stops it. */
@@ -497,7 +576,8 @@ function beginSolving() {
     find("#whatif-running").textContent = `${seconds()} s. ${solving.told}`;
   }, 100);
   find("#whatif-progress").textContent = "Solving.";
-  findInput("#solve-again").disabled = true;
+  // (a button that is disabled would lose the focus of a reader with keys)
+  find("#solve-again").setAttribute("aria-disabled", "true");
   work.solving = solving;
   return solving;
 }
@@ -513,7 +593,7 @@ function endSolving(solving, words) {
   work.solving = null;
   find("#whatif-progress").textContent = words;
   find("#whatif-running").textContent = "";
-  findInput("#solve-again").disabled = false;
+  find("#solve-again").removeAttribute("aria-disabled");
   find("#stop-solving").hidden = true;
 }
 
@@ -746,15 +826,16 @@ function followSets(page, state) {
 function followPairs(page, state) {
   find("#disputed").addEventListener("change", (event) => {
     const { pair, kind } = /** @type {HTMLElement} */ (event.target).dataset;
-    if (pair) togglePair(page, pair, kind !== "point");
+    if (!pair) return;
+    togglePair(page, pair, kind !== "point");
+    paintPair(page);
+    paintDeciding(page, state);
   });
+  find("#other-pair").addEventListener("change", () => paintPair(page));
   find("#change-pair").addEventListener("click", () => {
-    const [one, other] = findAll("#other-pair select").map((select) => (
-      Number(/** @type {HTMLSelectElement} */ (select).value)));
-    if (one === other) return;
-    const pair = pairOf(one, other);
-    const isCounted = page.geography.borders.some((some) => some.join(" ") === pair.join(" "));
-    togglePair(page, pairCodes(page.geography, pair), isCounted);
+    const pair = chosenPair();
+    if (!pair) return;
+    togglePair(page, pairCodes(page.geography, pair), isInFile(page, pair));
     paintBorders(page, state);
   });
   find("#changed-pairs").addEventListener("click", (event) => {

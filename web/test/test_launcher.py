@@ -1,4 +1,4 @@
-"""The launcher by Node beside what docs/formats.md says, and beside the program of this machine."""
+"""The launcher by Node beside what docs/reference says, and beside the program of this machine."""
 from __future__ import annotations
 
 import os
@@ -206,6 +206,13 @@ class Streams(Launched):
         done = subprocess.run(["/bin/sh", "-c", called], capture_output=True, check=False)
         self.assertEqual(done.returncode, self.launch().returncode)
 
+    def test_closed_standard_output_is_an_error(self) -> None:
+        launcher = self.room / "dist" / "countygroups.mjs"
+        called = f'exec "{launcher}" --version >&-'
+        done = subprocess.run(["/bin/sh", "-c", called], capture_output=True, check=False)
+        self.assertEqual((done.returncode, done.stdout), (5, b""))
+        self.assertIn(b"could not be written whole to standard output", done.stderr)
+
     def test_signals_end_it(self) -> None:
         for number in (signal.SIGTERM, signal.SIGINT, signal.SIGKILL, signal.SIGHUP):
             os.mkfifo(self.folder / f"fifo{number}")
@@ -216,7 +223,7 @@ class Streams(Launched):
             with open(self.folder / f"fifo{number}", "wb"):
                 time.sleep(0.1)
                 process.send_signal(number)
-                self.assertEqual(process.wait(timeout=20), -number)
+                self.assertEqual(process.wait(timeout=120), -number)
 
 
 class Alone(Launched):

@@ -25,12 +25,19 @@ interface ImportMeta {
 }
 
 declare module "node:fs" {
-  interface Status {
+  export interface Status {
     mode: bigint;
     size: bigint;
+    uid: bigint;
+    gid: bigint;
+    dev: bigint;
+    ino: bigint;
   }
   const fs: {
-    constants: { O_RDONLY: number; O_RDWR: number; O_CREAT: number; O_EXCL: number };
+    constants: Record<
+      "O_RDONLY" | "O_WRONLY" | "O_RDWR" | "O_CREAT" | "O_EXCL" | "O_TRUNC",
+      number
+    >;
     openSync(name: Uint8Array, flags: number, mode?: number): number;
     closeSync(file: number): void;
     fsyncSync(file: number): void;
@@ -39,7 +46,11 @@ declare module "node:fs" {
     writeSync(file: number, text: string): number;
     renameSync(from: Uint8Array, to: Uint8Array): void;
     unlinkSync(name: Uint8Array): void;
+    fchmodSync(file: number, mode: number): void;
+    lchownSync(name: Uint8Array, owner: number, group: number): void;
+    readlinkSync(name: Uint8Array, encoding: "buffer"): NodeBytes;
     statSync(name: Uint8Array, options: { bigint: true }): Status;
+    lstatSync(name: Uint8Array, options: { bigint: true }): Status;
     fstatSync(file: number, options: { bigint: true }): Status;
     readFileSync(name: string | Uint8Array | URL): NodeBytes;
   };

@@ -21,7 +21,7 @@ use Rattle.pl94_counties.proofs.TraceLemmas.{contains_head, contains_nil}
 use Rattle.baf_auditor.specs.declared.assignments.Assignment.{Assignment}
 use Rattle.baf_auditor.specs.Findings.{DrawnSet, Plan, groups_from, withdrawn_from, drawn_sets, EachOnce, HasBlockIn, HasPeople, IsUnknown, IsTwice, IsUnassigned, IsCrossing, IsWrongNumber, IsWrongSize, IsFinding, IsLesserKey, set_key, key_of, AreAll, AreCodesWith, AreFindings, plan_of}
 use Rattle.baf_auditor.specs.Listing.{listing}
-use Rattle.baf_auditor.specs.Giving.{by_label, giving}
+use Rattle.baf_auditor.specs.Giving.{AreGiven}
 use Rattle.baf_auditor.specs.Districts.{GivenBlock, district_people, size_finding, name_at, crossings, districts_at, numbers_from}
 use Rattle.baf_auditor.specs.Kinds.{code_finding, AreOfDistricts, IsClean}
 use Rattle.baf_auditor.specs.declared.block_findings.CodeKind.TheVariants as kinds
@@ -29,7 +29,7 @@ use Rattle.baf_auditor.specs.declared.finding.Set.{Set}
 use Rattle.baf_auditor.specs.declared.finding.Set.TheVariants as sets
 use Rattle.baf_auditor.specs.declared.finding.Finding.{Finding}
 use Rattle.baf_auditor.specs.declared.finding.Finding.TheVariants as findings
-use Rattle.baf_auditor.proofs.ListLemmas.{chosen_from, chosen_to, mapped_from, mapped_to}
+use Rattle.baf_auditor.proofs.ListLemmas.{chosen_from, chosen_to, mapped_to}
 use Rattle.baf_auditor.proofs.DistrictLemmas.{item_at, label_same, is_listed, people_sum, has_people, people_are, district_of_sum, sum_of_district, stands_from, stands_to, has_districts, districts_are}
 use Rattle.baf_auditor.proofs.OrderLemmas.{IsOrdered, ordered_both, codes_kind, codes_ordered, place_before, before_place, place_alone}
 use Rattle.baf_auditor.proofs.CrossingLemmas.{Pair, crossings_from, crossings_to, crossings_sorted}
@@ -117,17 +117,14 @@ label_tied x y tied = label_same x y (texts_ties x y ∙ tied)
 pub record GivenBy (problem : ProblemValue) (gs : Grouping) (blocks : List Block) (lines : List Assignment) (listed : ℕ → Option ℕ) (given : List GivenBlock) : Type 0 where
   pub blocks_sorted : IsStrictlySortedBy nat_cmp (map (λ b. b.code) blocks)
   pub listing_is : (code : ℕ) → listed code ≡ listing (drawn_sets problem gs) blocks code
-  pub given_sorted : IsStrictlySortedBy by_label (map (λ e. e.0) given)
-  pub giving_is : (key : List ℕ × ℕ) → lookup (is_at (by_label key)) given ≡ giving listed lines key
+  pub given_are : AreGiven listed lines given
 
 pub given_by : (problem : ProblemValue) (gs : Grouping) (blocks : List Block) (lines : List Assignment) (listed : ℕ → Option ℕ) (given : List GivenBlock) → IsStrictlyIncreasing (map (λ b. b.code) blocks)
-    → ((code : ℕ) → listed code ≡ listing (drawn_sets problem gs) blocks code) → IsStrictlySortedBy by_label (map (λ e. e.0) given)
-    → ((key : List ℕ × ℕ) → lookup (is_at (by_label key)) given ≡ giving listed lines key) → GivenBy problem gs blocks lines listed given
-given_by problem gs blocks lines listed given ascending listing_is given_sorted giving_is = record {
+    → ((code : ℕ) → listed code ≡ listing (drawn_sets problem gs) blocks code) → AreGiven listed lines given → GivenBy problem gs blocks lines listed given
+given_by problem gs blocks lines listed given ascending listing_is given_are = record {
   blocks_sorted = sorted_from_strictly_increasing (map (λ b. b.code) blocks) ascending;
   listing_is = listing_is;
-  given_sorted = given_sorted;
-  giving_is = giving_is;
+  given_are = given_are;
 }
 
 -- ---- all findings of a plan
@@ -137,13 +134,11 @@ module _ (problem : ProblemValue) (gs : Grouping) (blocks : List Block) (lines :
   plan = record { drawn = drawn_sets problem gs; blocks = blocks; lines = lines }
 
   -- the codes of listed blocks
-  pub given_fit : All (λ b. b.code < 1000000000000000) blocks → All (λ k. k.1 < 1000000000000000) (map (λ e. e.0) given)
-  given_fit fits = all_of (λ (k : List ℕ × ℕ). k.1 < 1000000000000000) (map (λ (e : GivenBlock). e.0) given) (λ k h.
-      let e = mapped_from (λ (x : GivenBlock). x.0) given k h in
-      let b = is_listed plan by.blocks_sorted listed by.listing_is given by.given_sorted by.giving_is e.0 e.1 in
+  pub given_fit : All (λ b. b.code < 1000000000000000) blocks → All (λ e. e.0.1 < 1000000000000000) given
+  given_fit fits = all_of (λ (e : GivenBlock). e.0.1 < 1000000000000000) given (λ e h.
+      let b = is_listed plan by.blocks_sorted listed by.listing_is given by.given_are e h in
       let small : b.0.code < 1000000000000000 = All-contains (λ (x : Block). x.code < 1000000000000000) blocks b.0 fits b.1.1.0 in
-      let code : b.0.code ≡ k.1 = b.2 ∙ ap (λ (q : List ℕ × ℕ). q.1) e.2 in
-      subst (λ (c : ℕ). c < 1000000000000000) code small)
+      subst (λ (c : ℕ). c < 1000000000000000) b.2 small)
 
   module _ (list : List Finding) (ds : AreOfDistricts (problem_of problem) (drawn_sets problem gs) (length gs) given list) where
     abbrev keys : List (List ℕ × ℕ)
@@ -163,8 +158,8 @@ module _ (problem : ProblemValue) (gs : Grouping) (blocks : List Block) (lines :
     crossing_so f p =
         let k = p.0 in
         let l = p.1 in
-        let one = stands_from plan by.blocks_sorted listed by.listing_is given by.given_sorted by.giving_is ds.found ds.found_sorted ds.standing_is k.0 k.1 p.2 in
-        let other = stands_from plan by.blocks_sorted listed by.listing_is given by.given_sorted by.giving_is ds.found ds.found_sorted ds.standing_is l.0 l.1 p.3 in
+        let one = stands_from plan by.blocks_sorted listed by.listing_is given by.given_are ds.found ds.found_sorted ds.standing_is k.0 k.1 p.2 in
+        let other = stands_from plan by.blocks_sorted listed by.listing_is given by.given_are ds.found ds.found_sorted ds.standing_is l.0 l.1 p.3 in
         let is : IsCrossing plan k.0 (name_at (length gs) k.1) (name_at (length gs) l.1) = record {
           one = one.0;
           other = other.0;
@@ -178,8 +173,8 @@ module _ (problem : ProblemValue) (gs : Grouping) (blocks : List Block) (lines :
 
     crossing_there : (label : List ℕ) (s t : Set) → IsCrossing plan label s t → Contains (crossings (length gs) keys) (findings.Crosses label s t)
     crossing_there label s t is =
-        let a = stands_to plan by.blocks_sorted listed by.listing_is given by.given_sorted by.giving_is ds.found ds.found_sorted ds.standing_is label is.one is.in_one in
-        let b = stands_to plan by.blocks_sorted listed by.listing_is given by.given_sorted by.giving_is ds.found ds.found_sorted ds.standing_is label is.other is.in_other in
+        let a = stands_to plan by.blocks_sorted listed by.listing_is given by.given_are ds.found ds.found_sorted ds.standing_is label is.one is.in_one in
+        let b = stands_to plan by.blocks_sorted listed by.listing_is given by.given_are ds.found ds.found_sorted ds.standing_is label is.other is.in_other in
         let first : name_at (length gs) a.0 ≡ s = sym (names a.0 is.one a.1) ∙ is.one_is in
         let second : name_at (length gs) b.0 ≡ t = sym (names b.0 is.other b.1) ∙ is.other_is in
         let lesser : IsLesserKey (set_key (name_at (length gs) a.0)) (set_key (name_at (length gs) b.0)) =
@@ -201,7 +196,7 @@ module _ (problem : ProblemValue) (gs : Grouping) (blocks : List Block) (lines :
           name_is = refl;
           seats_are = refl;
           counted = subst (λ (i : ℕ). (labels : List (List ℕ)) × EachOnce (λ (label : List ℕ). HasBlockIn plan label w.1) labels × (length labels ≡ districts_at i keys)) (sym at)
-              (has_districts plan by.blocks_sorted listed by.listing_is given by.given_sorted by.giving_is ds.found ds.found_sorted ds.standing_is alone w.1 w.0 w.2);
+              (has_districts plan by.blocks_sorted listed by.listing_is given by.given_are ds.found ds.found_sorted ds.standing_is alone w.1 w.0 w.2);
           wrong = w.3;
         } in
         subst (λ (g : Finding). IsFinding problem plan g) w.4 is
@@ -211,7 +206,7 @@ module _ (problem : ProblemValue) (gs : Grouping) (blocks : List Block) (lines :
         let p = contains_item (drawn_sets problem gs) is.set is.stands in
         let at : p.0 ≡ 0 + p.0 = omega arith in
         let count : districts ≡ districts_at (0 + p.0) keys =
-        districts_are plan by.blocks_sorted listed by.listing_is given by.given_sorted by.giving_is ds.found ds.found_sorted ds.standing_is alone is.set p.0 districts p.1 is.counted ∙ ap (λ (i : ℕ). districts_at i keys) at in
+        districts_are plan by.blocks_sorted listed by.listing_is given by.given_are ds.found ds.found_sorted ds.standing_is alone is.set p.0 districts p.1 is.counted ∙ ap (λ (i : ℕ). districts_at i keys) at in
         let there = of_numbers keys 0 (drawn_sets problem gs) p.0 is.set p.1 (λ (e : districts_at (0 + p.0) keys ≡ is.set.seats). is.wrong (count ∙ e ∙ is.seats_are)) in
         subst (λ (n : ℕ). Contains (numbers_from keys 0 (drawn_sets problem gs)) (findings.WrongNumber name seats n)) (sym count)
         (subst (λ (n : ℕ). Contains (numbers_from keys 0 (drawn_sets problem gs)) (findings.WrongNumber name n (districts_at (0 + p.0) keys))) is.seats_are
@@ -227,18 +222,18 @@ module _ (problem : ProblemValue) (gs : Grouping) (blocks : List Block) (lines :
         let s = size_from ds.bounds.0 ds.bounds.1 e.0 f e.2 in
         let entry : lookup (is_at (slice_cmp nat_cmp e.0.0)) ds.sums ≡ Some e.0.1 =
         lookup-from_Contains (eq_by_cmp_equiv nat_list_cmp_total) e.0.0 e.0.1 ds.sums (IsDistinct-from_sorted (slice_cmp nat_cmp) (map (λ (x : List ℕ × ℕ). x.0) ds.sums) ds.sums_sorted) e.1 in
-        let d = district_of_sum plan by.blocks_sorted listed by.listing_is given by.given_sorted by.giving_is e.0.0 e.0.1 (sym (ds.sums_are e.0.0) ∙ entry) in
+        let d = district_of_sum plan by.blocks_sorted listed by.listing_is given by.given_are e.0.0 e.0.1 (sym (ds.sums_are e.0.0) ∙ entry) in
         let is : IsWrongSize problem plan e.0.0 e.0.1 = record {
           district = d.0;
-          counted = subst (λ (n : ℕ). HasPeople plan e.0.0 n) (sym d.1) (has_people plan by.blocks_sorted listed by.listing_is given by.given_sorted by.giving_is e.0.0);
+          counted = subst (λ (n : ℕ). HasPeople plan e.0.0 n) (sym d.1) (has_people plan by.blocks_sorted listed by.listing_is given by.given_are e.0.0);
           wrong = λ (suits : Suits (problem_of problem) e.0.1 1). s.0 ((ds.law e.0.1).0 suits);
         } in
         subst (λ (g : Finding). IsFinding problem plan g) s.1 is
 
     size_there : (label : List ℕ) (people : ℕ) → IsWrongSize problem plan label people → Contains sizes (findings.DistrictSize label people)
     size_there label people is =
-        let sum : people ≡ people_sum plan by.blocks_sorted listed by.listing_is given by.given_sorted by.giving_is label = people_are plan by.blocks_sorted listed by.listing_is given by.given_sorted by.giving_is label people is.counted in
-        let known : district_people given label ≡ Some people = sum_of_district plan by.blocks_sorted listed by.listing_is given by.given_sorted by.giving_is label is.district ∙ ap (λ (n : ℕ). Some n) (sym sum) in
+        let sum : people ≡ people_sum plan by.blocks_sorted listed by.listing_is given by.given_are label = people_are plan by.blocks_sorted listed by.listing_is given by.given_are label people is.counted in
+        let known : district_people given label ≡ Some people = sum_of_district plan by.blocks_sorted listed by.listing_is given by.given_are label is.district ∙ ap (λ (n : ℕ). Some n) (sym sum) in
         let entry : Contains ds.sums (label, people) = Contains-from_lookup {eq = eq_by_cmp (slice_cmp nat_cmp)} label_tied label people ds.sums (ds.sums_are label ∙ known) in
         chosen_to (size_finding ds.bounds.0 ds.bounds.1) ds.sums (label, people) (findings.DistrictSize label people) entry
         (size_to ds.bounds.0 ds.bounds.1 label people (λ within. is.wrong ((ds.law people).1 within)))

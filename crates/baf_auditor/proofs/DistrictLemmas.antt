@@ -17,11 +17,11 @@ use Rattle.pl94_counties.proofs.TraceLemmas.{contains_head, contains_tail, conta
 use Rattle.baf_auditor.specs.Labels.{assigns}
 use Rattle.baf_auditor.specs.Findings.{DrawnSet, Plan, county_of_block, set_of_county, IsListedBlock, IsGivenTo, HasBlockIn, IsDistrict, EachOnce, HasDistricts, HasPeople}
 use Rattle.baf_auditor.specs.Listing.{place_of, listing}
-use Rattle.baf_auditor.specs.Giving.{by_label, gives, giving}
+use Rattle.baf_auditor.specs.Giving.{by_label, gives, AreGiven}
 use Rattle.baf_auditor.specs.Districts.{GivenBlock, people_after, district_people, is_place, shows, after_shown, stands_after, standing, districts_at}
 use Rattle.baf_auditor.proofs.KindLemmas.{FoundListed, found_listed, listed_found, both, same_number, number_same}
 use Rattle.baf_auditor.proofs.GivingLemmas.{tied_key}
-use Rattle.baf_auditor.proofs.ListLemmas.{Apart, pairs_from_apart, once_total, chosen_from, chosen_to, chosen_apart, weight, total_chosen, sorted_apart, any_from, any_to, mapped_from, mapped_to, apart_from_map}
+use Rattle.baf_auditor.proofs.ListLemmas.{Apart, pairs_from_apart, apart_from_pairs, once_total, chosen_from, chosen_to, chosen_apart, weight, total_chosen, sorted_apart, any_from, any_to, mapped_from, mapped_to, apart_from_map}
 
 -- ---- labels and keys
 pub label_same : (a b : List ℕ) → bytes_eq a b ≡ true → a ≡ b
@@ -118,8 +118,7 @@ module _ (drawn : List DrawnSet) where
 -- ---- the districts of a plan, by the listed blocks that lines give to them
 module _ (plan : Plan) (blocks_sorted : IsStrictlySortedBy nat_cmp (map (λ b. b.code) plan.blocks)) (listed : ℕ → Option ℕ)
     (listing_is : (code : ℕ) → listed code ≡ listing plan.drawn plan.blocks code)
-    (given : List GivenBlock) (given_sorted : IsStrictlySortedBy by_label (map (λ e. e.0) given))
-    (giving_is : (key : List ℕ × ℕ) → lookup (is_at (by_label key)) given ≡ giving listed plan.lines key) where
+    (given : List GivenBlock) (given_are : AreGiven listed plan.lines given) where
   line_gives : (code : ℕ) (label : List ℕ) → IsGivenTo plan code label → list_any (gives (label, code)) plan.lines ≡ true
   line_gives code label g = any_to (gives (label, code)) plan.lines g.line g.stands
       (both_true (assigns g.line.label) (bytes_eq g.line.label label && g.line.block == code) (ap assigns g.labelled ∙ g.assigned)
@@ -137,15 +136,15 @@ module _ (plan : Plan) (blocks_sorted : IsStrictlySortedBy nat_cmp (map (λ b. b
   FoundGiven label code people = IsGivenTo plan code label × (listing plan.drawn plan.blocks code ≡ Some people)
 
   pub given_from : (label : List ℕ) (code people : ℕ) → Contains given ((label, code), people) → FoundGiven label code people
-  given_from label code people h = by (list_any (gives (label, code)) plan.lines) refl (sym (giving_is (label, code)) ∙ entry_to given given_sorted (label, code) people h)
+  given_from label code people h = by (list_any (gives (label, code)) plan.lines) refl ((given_are.are (label, code) people).0 h)
     where
       by : (b : Bool) → list_any (gives (label, code)) plan.lines ≡ b → (if b then listed code else None) ≡ Some people → FoundGiven label code people
       by true is there = (given_line code label is, sym (listing_is code) ∙ there)
       by false is there = cc
 
   pub given_to : (block : Block) (label : List ℕ) → IsListedBlock plan block → IsGivenTo plan block.code label → Contains given ((label, block.code), block.people)
-  given_to block label is g = entry_from given given_sorted (label, block.code) block.people
-      (giving_is (label, block.code) ∙ ap (λ (b : Bool). if b then listed block.code else None) (line_gives block.code label g) ∙ listing_is block.code ∙ listed_found plan blocks_sorted block is)
+  given_to block label is g = (given_are.are (label, block.code) block.people).1
+      (ap (λ (b : Bool). if b then listed block.code else None) (line_gives block.code label g) ∙ listing_is block.code ∙ listed_found plan blocks_sorted block is)
 
   -- each of them is a listed block
   pub is_listed : (e : GivenBlock) → Contains given e → FoundListed plan blocks_sorted e.0.1 e.1
@@ -185,7 +184,7 @@ module _ (plan : Plan) (blocks_sorted : IsStrictlySortedBy nat_cmp (map (λ b. b
 
   blocks_of_label : (label : List ℕ) → EachOnce (IsBlockOf label) (filter_map (block_of_label label) given)
   blocks_of_label label = record {
-    once = pairs_from_apart (filter_map (block_of_label label) given) (chosen_apart (block_of_label label) alone given (apart_from_map (λ (e : GivenBlock). e.0) given (keys_apart given given_sorted)));
+    once = pairs_from_apart (filter_map (block_of_label label) given) (chosen_apart (block_of_label label) alone given (apart_from_map (λ (e : GivenBlock). e.0) given (apart_from_pairs (map (λ (e : GivenBlock). e.0) given) given_are.once)));
     are = λ block. (from block, to block);
   }
     where

@@ -1,6 +1,6 @@
 -- The districts of a plan are those that the lists of their people, sets and counties have.
-use Rattle.std.proofs.Common.{◌≡◌, ℕ, ◌<◌, ◌&&◌, ◌⊎◌, inl, inr, ◌==◌, Bool, true, false, List, [], ◌∷◌, length, map, Contains, Option, Some, None, refl, sym, ap, ◌∙◌, subst, if◌then◌else◌}
-use Rattle.std.specs.List.{All, filter_map}
+use Rattle.std.proofs.Common.{◌≡◌, ℕ, ◌<◌, ◌⊎◌, inl, inr, ◌==◌, Bool, true, false, List, [], ◌∷◌, length, map, Contains, Option, Some, None, refl, sym, ap, ◌∙◌, subst, if◌then◌else◌}
+use Rattle.std.specs.List.{filter_map}
 use Rattle.std.specs.List.Sorted.{IsStrictlySortedBy}
 use Rattle.std.specs.Map.{lookup}
 use Rattle.std.specs.Ordering.{nat_cmp, eq_by_cmp, is_eq}
@@ -88,7 +88,7 @@ module _ (problem : ProblemValue) (gs : Grouping) (blocks : List Block) (lines :
     set_from label name h =
         let l = chosen_from (of_label (name_at (length gs)) label) places name h in
         let own = label_from (name_at (length gs)) label l.0 name l.2 in
-        let s = stands_from plan by.blocks_sorted listed by.listing_is given by.given_sorted by.giving_is found found_sorted standing_is l.0.0 l.0.1 l.1 in
+        let s = stands_from plan by.blocks_sorted listed by.listing_is given by.given_are found found_sorted standing_is l.0.0 l.0.1 l.1 in
         record {
           set = s.0;
           name_is = drawn_named gs problem.withdrawn l.0.1 s.0 s.1 ∙ own.1;
@@ -97,7 +97,7 @@ module _ (problem : ProblemValue) (gs : Grouping) (blocks : List Block) (lines :
 
     set_to : (label : List ℕ) (name : Set) → HasBlockInNamed plan label name → Contains (sets_of label) name
     set_to label name is =
-        let p = stands_to plan by.blocks_sorted listed by.listing_is given by.given_sorted by.giving_is found found_sorted standing_is label is.set is.has in
+        let p = stands_to plan by.blocks_sorted listed by.listing_is given by.given_are found found_sorted standing_is label is.set is.has in
         let named : name_at (length gs) p.0 ≡ name = sym (drawn_named gs problem.withdrawn p.0 is.set p.1) ∙ is.name_is in
         chosen_to (of_label (name_at (length gs)) label) places (label, p.0) name p.2 (label_to (name_at (length gs)) label p.0 ∙ ap (λ (s : Set). Some s) named)
 
@@ -119,8 +119,8 @@ module _ (problem : ProblemValue) (gs : Grouping) (blocks : List Block) (lines :
         let own = shown.0 in
         let parts = both (bytes_eq own.0 label) (county_of_block own.1 == county) shown.2 in
         let e = mapped_from (λ (e : GivenBlock). e.0) given own shown.1 in
-        let block = is_listed plan by.blocks_sorted listed by.listing_is given by.given_sorted by.giving_is e.0 e.1 in
-        let line : IsGivenTo plan e.0.0.1 e.0.0.0 = (given_from plan by.blocks_sorted listed by.listing_is given by.given_sorted by.giving_is e.0.0.0 e.0.0.1 e.0.1 e.1).0 in
+        let block = is_listed plan by.blocks_sorted listed by.listing_is given by.given_are e.0 e.1 in
+        let line : IsGivenTo plan e.0.0.1 e.0.0.0 = (given_from plan by.blocks_sorted listed by.listing_is given by.given_are e.0.0.0 e.0.0.1 e.0.1 e.1).0 in
         let same : e.0.0.0 ≡ label = ap (λ (k : List ℕ × ℕ). k.0) e.2 ∙ label_same own.0 label parts.0 in
         let code : block.0.code ≡ own.1 = block.2 ∙ ap (λ (k : List ℕ × ℕ). k.1) e.2 in
         record {
@@ -133,7 +133,7 @@ module _ (problem : ProblemValue) (gs : Grouping) (blocks : List Block) (lines :
     shown_to : (label : List ℕ) (county : ℕ) → HasBlockInCounty plan label county → Contains counties.keys (label, county)
     shown_to label county is =
         let code = is.block.code in
-        let entry = given_to plan by.blocks_sorted listed by.listing_is given by.given_sorted by.giving_is is.block label is.listed is.given in
+        let entry = given_to plan by.blocks_sorted listed by.listing_is given by.given_are is.block label is.listed is.given in
         let shown : shows_county (label, county) (label, code) ≡ true = both_true (bytes_eq label label) (county_of_block code == county) (same_label label label refl) (number_same (county_of_block code) county is.county_is) in
         key_from counties (label, county) (counties_are (label, county) ∙ any_to (shows_county (label, county)) (map (λ (e : GivenBlock). e.0) given) (label, code) (mapped_to (λ (e : GivenBlock). e.0) given ((label, code), is.block.people) entry) shown)
 
@@ -166,11 +166,11 @@ module _ (problem : ProblemValue) (gs : Grouping) (blocks : List Block) (lines :
         let entry : Contains sums (d.label, d.people) = subst (λ (es : List (List ℕ × ℕ)). Contains es (d.label, d.people)) list_is.people (mapped_to (λ (e : District). (e.label, e.people)) list d h) in
         let known : lookup (is_at (slice_cmp nat_cmp d.label)) sums ≡ Some d.people =
         lookup-from_Contains (eq_by_cmp_equiv nat_list_cmp_total) d.label d.people sums (IsDistinct-from_sorted (slice_cmp nat_cmp) (map (λ (e : List ℕ × ℕ). e.0) sums) sums_sorted) entry in
-        let own = district_of_sum plan by.blocks_sorted listed by.listing_is given by.given_sorted by.giving_is d.label d.people (sym (sums_are d.label) ∙ known) in
+        let own = district_of_sum plan by.blocks_sorted listed by.listing_is given by.given_are d.label d.people (sym (sums_are d.label) ∙ known) in
         let is : IsListedBy (length gs) (map (λ (e : (List ℕ × ℕ) × Unit {0}). e.0) found) counties.keys d = All-contains (IsListedBy (length gs) (map (λ (e : (List ℕ × ℕ) × Unit {0}). e.0) found) counties.keys) list d list_is.each h in
         record {
           district = own.0;
-          people = subst (λ (n : ℕ). HasPeople plan d.label n) (sym own.1) (has_people plan by.blocks_sorted listed by.listing_is given by.given_sorted by.giving_is d.label);
+          people = subst (λ (n : ℕ). HasPeople plan d.label n) (sym own.1) (has_people plan by.blocks_sorted listed by.listing_is given by.given_are d.label);
           sets = subst (λ (l : List Set). AreItsSets plan d.label l) (sym is.sets) (are_its_sets found found_sorted standing_is d.label);
           counties = subst (λ (l : List ℕ). AreCodesWith (HasBlockInCounty plan d.label) l) (sym is.counties_are) (are_its_counties counties counties_sorted counties_are d.label);
         }
@@ -184,8 +184,8 @@ module _ (problem : ProblemValue) (gs : Grouping) (blocks : List Block) (lines :
 
     every : (label : List ℕ) → IsDistrict plan label → Contains (map (λ (d : District). d.label) list) label
     every label is =
-        let known = sums_are label ∙ sum_of_district plan by.blocks_sorted listed by.listing_is given by.given_sorted by.giving_is label is in
-        let people = people_sum plan by.blocks_sorted listed by.listing_is given by.given_sorted by.giving_is label in
+        let known = sums_are label ∙ sum_of_district plan by.blocks_sorted listed by.listing_is given by.given_are label is in
+        let people = people_sum plan by.blocks_sorted listed by.listing_is given by.given_are label in
         let entry : Contains sums (label, people) = Contains-from_lookup {eq = eq_by_cmp (slice_cmp nat_cmp)} label_tied label people sums known in
         subst (λ (ls : List (List ℕ)). Contains ls label) labels (mapped_to (λ (e : List ℕ × ℕ). e.0) sums (label, people) entry)
 

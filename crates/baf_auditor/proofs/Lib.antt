@@ -2,9 +2,13 @@ pub mod RowLemmas
 pub mod ListLemmas
 pub mod NamingLemmas
 pub mod ListingLemmas
+pub mod EntryLemmas
+pub mod LineLemmas
+pub mod ListedLemmas
 pub mod KindLemmas
 pub mod GivingLemmas
 pub mod DistrictLemmas
+pub mod GivenLemmas
 pub mod OrderLemmas
 pub mod CrossingLemmas
 pub mod NumberLemmas

@@ -1,8 +1,8 @@
 -- The listed blocks that lines give to districts.
-use Rattle.std.specs.Prelude.{ℕ, ◌==◌, ◌&&◌, Bool, List, Option, None, if◌then◌else◌}
+use Rattle.std.specs.Prelude.{◌≡◌, ◌≢◌, ◌↔◌, ℕ, ◌==◌, ◌&&◌, Bool, List, map, Contains, AllPairs, Option, Some, None, if◌then◌else◌}
 use Rattle.std.specs.List.{list_any}
 use Rattle.std.specs.Str.{bytes_eq}
-use Rattle.std.specs.Option.{option_or}
+use Rattle.std.specs.Option.{option_map}
 use Rattle.std.specs.Ordering.{nat_cmp, ordering_then}
 use Rattle.std.specs.declared.cmp.Ordering.{Ordering}
 use Rattle.std.specs.Cmp.Lexicographic.{slice_cmp}
@@ -21,6 +21,12 @@ gives key line = assigns line.label && (bytes_eq line.label key.0 && line.block 
 abbrev pub giving : (ℕ → Option ℕ) → List Assignment → List ℕ × ℕ → Option ℕ
 giving listed lines key = if list_any (gives key) lines then listed key.1 else None
 
--- the people of a listed block that lines give to a district, after a further line
-abbrev pub after_given : (ℕ → Option ℕ) → List ℕ × ℕ → Option ℕ → Assignment → Option ℕ
-after_given listed key before line = if gives key line then option_or (listed key.1) before else before
+-- the listed block that a line gives to a district, with its label and its people, if it gives one
+abbrev pub given_entry : (ℕ → Option ℕ) → Assignment → Option ((List ℕ × ℕ) × ℕ)
+given_entry listed line =
+    if assigns line.label then option_map (λ people. ((line.label, line.block), people)) (listed line.block) else None
+
+-- a list has each listed block that lines give to a district once for each label, with its people, and nothing else
+pub record AreGiven (listed : ℕ → Option ℕ) (lines : List Assignment) (given : List ((List ℕ × ℕ) × ℕ)) : Type 0 where
+  pub once : AllPairs (λ x y. x ≢ y) (map (λ e. e.0) given)
+  pub are : (key : List ℕ × ℕ) (people : ℕ) → Contains given (key, people) ↔ (giving listed lines key ≡ Some people)

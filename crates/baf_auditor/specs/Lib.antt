@@ -1,6 +1,8 @@
 pub mod Labels
+pub mod LabelBytes
 pub mod Assignments
 pub mod Findings
+pub mod Order
 pub mod Naming
 pub mod Listing
 pub mod Giving

@@ -19,6 +19,11 @@ place_of drawn county = position_from (λ set. contains set.codes county) 0 draw
 abbrev pub people_in_set : List DrawnSet → Block → Option ℕ
 people_in_set drawn block = if is_some (place_of drawn (county_of_block block.code)) then Some block.people else None
 
+-- the code of a listed block and its people, if its county is in a set
+abbrev pub entry_in : List DrawnSet → Block → Option (ℕ × ℕ)
+entry_in drawn block =
+    if is_some (place_of drawn (county_of_block block.code)) then Some (block.code, block.people) else None
+
 -- the people of the block of a code after a further block
 abbrev pub after_block : List DrawnSet → ℕ → Option ℕ → Block → Option ℕ
 after_block drawn code before block =

@@ -1,7 +1,7 @@
 //! The audit of a plan over a problem and a grouping: all findings, in their order.
 
 ghost use Rattle.std.specs.Prelude.{◌≡◌, ◌≢◌, ◌<◌, ◌≤◌, ◌↔◌, [], ◌∷◌, length, map, All, IfOk, OnOk, MatchOption};
-ghost use Rattle.std.specs.{List.Sorted.IsStrictlyIncreasing, BTreeMap.{btree_map_len, keys}};
+ghost use Rattle.std.specs.{List.Sorted.IsStrictlyIncreasing, BTreeMap.btree_map_len};
 ghost use Rattle.county_codes.specs.Limits.{most_counties};
 ghost use Rattle.grouping_laws.specs.Grouping.{Lawful};
 ghost use Rattle.county_problem.specs.{ProblemValue.problem_of, Judging.IsFault};
@@ -12,19 +12,18 @@ ghost use Rattle.baf_auditor.specs.declared.finding.Finding.TheVariants as findi
 
 use crate::assignments::Assignment;
 use crate::block_findings::{CodeKind, add_codes};
-use crate::block_kinds::block_kinds;
+use crate::block_kinds::{BlockKinds, block_kinds};
 use crate::crossings::add_crossings;
-use crate::district_blocks::given_blocks;
+use crate::district_blocks::{Given, given_blocks};
 use crate::district_sets::{listed_places, standing_places};
 use crate::finding::{Finding, Findings};
-use crate::label::Label;
+use crate::lines_by_block::lines_by_block;
 use crate::numbers::{add_group_numbers, add_withdrawn_numbers};
 use crate::sizes::{add_sizes, people_by_label};
 use county_codes::Grouping;
 use county_problem::{GroupingFault, Problem, judge};
 use pl94_counties::Block;
 use std::alloc::{AllocError, Global};
-use std::collections::BTreeMap;
 
 /// Appends to `findings` those of districts: those that cross, then wrong numbers, then wrong sizes. `given` has the
 /// people of each listed block that a district is given, by label and code.
@@ -33,12 +32,12 @@ fn add_district_findings(
     findings: &mut Vec<Finding>,
     problem: &Problem,
     grouping: &Grouping,
-    given: &BTreeMap<(Label, u64), u32>,
+    given: &[Given<'_>],
 ) -> Result<(), AllocError>
     requires few_groups { length grouping.now.groups.items ≤ most_counties }
-    requires few { btree_map_len given.now ≤ 4000000 }
-    requires fits { All (λ k. k.1 < 1000000000000000) (keys given.now) }
-    ensures { OnOk result (AddsOfDistricts (problem_of problem.now) (drawn_sets problem.now grouping.now.groups.items) (length grouping.now.groups.items) given.now.entries findings.old.items findings.new.items) }
+    requires few { length given.now ≤ 4000000 }
+    requires fits { All (λ e. e.0.1 < 1000000000000000) given.now }
+    ensures { OnOk result (AddsOfDistricts (problem_of problem.now) (drawn_sets problem.now grouping.now.groups.items) (length grouping.now.groups.items) given.now findings.old.items findings.new.items) }
 {
     let groups = grouping.groups.as_slice();
     let sets = problem.withdrawn();
@@ -67,12 +66,19 @@ fn plan_findings(
     requires few { length lines.now ≤ 4000000 }
     ensures { IfOk result (λ v. AreAll (IsFinding problem.now (plan_of problem.now grouping.now.groups.items blocks.now lines.now)) v.items) }
 {
-    let kinds = block_kinds(alloc, problem, grouping, blocks, lines)?;
+    let ordered = lines_by_block(alloc, lines)?;
+    let kinds = block_kinds(alloc, problem, grouping, blocks, lines, &ordered)?;
+    let BlockKinds {
+        unknown,
+        twice,
+        unassigned,
+        listed,
+    } = kinds;
+    let given = given_blocks(alloc, listed, ordered)?;
     let mut findings = Vec::new(alloc);
-    add_codes(&mut findings, CodeKind::Unknown, &kinds.unknown)?;
-    add_codes(&mut findings, CodeKind::Twice, &kinds.twice)?;
-    add_codes(&mut findings, CodeKind::Unassigned, &kinds.unassigned)?;
-    let given = given_blocks(alloc, &kinds.listed, lines)?;
+    add_codes(&mut findings, CodeKind::Unknown, &unknown)?;
+    add_codes(&mut findings, CodeKind::Twice, &twice)?;
+    add_codes(&mut findings, CodeKind::Unassigned, &unassigned)?;
     add_district_findings(alloc, &mut findings, problem, grouping, &given)?;
     Ok(findings)
 }

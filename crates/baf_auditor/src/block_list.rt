@@ -1,15 +1,16 @@
 //! The listed census blocks with their people, and the set of counties in which a block lies.
 
-ghost use Rattle.std.specs.{Prelude.{◌≡◌, ◌<◌, ◌+◌, ℕ, Some, IfOk, IfSome, OnOk, All, length}, List.position_from};
-ghost use Rattle.std.specs.{Ordering.nat_cmp, BTreeMap.get};
+ghost use Rattle.std.specs.Prelude.{◌≡◌, ◌<◌, ◌+◌, ◌++◌, ℕ, Some, IfOk, IfSome, OnOk, All, length, map};
+ghost use Rattle.std.specs.{List.position_from, Option.option_to_list};
+ghost use Rattle.std.specs.{List.Sorted.{IsStrictlyIncreasing, IsStrictlySortedBy}, Ordering.nat_cmp};
+ghost use Rattle.std.specs.{Map.lookup, BTreeMap.is_at};
 ghost use Rattle.grouping_laws.specs.Sets.{contains};
-ghost use Rattle.baf_auditor.specs.{Findings.{county_of_block, drawn_sets}, Listing.{place_of, after_block, listing}};
+ghost use Rattle.baf_auditor.specs.{Findings.{county_of_block, drawn_sets}, Listing.{place_of, entry_in, listing}};
 
 use county_codes::{CountyCode, Group, Grouping, Withdrawn, has_code};
 use county_problem::Problem;
 use pl94_counties::Block;
 use std::alloc::{AllocError, Global};
-use std::collections::BTreeMap;
 
 /// What a block's number is divided by to give its county's.
 const BLOCKS_OF_COUNTY: u64 = 10_000_000_000;
@@ -60,39 +61,70 @@ pub(crate) fn place_of_block(problem: &Problem, grouping: &Grouping, code: u64) 
     }
 }
 
-/// Adds `block` to the `listed` ones, if its county is in a set.
-fn add_block(
-    listed: &mut BTreeMap<u64, u32>,
+/// Returns what `place_of_block` does. `known` has a county and the place of the set that has it, and afterwards those
+/// of the block. Blocks of the same county mostly follow each other, so that few are looked for.
+pub(crate) fn place_of_next(
     problem: &Problem,
     grouping: &Grouping,
+    known: &mut (u64, Option<usize>),
+    code: u64,
+) -> Option<usize>
+    requires fits { code < 1000000000000000 }
+    requires known { known.old.1 ≡ place_of (drawn_sets problem.now grouping.now.groups.items) known.old.0 }
+    requires bound { IfSome known.old.1 (λ place. place < length grouping.now.groups.items + 1000) }
+    ensures place { result ≡ place_of (drawn_sets problem.now grouping.now.groups.items) (county_of_block code) }
+    ensures result_bound { IfSome result (λ place. place < length grouping.now.groups.items + 1000) }
+    ensures known { known.new.1 ≡ place_of (drawn_sets problem.now grouping.now.groups.items) known.new.0 }
+    ensures bound { IfSome known.new.1 (λ place. place < length grouping.now.groups.items + 1000) }
+{
+    let county = code / BLOCKS_OF_COUNTY;
+    if county != known.0 {
+        *known = (county, place_of_block(problem, grouping, code));
+    }
+    known.1
+}
+
+/// Appends the code of `block` and its people to the `listed` blocks, if its county is in a set. `known` has a county
+/// and the place of the set that has it.
+fn add_block(
+    listed: &mut Vec<(u64, u32)>,
+    problem: &Problem,
+    grouping: &Grouping,
+    known: &mut (u64, Option<usize>),
     block: &Block,
 ) -> Result<(), AllocError>
-    requires { block.now.code < 1000000000000000 }
-    ensures { OnOk result ((code : ℕ)
-        → get nat_cmp listed.new code
-        ≡ after_block (drawn_sets problem.now grouping.now.groups.items) code (get nat_cmp listed.old code) block.now) }
+    requires fits { block.now.code < 1000000000000000 }
+    requires known { known.old.1 ≡ place_of (drawn_sets problem.now grouping.now.groups.items) known.old.0 }
+    requires bound { IfSome known.old.1 (λ place. place < length grouping.now.groups.items + 1000) }
+    ensures known { known.new.1 ≡ place_of (drawn_sets problem.now grouping.now.groups.items) known.new.0 }
+    ensures bound { IfSome known.new.1 (λ place. place < length grouping.now.groups.items + 1000) }
+    ensures added { OnOk result (listed.new.items
+        ≡ listed.old.items ++ option_to_list (entry_in (drawn_sets problem.now grouping.now.groups.items) block.now)) }
 {
-    if place_of_block(problem, grouping, block.code).is_some() {
-        listed.insert(block.code, block.people)?;
+    if place_of_next(problem, grouping, known, block.code).is_some() {
+        listed.push((block.code, block.people))?;
     }
     Ok(())
 }
 
-/// Returns the people of each listed block by its code. One of `blocks` is listed if its county is in a group of
-/// `grouping` or in a withdrawn set of `problem`.
+/// Returns the listed blocks by code, with their people. One of `blocks`, which ascend by code, is listed if its county
+/// is in a group of `grouping` or in a withdrawn set of `problem`.
 pub(crate) fn listed_blocks(
     alloc: Global,
     problem: &Problem,
     grouping: &Grouping,
     blocks: &[Block],
-) -> Result<BTreeMap<u64, u32>, AllocError>
-    requires { All (λ block. block.code < 1000000000000000) blocks.now }
-    ensures { IfOk result (λ m. (code : ℕ)
-        → get nat_cmp m code ≡ listing (drawn_sets problem.now grouping.now.groups.items) blocks.now code) }
+) -> Result<Vec<(u64, u32)>, AllocError>
+    requires fits { All (λ block. block.code < 1000000000000000) blocks.now }
+    requires ascending { IsStrictlyIncreasing (map (λ block. block.code) blocks.now) }
+    ensures entries { IfOk result (λ v. (code : ℕ)
+        → lookup (is_at (nat_cmp code)) v.items ≡ listing (drawn_sets problem.now grouping.now.groups.items) blocks.now code) }
+    ensures sorted { IfOk result (λ v. IsStrictlySortedBy nat_cmp (map (λ e. e.0) v.items)) }
 {
-    let mut listed = BTreeMap::new(alloc);
+    let mut listed = Vec::new(alloc);
+    let mut known = (0, place_of_block(problem, grouping, 0));
     for block in blocks {
-        add_block(&mut listed, problem, grouping, block)?;
+        add_block(&mut listed, problem, grouping, &mut known, block)?;
     }
     Ok(listed)
 }

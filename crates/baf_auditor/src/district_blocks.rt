@@ -1,50 +1,78 @@
-//! The listed census blocks that a plan gives to districts, by label and code.
+//! The listed census blocks that a plan gives to districts, with their labels and their people.
 
-ghost use Rattle.std.specs.{Prelude.{◌≡◌, ◌≤◌, ◌+◌, ℕ, List, IfOk, OnOk, length}, Ordering.nat_cmp};
-ghost use Rattle.std.specs.{List.Sorted.IsStrictlySortedBy, BTreeMap.{get, btree_map_len, keys}};
-ghost use Rattle.baf_auditor.specs.Giving.{by_label, after_given, giving};
+ghost use Rattle.std.specs.{Prelude.{◌≡◌, ◌≤◌, IfOk, length, map}, List.{filter_map, Sorted.{IsSorted, IsStrictlySortedBy}}};
+ghost use Rattle.std.specs.{Ordering.nat_cmp, Map.lookup, BTreeMap.is_at};
+ghost use Rattle.baf_auditor.specs.{Order.by_block, Giving.{given_entry, AreGiven}};
 
 use crate::assignments::Assignment;
-use crate::label::Label;
+use crate::entries::value_of;
+use crate::lines_by_block::Line;
 use std::alloc::{AllocError, Global};
-use std::collections::BTreeMap;
+use std::marker::Model;
 
-/// Adds to `given` the listed block that `line` gives to a district, if it gives one.
-fn add_given(
-    given: &mut BTreeMap<(Label, u64), u32>,
-    listed: &BTreeMap<u64, u32>,
-    line: &Assignment,
-) -> Result<(), AllocError>
-    ensures entries { OnOk result ((key : List ℕ × ℕ)
-        → get by_label given.new key
-        ≡ after_given (λ code. get nat_cmp listed.now code) key (get by_label given.old key) line.now) }
-    ensures few { OnOk result (btree_map_len given.new ≤ btree_map_len given.old + 1) }
-    ensures ordered { IsStrictlySortedBy by_label (keys given.old) → IsStrictlySortedBy by_label (keys given.new) }
-{
-    if !line.label.assigns() {
-        return Ok(());
-    }
-    if let Some(people) = listed.get(&line.block).copied() {
-        given.insert((line.label.copy()?, line.block), people)?;
-    }
-    Ok(())
+/// A listed block that a line gives to a district: the label, the block's code, and its people.
+#[derive(Drop)]
+pub(crate) struct Given<'a> {
+    /// The line.
+    pub(crate) assignment: &'a Assignment,
+    /// The people of the block.
+    pub(crate) people: u32,
 }
 
-/// Returns the people of each listed block that `lines` give to a district, by label and code. A block stands once for
-/// each district that it is given to.
-pub(crate) fn given_blocks(
-    alloc: Global,
-    listed: &BTreeMap<u64, u32>,
-    lines: &[Assignment],
-) -> Result<BTreeMap<(Label, u64), u32>, AllocError>
-    ensures entries { IfOk result (λ m. (key : List ℕ × ℕ)
-        → get by_label m key ≡ giving (λ code. get nat_cmp listed.now code) lines.now key) }
-    ensures few { IfOk result (λ m. btree_map_len m ≤ length lines.now) }
-    ensures ordered { IfOk result (λ m. IsStrictlySortedBy by_label (keys m)) }
+impl<'a> Model for Given<'a> {
+    ghost use Rattle.baf_auditor.specs.Districts.{GivenBlock};
+
+    ghost Value = { GivenBlock };
+
+    ghost use Rattle.std.specs.Prelude.{◌<◌};
+
+    ghost view = { λ given. ((given.assignment.now.label, given.assignment.now.block), given.people) };
+
+    ghost invariant = { λ given. given.people < 4294967296 };
+}
+
+/// Returns the listed block that `line` gives to a district, if it gives one.
+fn given_entry<'a>(listed: &[(u64, u32)], line: &Line<'a>) -> Option<Given<'a>>
+    requires { IsStrictlySortedBy nat_cmp (map (λ e. e.0) listed.now) }
+    ensures { result ≡ given_entry (λ code. lookup (is_at (nat_cmp code)) listed.now) line.now }
 {
-    let mut given = BTreeMap::new(alloc);
-    for line in lines {
-        add_given(&mut given, listed, line)?;
+    let assignment = line.assignment;
+    if !assignment.label.assigns() {
+        return None;
     }
-    Ok(given)
+    match value_of(listed, assignment.block) {
+        Some(people) => Some(Given { assignment, people }),
+        None => None,
+    }
+}
+
+/// Returns the listed block of each of `lines` that gives one to a district.
+fn given_entries<'a>(
+    alloc: Global,
+    listed: &[(u64, u32)],
+    lines: &[Line<'a>],
+) -> Result<Vec<Given<'a>>, AllocError>
+    requires { IsStrictlySortedBy nat_cmp (map (λ e. e.0) listed.now) }
+    ensures { IfOk result (λ v. v.items ≡ filter_map (given_entry (λ code. lookup (is_at (nat_cmp code)) listed.now)) lines.now) }
+{
+    lines
+        .iter()
+        .filter_map(|line| given_entry(listed, line))
+        .collect(alloc)
+}
+
+/// Returns the listed blocks that `lines` give to districts. The lines are in the order of their blocks. `listed` has the
+/// people of each listed block by its code. A block stands once for each district that it is given to.
+pub(crate) fn given_blocks<'a>(
+    alloc: Global,
+    listed: Vec<(u64, u32)>,
+    mut lines: Vec<Line<'a>>,
+) -> Result<Vec<Given<'a>>, AllocError>
+    requires sorted { IsStrictlySortedBy nat_cmp (map (λ e. e.0) listed.items) }
+    requires ordered { IsSorted by_block lines.items }
+    ensures given { IfOk result (λ v. AreGiven (λ code. lookup (is_at (nat_cmp code)) listed.items) lines.entry.items v.items) }
+    ensures few { IfOk result (λ v. length v.items ≤ length lines.entry.items) }
+{
+    lines.dedup();
+    given_entries(alloc, &listed, &lines)
 }

@@ -1,14 +1,15 @@
 //! The counties in which each district has census blocks.
 
-ghost use Rattle.std.specs.{Prelude.{◌≡◌, ◌<◌, ◌||◌, ℕ, List, All, IfOk, OnOk}, List.Sorted.IsStrictlySortedBy};
-ghost use Rattle.std.specs.{BTreeMap.keys, BTreeSet.contains};
+ghost use Rattle.std.specs.{Prelude.{◌≡◌, ◌<◌, ◌||◌, ℕ, List, All, IfOk, OnOk, map}, List.Sorted.IsStrictlySortedBy};
+ghost use Rattle.std.specs.BTreeSet.{contains};
 ghost use Rattle.baf_auditor.specs.{Giving.by_label, Districts.{shows_county, has_county}};
 
 use crate::block_list::county_of_block;
+use crate::district_blocks::Given;
 use crate::label::Label;
 use county_codes::CountyCode;
 use std::alloc::{AllocError, Global};
-use std::collections::{BTreeMap, BTreeSet};
+use std::collections::BTreeSet;
 
 /// Adds the county of the block `code` to those in which the district of `label` has blocks.
 fn add_county(
@@ -29,14 +30,15 @@ fn add_county(
 /// Returns the districts of `given` with the counties in which they have blocks, by label and county.
 pub(crate) fn given_counties(
     alloc: Global,
-    given: &BTreeMap<(Label, u64), u32>,
+    given: &[Given<'_>],
 ) -> Result<BTreeSet<(Label, CountyCode)>, AllocError>
-    requires { All (λ k. k.1 < 1000000000000000) (keys given.now) }
-    ensures { IfOk result (λ s. (key : List ℕ × ℕ) → contains by_label s key ≡ has_county (keys given.now) key) }
+    requires { All (λ e. e.0.1 < 1000000000000000) given.now }
+    ensures { IfOk result (λ s. (key : List ℕ × ℕ) → contains by_label s key ≡ has_county (map (λ e. e.0) given.now) key) }
 {
     let mut found = BTreeSet::new(alloc);
-    for key in given.keys() {
-        add_county(&mut found, &key.0, key.1)?;
+    for block in given {
+        let line = block.assignment;
+        add_county(&mut found, &line.label, line.block)?;
     }
     Ok(found)
 }

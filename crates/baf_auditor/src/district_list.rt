@@ -16,6 +16,7 @@ use crate::district_counties::{given_counties, listed_counties};
 use crate::district_sets::{listed_places, standing_places};
 use crate::finding::Set;
 use crate::label::Label;
+use crate::lines_by_block::lines_by_block;
 use crate::sizes::people_by_label;
 use county_codes::{CountyCode, Grouping};
 use county_problem::Problem;
@@ -139,11 +140,13 @@ fn districts_of_few(
     ensures { IfOk result (λ v. AreDistricts (plan_of problem.now grouping.now.groups.items blocks.now lines.now) v.items) }
 {
     let listed = listed_blocks(alloc, problem, grouping, blocks)?;
-    let given = given_blocks(alloc, &listed, lines)?;
-    let sums = people_by_label(alloc, &given)?;
-    let found = standing_places(alloc, problem, grouping, &given)?;
-    let standing = listed_places(alloc, found)?;
-    let pairs = given_counties(alloc, &given)?;
+    let ordered = lines_by_block(alloc, lines)?;
+    let found = given_blocks(alloc, listed, ordered)?;
+    let given = found.as_slice();
+    let sums = people_by_label(alloc, given)?;
+    let places = standing_places(alloc, problem, grouping, given)?;
+    let standing = listed_places(alloc, places)?;
+    let pairs = given_counties(alloc, given)?;
     let counties = listed_counties(alloc, pairs)?;
     list_districts(alloc, grouping.groups.len(), &sums, &standing, &counties)
 }

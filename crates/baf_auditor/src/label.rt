@@ -3,7 +3,6 @@
 ghost use Rattle.std.specs.Prelude.{◌≡◌, IfOk};
 ghost use Rattle.baf_auditor.specs.Labels.{is_printable_label, is_label, label_of, assigns};
 
-use smallvec::SmallVec;
 use std::alloc::{AllocError, Global};
 use std::cmp::Ordering;
 use std::marker::Model;
@@ -12,25 +11,37 @@ use std::marker::Model;
 const LONGEST: usize = 32;
 
 /// The most bytes of a label that stand in the value itself. Plans have labels of one to three bytes.
-const INLINE: usize = 16;
+const INLINE: usize = 7;
 
 /// What some files have as the label of a block without a district.
 const NO_DISTRICT: &[u8] = b"ZZZ";
+
+/// Where the bytes of a label stand.
+#[derive(Debug, Drop)]
+enum Bytes {
+    /// In the value itself: how many there are, and an array that begins with them.
+    Inline(u8, [u8; INLINE]),
+    /// In memory of their own.
+    Apart(Box<Vec<u8>>),
+}
 
 /// The label of a district: at most 32 bytes, each from 0x20 to 0x7E, compared byte by byte. The empty label and `ZZZ`
 /// assign nothing.
 #[derive(Debug, Drop)]
 pub struct Label {
-    bytes: SmallVec<u8, INLINE>,
+    bytes: Bytes,
 }
 
 impl Model for Label {
     ghost use Rattle.std.specs.Prelude.{ℕ, List};
+    ghost use Rattle.baf_auditor.specs.LabelBytes.{bytes_of, AreInside};
 
     /// The bytes.
     ghost Value = { List ℕ };
 
-    ghost view = { λ s. s.bytes.items };
+    ghost view = { λ label. bytes_of label.bytes };
+
+    ghost invariant = { λ label. AreInside label.bytes };
 }
 
 impl PartialEq for Label {
@@ -42,7 +53,7 @@ impl PartialEq for Label {
     ghost laws = { partial_equiv_from_equiv nat_list_eq_equiv };
 
     fn eq(&self, other: &Self) -> bool {
-        self.bytes == other.bytes
+        self.as_bytes() == other.as_bytes()
     }
 }
 
@@ -78,7 +89,7 @@ impl Ord for Label {
     ghost matches_eq = { texts_ties };
 
     fn cmp(&self, other: &Self) -> Ordering {
-        self.bytes.cmp(&other.bytes)
+        self.as_bytes().cmp(other.as_bytes())
     }
 }
 
@@ -96,6 +107,24 @@ fn is_label(bytes: &[u8]) -> bool
     bytes.len() <= LONGEST && is_printable(bytes)
 }
 
+impl Bytes {
+    ghost use Rattle.baf_auditor.specs.LabelBytes.{bytes_of, AreInside};
+
+    /// Keeps these `bytes`, in the value itself if it has room for them.
+    fn from_slice(alloc: Global, bytes: &[u8]) -> Result<Bytes, AllocError>
+        ensures same { IfOk result (λ b. bytes_of b ≡ bytes.now) }
+        ensures inside { IfOk result AreInside }
+    {
+        if bytes.len() > INLINE {
+            let apart = Vec::from_slice(alloc, bytes)?;
+            return Ok(Bytes::Apart(Box::new(alloc, apart)?));
+        }
+        let mut inline = [0; INLINE];
+        inline[..bytes.len()].copy_from_slice(bytes);
+        Ok(Bytes::Inline(bytes.len() as u8, inline))
+    }
+}
+
 impl Label {
     /// Creates the label of these `bytes`. Returns `None` exactly if they make no label.
     ///
@@ -109,7 +138,7 @@ impl Label {
             return Ok(None);
         }
         Ok(Some(Label {
-            bytes: SmallVec::from_slice(alloc, bytes)?,
+            bytes: Bytes::from_slice(alloc, bytes)?,
         }))
     }
 
@@ -117,14 +146,17 @@ impl Label {
     pub fn as_bytes(&self) -> &[u8]
         ensures { result.now ≡ self.now }
     {
-        self.bytes.as_slice()
+        match &self.bytes {
+            Bytes::Inline(count, bytes) => &bytes[..usize::from(*count)],
+            Bytes::Apart(bytes) => bytes.as_slice(),
+        }
     }
 
     /// Returns whether the label assigns a block to a district: it isn't empty, and it isn't `ZZZ`.
     pub fn assigns(&self) -> bool
         ensures { result ≡ assigns self.now }
     {
-        !self.bytes.is_empty() && self.bytes.as_slice() != NO_DISTRICT
+        !self.as_bytes().is_empty() && self.as_bytes() != NO_DISTRICT
     }
 
     /// Returns an equal label.
@@ -135,8 +167,10 @@ impl Label {
     pub fn copy(&self) -> Result<Label, AllocError>
         ensures { IfOk result (λ label. label ≡ self.now) }
     {
-        Ok(Label {
-            bytes: self.bytes.clone()?,
-        })
+        let bytes = match &self.bytes {
+            Bytes::Inline(count, bytes) => Bytes::Inline(*count, *bytes),
+            Bytes::Apart(bytes) => Bytes::from_slice(*bytes.allocator(), bytes)?,
+        };
+        Ok(Label { bytes })
     }
 }

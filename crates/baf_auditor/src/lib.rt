@@ -14,10 +14,12 @@ mod district_blocks;
 mod district_counties;
 mod district_list;
 mod district_sets;
+mod entries;
 mod fault;
 mod finding;
 mod label;
 mod line_counts;
+mod lines_by_block;
 mod numbers;
 mod sizes;
 

@@ -1,10 +1,11 @@
 //! The people of each district, and the findings of districts with too few people or too many.
 
-ghost use Rattle.std.specs.{Prelude.{◌≡◌, ◌≤◌, ◌^◌, ◌++◌, ℕ, List, IfOk, OnOk}, List.filter_map};
+ghost use Rattle.std.specs.{Prelude.{◌≡◌, ◌≤◌, ◌^◌, ◌++◌, ℕ, List, IfOk, OnOk, length}, List.filter_map};
 ghost use Rattle.std.specs.{List.Sorted.IsStrictlySortedBy, Option.{unwrap_or, option_to_list}, Ordering.nat_cmp};
-ghost use Rattle.std.specs.{Cmp.Lexicographic.slice_cmp, BTreeMap.{get, btree_map_len, keys}};
+ghost use Rattle.std.specs.{Cmp.Lexicographic.slice_cmp, BTreeMap.{get, keys}};
 ghost use Rattle.baf_auditor.specs.Districts.{with_people, district_people, size_finding};
 
+use crate::district_blocks::Given;
 use crate::finding::Finding;
 use crate::label::Label;
 use std::alloc::{AllocError, Global};
@@ -25,15 +26,15 @@ fn add_people(sums: &mut BTreeMap<Label, u64>, label: &Label, people: u32) -> Re
 /// Returns the people of each district of `given`, by its label: those of its listed blocks, each once.
 pub(crate) fn people_by_label(
     alloc: Global,
-    given: &BTreeMap<(Label, u64), u32>,
+    given: &[Given<'_>],
 ) -> Result<BTreeMap<Label, u64>, AllocError>
-    requires { btree_map_len given.now ≤ 4000000 }
+    requires { length given.now ≤ 4000000 }
     ensures { IfOk result (λ m. (label : List ℕ)
-        → get (slice_cmp nat_cmp) m label ≡ district_people given.now.entries label) }
+        → get (slice_cmp nat_cmp) m label ≡ district_people given.now label) }
 {
     let mut sums = BTreeMap::new(alloc);
-    for (key, people) in given {
-        add_people(&mut sums, &key.0, *people)?;
+    for block in given {
+        add_people(&mut sums, &block.assignment.label, block.people)?;
     }
     Ok(sums)
 }

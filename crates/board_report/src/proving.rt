@@ -5,15 +5,16 @@ ghost use Rattle.county_problem.specs.ProblemValue.{problem_of};
 ghost use Rattle.certificate_data.specs.Round.{Round as RoundValue};
 ghost use Rattle.certificate_data.specs.RoundValue.{round_of};
 ghost use Rattle.board_laws.specs.Content.{Content};
-ghost use Rattle.share_board.specs.{BoardValue.IsOf, Events.event_of, Rounds.IsBoardFault};
+ghost use Rattle.share_board.specs.{BoardValue.{IsOf, IsBoardGraph}, Events.event_of, Rounds.IsBoardFault};
 ghost use Rattle.board_report.specs.PieceText.{HasText};
 ghost use Rattle.board_report.specs.PieceAnswers.{IsAnswerAt, IsAnswered, IsStateHeld, piece_budget};
 ghost use Rattle.board_report.specs.Rounds.{IsFirstRound};
 
-use crate::opening::opened_board;
+use crate::opening::{opened_board, ordered_by_code};
 use crate::shape::BoardShape;
 use crate::taking::take_all;
 use branch_bound::{PieceAnswer, prove_piece};
+use connected_sets::CountyGraph;
 use county_codes::Grouping;
 use county_problem::{Problem, Steps};
 use place_sets::{CountySet, MaskSet, WideSet, fits_mask};
@@ -26,20 +27,21 @@ use std::alloc::{AllocError, Global};
 const PIECE_BUDGET: u64 = 10_000_000;
 
 /// Returns the state of the piece with this `number`, by places of the board's order. Returns `None` if the piece
-/// doesn't wait.
+/// doesn't wait. The `graph` is that of the board.
 ///
 /// # Errors
 ///
 /// Returns an error if memory was refused.
 pub(crate) fn waiting_state<C: CountySet>(
-    alloc: Global,
+    graph: &CountyGraph<C>,
     board: &Board<C>,
     number: u32,
 ) -> Result<Option<State<C>>, AllocError>
-    requires { (b : Content) × IsOf C.test board.now b }
+    requires board { (b : Content) × IsOf C.test board.now b }
+    requires ordered { IsBoardGraph board.now graph.now }
     ensures { (b : Content) → IsOf C.test board.now b → IfOk result (IsStateHeld C.test board.now b number) }
 {
-    match board.hand(alloc, number) {
+    match board.hand(graph, number) {
         Reply::Piece(_, piece, state) => {
             if piece != number {
                 return Ok(None);
@@ -54,7 +56,7 @@ pub(crate) fn waiting_state<C: CountySet>(
 /// Returns what a solver answers for the piece with this `number`, within `steps` steps. Returns `None` if the piece
 /// doesn't wait.
 fn answer_at<C: CountySet>(
-    alloc: Global,
+    graph: &CountyGraph<C>,
     problem: &Problem,
     board: &Board<C>,
     number: u32,
@@ -63,15 +65,22 @@ fn answer_at<C: CountySet>(
     requires board { (b : Content) × IsOf C.test board.now b }
     requires problem { board.now.problem ≡ problem.now }
     requires fits { length board.now.round.order ≤ C.PLACES }
+    requires ordered { IsBoardGraph board.now graph.now }
     ensures answer { (b : Content) → IsOf C.test board.now b
         → IfOk result (IsAnswerAt (problem_of problem.now) b number) }
     ensures text { IfOk result (λ r. IfSome r (HasText board.now.round.format (length board.now.round.order) number)) }
 {
-    let Some(state) = waiting_state(alloc, board, number)? else {
+    let Some(state) = waiting_state(graph, board, number)? else {
         return Ok(None);
     };
     let mut steps = Steps::new(steps);
-    let answer = prove_piece(alloc, problem, board.proof_round(), &state, &mut steps)?;
+    let answer = prove_piece(
+        graph.alloc,
+        problem,
+        board.proof_round(),
+        &state,
+        &mut steps,
+    )?;
     Ok(Some(answer))
 }
 
@@ -96,9 +105,11 @@ fn prove_over<C: CountySet>(
     ensures text { IfOk result (λ r. IfSome r (HasText shape.format (length problem.now.counties) number)) }
 {
     let mut board: Board<C> = opened_board(alloc, problem, grouping, shape, PIECE_BUDGET)?;
+    let ordered = ordered_by_code(alloc, problem)?;
+    let graph = CountyGraph::build(alloc, &ordered)?;
     let mut lists = PartLists::new(alloc);
-    take_all(alloc, &mut board, &mut lists, events)?;
-    Ok(answer_at(alloc, problem, &board, number, steps)?)
+    take_all(&graph, &mut board, &mut lists, events)?;
+    Ok(answer_at(&graph, problem, &board, number, steps)?)
 }
 
 /// Returns what a solver answers, within `steps` steps, for the piece with this `number`, once a board has taken the

@@ -8,9 +8,10 @@ ghost use Rattle.board_report.specs.{Rounds.IsFirstRound, BoardOutcome.IsShared}
 
 use crate::board_outcome::Shared;
 use crate::ending::ended;
-use crate::opening::opened_board;
+use crate::opening::{opened_board, ordered_by_code};
 use crate::shape::BoardShape;
 use crate::taking::take_and_tell;
+use connected_sets::CountyGraph;
 use county_codes::Grouping;
 use county_problem::Problem;
 use place_sets::{CountySet, MaskSet, WideSet, fits_mask};
@@ -37,9 +38,11 @@ fn share_over<C: CountySet>(
         (IsBoardFault (problem_of problem.now) shape.depth budget grouping.now.groups.items round) }
 {
     let mut board: Board<C> = opened_board(alloc, problem, grouping, shape, budget)?;
+    let ordered = ordered_by_code(alloc, problem)?;
+    let graph = CountyGraph::build(alloc, &ordered)?;
     let mut text = Vec::new(alloc);
     let mut lists = PartLists::new(alloc);
-    take_and_tell(alloc, &mut board, &mut lists, events, &mut text)?;
+    take_and_tell(&graph, &mut board, &mut lists, events, &mut text)?;
     Ok(ended(alloc, &board, text)?)
 }
 

@@ -1,28 +1,31 @@
 //! Events, taken by a board in turn.
 
-ghost use Rattle.std.specs.Prelude.{◌≡◌, ◌≢◌, ℕ, ◌++◌, ◌≤◌, Bool, false, List, length, map, OnOk};
+ghost use Rattle.std.specs.Prelude.{◌≡◌, ◌≢◌, ℕ, ◌++◌, Bool, false, List, map, OnOk};
+ghost use Rattle.connected_sets.specs.Graphs.{IsGraph};
 ghost use Rattle.county_problem.specs.ProblemValue.{problem_of};
 ghost use Rattle.board_laws.specs.Content.{Content, Reply as ReplyValue, Memory};
-ghost use Rattle.share_board.specs.{BoardValue.{IsOf, Follows, Keeps, AreBoardLists, reply_of}, Events.event_of};
+ghost use Rattle.share_board.specs.{BoardValue.{IsOf, Follows, Keeps, IsBoardGraph, AreBoardLists, reply_of}, Events.event_of};
 ghost use Rattle.share_board.specs.Replies.{IsReply};
 ghost use Rattle.board_report.specs.{ReplyLines.reply_line, Taking.{HasTold, HasHeard}};
 
 use crate::reply_lines::push_reply;
+use connected_sets::CountyGraph;
 use place_sets::CountySet;
 use search_groups::PartLists;
 use share_board::{Board, Event, Reply};
-use std::alloc::{AllocError, Global};
+use std::alloc::AllocError;
 
-/// Takes `event`, and appends the line of the reply to `text`.
+/// Takes `event`, and appends the line of the reply to `text`. The `graph` is that of the board.
 fn tell_one<C: CountySet>(
-    alloc: Global,
+    graph: &CountyGraph<C>,
     board: &mut Board<C>,
     lists: &mut PartLists<C>,
     event: Event,
     text: &mut Vec<u8>,
 ) -> Result<(), AllocError>
     requires board { (b : Content) × IsOf C.test board.old b }
-    requires fits { length board.old.round.order ≤ C.PLACES }
+    requires graph { IsGraph C.test C.PLACES graph.now }
+    requires ordered { IsBoardGraph board.old graph.now }
     requires lists { AreBoardLists C.test board.old lists.old }
     ensures lists { AreBoardLists C.test board.new lists.new }
     ensures told { OnOk
@@ -35,20 +38,21 @@ fn tell_one<C: CountySet>(
         × (text.new.items ≡ text.old.items ++ reply_line reply)) }
     ensures keeps { Keeps board.old board.new }
 {
-    let reply = board.step(alloc, lists, event);
+    let reply = board.step(graph, lists, event);
     push_reply(text, &reply)
 }
 
-/// Takes the `events` in turn, and appends the line of each reply to `text`.
+/// Takes the `events` in turn, and appends the line of each reply to `text`. The `graph` is that of the board.
 pub(crate) fn take_and_tell<C: CountySet>(
-    alloc: Global,
+    graph: &CountyGraph<C>,
     board: &mut Board<C>,
     lists: &mut PartLists<C>,
     events: Vec<Event>,
     text: &mut Vec<u8>,
 ) -> Result<(), AllocError>
     requires board { (b : Content) × IsOf C.test board.old b }
-    requires fits { length board.old.round.order ≤ C.PLACES }
+    requires graph { IsGraph C.test C.PLACES graph.now }
+    requires ordered { IsBoardGraph board.old graph.now }
     requires lists { AreBoardLists C.test board.old lists.old }
     ensures lists { AreBoardLists C.test board.new lists.new }
     ensures told { OnOk result ((b : Content) → IsOf C.test board.old b
@@ -56,7 +60,7 @@ pub(crate) fn take_and_tell<C: CountySet>(
     ensures keeps { Keeps board.old board.new }
 {
     for event in events {
-        tell_one(alloc, board, lists, event, text)?;
+        tell_one(graph, board, lists, event, text)?;
     }
     Ok(())
 }
@@ -71,19 +75,20 @@ fn was_refused<C>(reply: &Reply<C>) -> bool
     }
 }
 
-/// Takes `event`.
+/// Takes `event`. The `graph` is that of the board.
 ///
 /// # Errors
 ///
 /// Returns `AllocError` if memory was refused.
 fn take_one<C: CountySet>(
-    alloc: Global,
+    graph: &CountyGraph<C>,
     board: &mut Board<C>,
     lists: &mut PartLists<C>,
     event: Event,
 ) -> Result<(), AllocError>
     requires board { (b : Content) × IsOf C.test board.old b }
-    requires fits { length board.old.round.order ≤ C.PLACES }
+    requires graph { IsGraph C.test C.PLACES graph.now }
+    requires ordered { IsBoardGraph board.old graph.now }
     requires lists { AreBoardLists C.test board.old lists.old }
     ensures lists { AreBoardLists C.test board.new lists.new }
     ensures taken { OnOk
@@ -96,26 +101,27 @@ fn take_one<C: CountySet>(
         × Follows C.test board.old.depth board.old.problem b (event_of event) reply board.new) }
     ensures keeps { Keeps board.old board.new }
 {
-    let answer = board.step(alloc, lists, event);
+    let answer = board.step(graph, lists, event);
     if was_refused(&answer) {
         return Err(AllocError);
     }
     Ok(())
 }
 
-/// Takes the `events` in turn.
+/// Takes the `events` in turn. The `graph` is that of the board.
 ///
 /// # Errors
 ///
 /// Returns `AllocError` if memory was refused to one of them.
 pub(crate) fn take_all<C: CountySet>(
-    alloc: Global,
+    graph: &CountyGraph<C>,
     board: &mut Board<C>,
     lists: &mut PartLists<C>,
     events: Vec<Event>,
 ) -> Result<(), AllocError>
     requires board { (b : Content) × IsOf C.test board.old b }
-    requires fits { length board.old.round.order ≤ C.PLACES }
+    requires graph { IsGraph C.test C.PLACES graph.now }
+    requires ordered { IsBoardGraph board.old graph.now }
     requires lists { AreBoardLists C.test board.old lists.old }
     ensures lists { AreBoardLists C.test board.new lists.new }
     ensures heard { OnOk result ((b : Content) → IsOf C.test board.old b
@@ -123,7 +129,7 @@ pub(crate) fn take_all<C: CountySet>(
     ensures keeps { Keeps board.old board.new }
 {
     for event in events {
-        take_one(alloc, board, lists, event)?;
+        take_one(graph, board, lists, event)?;
     }
     Ok(())
 }

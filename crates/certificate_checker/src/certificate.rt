@@ -61,11 +61,7 @@ fn judge_tolerance(problem: &Problem, round: &Round) -> Result<(), Halt>
 
 /// Returns the counties of `problem` in the order of `round`. The order stands on the line behind that of the
 /// tolerance. Returns the fault `WrongOrder` at that line, and `Refused` if memory was refused.
-pub(crate) fn judge_order<'a>(
-    alloc: Global,
-    problem: &'a Problem,
-    round: &Round,
-) -> Result<Ordered<'a>, Halt>
+fn judge_order<'a>(alloc: Global, problem: &'a Problem, round: &Round) -> Result<Ordered<'a>, Halt>
     ensures value { IfOk result (λ o. o ≡ record { problem = problem.now; order = round.now.order }) }
     ensures order { MatchResult result (λ _. IsOrder (problem_of problem.now) round.now.order) (StopsAt (IsOrderFault (problem_of problem.now) (round_of round.now)) (tolerance_line round.now.tolerance + 1)) }
 {

@@ -1,9 +1,7 @@
 //! The verdict on a tree.
 
-ghost use Rattle.std.specs.Prelude.{◌≡◌, ◌≤◌, length, IfOk, IsTrue};
+ghost use Rattle.std.specs.Prelude.{◌≡◌, ◌≤◌, IfOk, IsTrue};
 ghost use Rattle.county_codes.specs.Limits.{most_counties};
-ghost use Rattle.grouping_laws.specs.GroupsFrom.{IsOrder};
-ghost use Rattle.county_problem.specs.{OrderedValue.problem_at, ProblemValue.problem_of};
 ghost use Rattle.connected_sets.specs.Graphs.{graph_problem, graph_order, graph_places, place_problem, IsGraph};
 ghost use Rattle.certificate_data.specs.{RoundValue.{round_of, target_of}, TreeValue.tree_of};
 ghost use Rattle.certificate_data.specs.Tree.{Tree as TreeValue};
@@ -16,7 +14,7 @@ ghost use Rattle.state_groups.specs.PlacedValues.{state_at, IsPlaced};
 ghost use Rattle.certificate_checker.specs.{Judging.{IsCheckInput, AreWanted}, Knowing.IsKnownAt};
 ghost use Rattle.certificate_checker.specs.TreeAnswers.{IsTreeAnswer, IsTreeWithinBudget, IsBudgetedTreeAnswer, IsRightOfTrees, IsSaid};
 
-use crate::certificate::{judge_order, wanted_counts};
+use crate::certificate::wanted_counts;
 use crate::feed::{Feed, Halt, first_fault};
 use crate::input::CheckInput;
 use crate::known::known_at;
@@ -26,7 +24,7 @@ use certificate_data::{Format, Round, Tree};
 use certificate_lines::{Items, TextFault};
 use certificate_text::tree_lines;
 use connected_sets::CountyGraph;
-use county_problem::{Counts, Problem, Steps};
+use county_problem::{Counts, Steps};
 use place_sets::CountySet;
 use search_groups::{PartLists, Position};
 use state_groups::{State, copied_state};
@@ -174,17 +172,17 @@ fn check_tree_at<C: CountySet>(
 /// `budget` is below the cost of the tree: three for each of its lines, and three for each set of counties that they
 /// ask to look through. A proof tree with more lines than `budget` is never answered with `Proof`.
 ///
-/// The order has each county of the problem once. The target, if there is one, is lawful, and the limit is at most 256
-/// counties. The state is by places of the order. If `is_of_round`, it is a state of the round, and what is known of
-/// its groups is kept from line to line, as `check` keeps it, with the help of `lists`. These are lists of the problem
-/// by the round's order, and a caller that judges several trees keeps them. The verdict is right either way.
+/// The `graph` is that of the problem, by the order of `round`, and a caller that judges several trees builds it once.
+/// The target, if there is one, is lawful, and the limit is at most 256 counties. The state is by places of the order.
+/// If `is_of_round`, it is a state of the round, and what is known of its groups is kept from line to line, as `check`
+/// keeps it, with the help of `lists`. These are lists of the graph, and a caller that judges several trees keeps them.
+/// The verdict is right either way.
 ///
 /// # Errors
 ///
 /// Returns `AllocError` if memory was refused.
 pub fn check_tree<C: CountySet>(
-    alloc: Global,
-    problem: &Problem,
+    graph: &CountyGraph<C>,
     round: &Round,
     state: &State<C>,
     is_of_round: bool,
@@ -192,26 +190,21 @@ pub fn check_tree<C: CountySet>(
     tree: &Tree,
     budget: u64,
 ) -> Result<TreeVerdict, AllocError>
-    requires fits { length round.now.order ≤ C.PLACES }
-    requires order { IsOrder (problem_of problem.now) round.now.order }
+    requires graph { IsGraph C.test C.PLACES graph.now }
+    requires order { graph_order graph.now ≡ round.now.order }
     requires small { round.now.limit ≤ most_counties }
-    requires target { IsLawfulTarget (problem_of problem.now) (target_of round.now.target) }
-    requires placed { IsPlaced (length round.now.order) C.test state.now }
-    requires state { IsTrue is_of_round → IsState (problem_of problem.now) (round_of round.now) (state_at round.now.order C.test state.now) }
-    requires lists { AreListsOf C.test (problem_at (record { problem = problem.now; order = round.now.order })) (length round.now.order) lists.old }
-    ensures lists { AreListsOf C.test (problem_at (record { problem = problem.now; order = round.now.order })) (length round.now.order) lists.new }
-    ensures verdict { IfOk result (IsTreeAnswer (problem_of problem.now) (round_of round.now) (state_at round.now.order C.test state.now) (tree_of tree.now) budget) }
+    requires target { IsLawfulTarget (graph_problem graph.now) (target_of round.now.target) }
+    requires placed { IsPlaced (graph_places graph.now) C.test state.now }
+    requires state { IsTrue is_of_round → IsState (graph_problem graph.now) (round_of round.now) (state_at (graph_order graph.now) C.test state.now) }
+    requires lists { AreListsOf C.test (place_problem graph.now) (graph_places graph.now) lists.old }
+    ensures lists { AreListsOf C.test (place_problem graph.now) (graph_places graph.now) lists.new }
+    ensures verdict { IfOk result (IsTreeAnswer (graph_problem graph.now) (round_of round.now) (state_at (graph_order graph.now) C.test state.now) (tree_of tree.now) budget) }
     ensures within { IfOk result (IsTreeWithinBudget (tree_of tree.now) budget) }
-    ensures right { IfOk result (IsRightOfTrees (problem_of problem.now) (round_of round.now) (state_at round.now.order C.test state.now) (tree_of tree.now)) }
+    ensures right { IfOk result (IsRightOfTrees (graph_problem graph.now) (round_of round.now) (state_at (graph_order graph.now) C.test state.now) (tree_of tree.now)) }
 {
-    let Ok(ordered) = judge_order(alloc, problem, round) else {
-        return Err(AllocError);
-    };
-    let wanted = wanted_counts(alloc, problem, round)?;
-    let graph = CountyGraph::<C>::build(alloc, &ordered)?;
-    let _problem = ordered.problem();
+    let wanted = wanted_counts(graph.alloc, graph.ordered.problem(), round)?;
     check_tree_at(
-        &graph,
+        graph,
         round,
         wanted.as_ref(),
         state,

@@ -13,7 +13,7 @@
 //!
 //! The definitions stand in `specs/`: `State`, `Agreement`, `StuckParts`, `Fitting`, `Groups` (of a branch),
 //! `BoundLines`, `Leaves`, `Proving` and `Certificate`. The other files there state the laws. The data of rounds and
-//! trees stand in `certificate_data`. `docs/definitions.md` explains all of them with examples.
+//! trees stand in `certificate_data`. `docs/reference/definitions.md` explains all of them.
 #![tactic(auto)]
 
 mod laws;

@@ -27,7 +27,7 @@ use Rattle.run_laws.specs.Steps.{Steps, ◌>>=◌, value_step}
 use Rattle.run_laws.specs.Reading.{GivenBack, open_step, read_step, read_one}
 use Rattle.run_laws.specs.WorkerSteps.{WorkerRun, HasProved, IsWorkerRun, texts_steps, worker_steps}
 use Rattle.run_laws.specs.Spoken.{behind}
-use Rattle.run_laws.specs.Run.{CommandRun}
+use Rattle.run_laws.specs.Run.{CommandAnswers}
 use Rattle.cli.specs.GoingOn.{StopsSilently, WorkerDone, ProvesBy}
 
 pub meets : (refusal : Refusal) (P Q : Answered → Type 0) → ((a : Answered) → P a → Q a) → AnswerMeets refusal P → AnswerMeets refusal Q
@@ -155,14 +155,14 @@ module _ {H : Type 0} (contents : H → Option Files) (history : H → History) 
       inr (record { text = text; end = said_by (Err refusal) }, worker_came (Err fault) is has (said_by (Err refusal)) (worker_failed v from to fresh text left result run fault refusal shows), refl, refl)
 
 module _ (files : Option Files) (words : WorkerWords) (before after : History) (text : List ℕ) where
-  worker_of : (result : Result RunAnswer Refusal) → WorkerDone (worker_steps files words) before after text result → CommandRun files (WorkerCommand words) before after [] (behind text (said_by result))
+  worker_of : (result : Result RunAnswer Refusal) → WorkerDone (worker_steps files words) before after text result → CommandAnswers files (WorkerCommand words) before after [] (behind text (said_by result))
   worker_of result h = inr (inr (h.0, h.1, ap (λ (t : List ℕ). behind t (said_by result)) (sym h.2) ∙ ap (behind h.0.text) (sym h.3)), refl)
 
-  worker_silent : (refusal : Refusal) → StopsSilently (worker_steps files words) before after text refusal → CommandRun files (WorkerCommand words) before after [] (behind text (said_by (Err refusal)))
-  worker_silent (Shown a) h = subst (λ (t : List ℕ). CommandRun files (WorkerCommand words) before after [] (behind t (answer_of a))) (sym h.0) (inr (inl h.1, refl))
-  worker_silent Memory h = subst (λ (t : List ℕ). CommandRun files (WorkerCommand words) before after [] (behind t memory_answer)) (sym h.0) (inl (refl, refl))
+  worker_silent : (refusal : Refusal) → StopsSilently (worker_steps files words) before after text refusal → CommandAnswers files (WorkerCommand words) before after [] (behind text (said_by (Err refusal)))
+  worker_silent (Shown a) h = subst (λ (t : List ℕ). CommandAnswers files (WorkerCommand words) before after [] (behind t (answer_of a))) (sym h.0) (inr (inl h.1, refl))
+  worker_silent Memory h = subst (λ (t : List ℕ). CommandAnswers files (WorkerCommand words) before after [] (behind t memory_answer)) (sym h.0) (inl (refl, refl))
 
-  pub worker_ran : (result : Result RunAnswer Refusal) → ProvesBy (worker_steps files words) before after text result → CommandRun files (WorkerCommand words) before after [] (behind text (said_by result))
+  pub worker_ran : (result : Result RunAnswer Refusal) → ProvesBy (worker_steps files words) before after text result → CommandAnswers files (WorkerCommand words) before after [] (behind text (said_by result))
   worker_ran (Ok a) h = worker_of (Ok a) h
   worker_ran (Err refusal) (inl h) = worker_silent refusal h
   worker_ran (Err refusal) (inr h) = worker_of (Err refusal) h

@@ -24,11 +24,13 @@ use crate::recording::answer_as_asked;
 use branch_bound::{NoWatcher, Watcher};
 use cli_answers::{MEMORY, Refusal, RunAnswer, RunOutcome};
 use cli_file_stores::{FileStore, Sink};
+use cli_reports::shown;
 use cli_words::{CommandWords, WordsEnd, parse};
 use std::alloc::{AllocError, Global};
 use written_output::Written;
 
-/// Runs `command`. Returns its answer, or the refusal with which it ends before that. What `worker` has to say before
+/// Runs `command`. Returns its answer, or the refusal with which it ends before that, each in the form that the words
+/// ask for. What `worker` has to say before
 /// it is written to `out` at once.
 fn command_end<H: FileStore, W: Sink, V: Watcher>(
     alloc: Global,
@@ -46,12 +48,29 @@ fn command_end<H: FileStore, W: Sink, V: Watcher>(
         × CommandRun (H.contents file_store.old) command.entry (H.history file_store.old) (H.history file_store.new) stored (behind text (said_by result)) }
 {
     match command {
-        CommandWords::Size(words) => size(alloc, words, file_store, notes),
-        CommandWords::Judge(words) => judge(alloc, words, file_store, notes),
-        CommandWords::Solve(words) => solve(alloc, words, file_store, notes, watcher),
-        CommandWords::Check(words) => check(alloc, words, file_store, notes),
-        CommandWords::Audit(words) => audit(alloc, words, file_store, notes),
-        CommandWords::List(words) => list(alloc, words, file_store, notes),
+        CommandWords::Size(words) => {
+            shown(alloc, words.json, size(alloc, words, file_store, notes))
+        }
+        CommandWords::Judge(words) => {
+            let json = words.problem.common.json;
+            shown(alloc, json, judge(alloc, words, file_store, notes))
+        }
+        CommandWords::Solve(words) => {
+            let json = words.problem.common.json;
+            shown(alloc, json, solve(alloc, words, file_store, notes, watcher))
+        }
+        CommandWords::Check(words) => {
+            let json = words.check.problem.common.json;
+            shown(alloc, json, check(alloc, words, file_store, notes))
+        }
+        CommandWords::Audit(words) => {
+            let json = words.problem.common.json;
+            shown(alloc, json, audit(alloc, words, file_store, notes))
+        }
+        CommandWords::List(words) => {
+            let json = words.check.problem.common.json;
+            shown(alloc, json, list(alloc, words, file_store, notes))
+        }
         CommandWords::Share(words) => share(alloc, words, file_store, notes),
         CommandWords::Piece(words) => piece(alloc, words, file_store, notes),
         CommandWords::Worker(words) => worker(alloc, words, file_store, out, written, notes),

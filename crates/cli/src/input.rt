@@ -3,6 +3,7 @@
 pub(crate) mod board_files;
 pub(crate) mod border_warnings;
 pub(crate) mod census_files;
+pub(crate) mod counties;
 pub(crate) mod files;
 pub(crate) mod head_reader;
 pub(crate) mod plan_files;

@@ -11,8 +11,8 @@ use std::alloc::Global;
 /// What a run notes on its way.
 #[derive(Drop)]
 pub struct Notes {
-    /// How many counties the census files list for the state, and how many people they have. `None` if the counties
-    /// were not read.
+    /// How many counties the files list for the state, and how many people they have. `None` if the counties were not
+    /// read.
     pub counties: Option<(usize, u64)>,
     /// The people of the state's own line of the census files. `None` if it was not read.
     pub state_people: Option<u32>,
@@ -23,8 +23,9 @@ pub struct Notes {
     pub has_pairs: Option<bool>,
     /// What is odd about the files, at most the first of each kind. A warning is left out if memory for it was refused.
     pub warnings: Vec<Warning>,
-    /// The first bytes of the geographic header, at most 65,536. It is empty if the counties were not read.
-    pub geo_head: Vec<u8>,
+    /// The file in which the names of the counties stand: the first bytes of the geographic header, at most 65,536, or
+    /// the table of counties. It is empty if the counties were not read.
+    pub names_head: Vec<u8>,
     /// The files that were stored.
     pub stored: StoredFiles,
     /// The report of a command, or the text of a list or of a board, whose files could not all be stored.
@@ -49,7 +50,7 @@ impl Notes {
             states: (None, None),
             has_pairs: None,
             warnings: Vec::new(alloc),
-            geo_head: Vec::new(alloc),
+            names_head: Vec::new(alloc),
             stored: StoredFiles::none(),
             report: None,
         }
@@ -79,9 +80,9 @@ impl Notes {
         self.note_census(notes);
     }
 
-    /// Notes `head`, the first bytes of the geographic header.
-    pub(crate) fn note_geo_head(&mut self, head: Vec<u8>) {
-        self.geo_head = head;
+    /// Notes `head`, the first bytes of the geographic header, or the table of counties.
+    pub(crate) fn note_names(&mut self, head: Vec<u8>) {
+        self.names_head = head;
     }
 
     /// Notes whether the adjacency file has a pair of listed counties, as `has_pairs` tells.

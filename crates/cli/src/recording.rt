@@ -1,13 +1,14 @@
 //! The record of a run, which is stored after the files of its command.
 
-ghost use Rattle.std.specs.Prelude.{◌≡◌, ◌-◌, ◌^◌, ◌∷◌, ◌++◌, [], ℕ, true, List, Option, Some, IfSome, length, min};
+ghost use Rattle.std.specs.Prelude.{◌≡◌, ◌-◌, ◌^◌, ◌∷◌, ◌++◌, [], ℕ, true, List, Option, Err, Some, IfSome, length, min};
 ghost use Rattle.cli_file_stores.specs.{Files.NamedFile, History.History};
 ghost use Rattle.cli_record.specs.{RecordFiles.record_name_of, RunRecord.{IsRecord, sums_between}};
-ghost use Rattle.cli_answers.specs.{Answer.{Answered, memory_answer}, Answers.answer_of};
+ghost use Rattle.cli_answers.specs.{Answer.{Answered, memory_answer}, Answers.{answer_of, said_by}};
 ghost use Rattle.written_output.specs.Writing.{HasWritten, IsFresh, kept_of};
-ghost use Rattle.run_laws.specs.{Spoken.behind, Storing.{HasStored, said_after, store_steps}};
+ghost use Rattle.run_laws.specs.{Spoken.behind, Storing.{HasStored, store_steps}};
 ghost use Rattle.run_laws.specs.Run.{HasState, RunsAsAsked, RunsWithRecord};
-ghost use Rattle.run_laws.specs.Recording.{RecordEnds, is_recorded as must_be_recorded};
+ghost use Rattle.run_laws.specs.Recording.{IsSaidAfter, RecordEnds, is_recorded as must_be_recorded};
+ghost use Rattle.run_laws.specs.Forms.{IsShown, is_json as has_object};
 ghost use Rattle.cli.specs.{Delivery.texts, Ends.{refusal_by, said_of}};
 
 use crate::command::command_answer;
@@ -17,9 +18,25 @@ use branch_bound::Watcher;
 use cli_answers::{FileOption, Refusal, RunAnswer};
 use cli_file_stores::{FileStore, Sink};
 use cli_record::{record_file, record_since};
+use cli_reports::shown;
 use cli_words::CommandWords;
 use std::alloc::{AllocError, Global};
 use written_output::Written;
+
+/// Returns whether the answer of `command` is an object.
+fn is_json(command: &CommandWords<'_>) -> bool
+    ensures { result ≡ has_object command.now }
+{
+    match command {
+        CommandWords::Size(words) => words.json,
+        CommandWords::Judge(words) => words.problem.common.json,
+        CommandWords::Solve(words) => words.problem.common.json,
+        CommandWords::Check(words) => words.check.problem.common.json,
+        CommandWords::Audit(words) => words.problem.common.json,
+        CommandWords::List(words) => words.check.problem.common.json,
+        CommandWords::Share(_) | CommandWords::Piece(_) | CommandWords::Worker(_) => false,
+    }
+}
 
 /// Returns whether a run that ends with `status` stores its record.
 fn is_recorded(status: u8) -> bool
@@ -28,32 +45,43 @@ fn is_recorded(status: u8) -> bool
     status == 0 || status == 1 || status == 3
 }
 
+/// Returns the answer to `refusal`, as an object if `json` is true. Returns `AllocError` if memory was refused.
+fn refusal_shown(alloc: Global, json: bool, refusal: Refusal) -> Result<RunAnswer, AllocError>
+    ensures { IsShown json (said_by (Err refusal)) (said_of result) }
+{
+    match shown(alloc, json, Err(refusal)) {
+        Ok(answer) => Ok(answer),
+        Err(Refusal::Shown(answer)) => Ok(answer),
+        Err(Refusal::Memory) => Err(AllocError),
+    }
+}
+
 /// Returns the answer that stands once the record was handed over. It is `answer`, that of the run, or the answer to a
-/// refused file. Unless the record was stored, the text of `answer` is noted. Returns `AllocError` if `handed_over`
-/// says that memory was refused.
+/// refused file, as an object if `json` is true. Unless the record was stored, the text of `answer` is noted. Returns
+/// `AllocError` if `handed_over` says that memory was refused.
 fn answer_after(
+    alloc: Global,
+    json: bool,
     handed_over: Result<(), Refusal>,
     answer: RunAnswer,
     notes: &mut Notes,
 ) -> Result<RunAnswer, AllocError>
-    ensures { said_of result ≡ said_after (refusal_by handed_over) (answer_of answer) }
+    ensures { IsSaidAfter json (refusal_by handed_over) (answer_of answer) (said_of result) }
 {
     match handed_over {
         Ok(()) => Ok(answer),
-        Err(Refusal::Shown(refused)) => {
+        Err(refusal) => {
             notes.note_report(answer.text);
-            Ok(refused)
-        }
-        Err(Refusal::Memory) => {
-            notes.note_report(answer.text);
-            Err(AllocError)
+            refusal_shown(alloc, json, refusal)
         }
     }
 }
 
-/// Stores the `bytes` of a record. Returns the answer of the run, unless the file was refused.
+/// Stores the `bytes` of a record. Returns the answer of the run, unless the file was refused. That is told by an object
+/// if `json` is true.
 fn store_bytes<H: FileStore>(
     alloc: Global,
+    json: bool,
     name: &str,
     bytes: Vec<u8>,
     answer: RunAnswer,
@@ -64,11 +92,11 @@ fn store_bytes<H: FileStore>(
         × HasStored (H.contents file_store.old) (H.contents file_store.new) (H.stored file_store.old) (H.stored file_store.new) last
         × store_steps (record { name = name.now; bytes = bytes.items }
         ∷ []) (H.history file_store.old) (H.history file_store.new) last refusal
-        × (said_of result ≡ said_after refusal (answer_of answer)) }
+        × IsSaidAfter json refusal (answer_of answer) (said_of result) }
 {
     let option = FileOption::Record;
     let handed_over = store_named(alloc, option, Some(name), Some(&bytes), file_store, notes);
-    answer_after(handed_over, answer, notes)
+    answer_after(alloc, json, handed_over, answer, notes)
 }
 
 /// Reports `AllocError`, since a growth was refused while the record was composed, and notes the text of `answer`.
@@ -138,7 +166,10 @@ fn store_composed<H: FileStore>(
         × RecordEnds (texts words.now) command.now name.now before (H.history file_store.old) (H.history file_store.new) last front (answer_of answer) (said_of result) }
 {
     match composed(alloc, words, command, first, written, &answer, file_store) {
-        Some(bytes) => store_bytes(alloc, name, bytes, answer, file_store, notes),
+        Some(bytes) => {
+            let json = is_json(command);
+            store_bytes(alloc, json, name, bytes, answer, file_store, notes)
+        }
         None => uncomposed(answer, notes),
     }
 }

@@ -9,6 +9,9 @@ use Rattle.pl94_counties.specs.declared.fault.Pl94Kind.TheVariants as kinds
 use Rattle.pl94_counties.specs.declared.fault.Pl94Fault.{Pl94Fault}
 use Rattle.pl94_counties.specs.declared.county_names.NamedFault.{NamedFault}
 use Rattle.pl94_counties.specs.declared.county_names.NamedFault.TheVariants as names
+use Rattle.people_table.specs.declared.fault.PeopleKind.{PeopleKind}
+use Rattle.people_table.specs.declared.fault.PeopleKind.TheVariants as people
+use Rattle.people_table.specs.declared.fault.PeopleFault.{PeopleFault}
 use Rattle.grouping_reader.specs.declared.fault.CodeLineKind.{CodeLineKind}
 use Rattle.grouping_reader.specs.declared.fault.CodeLineKind.TheVariants as lines_of_codes
 use Rattle.grouping_reader.specs.declared.fault.CodeLineFault.{CodeLineFault}
@@ -19,7 +22,7 @@ use Rattle.grouping_report.specs.FaultWords.{grouping_fault_words}
 use Rattle.county_problem.specs.declared.grouping_fault.GroupingFault.{GroupingFault}
 use Rattle.county_problem.specs.declared.grouping_fault.GroupingFault.TheVariants as verdict
 use Rattle.cli_answers.specs.declared.refusal.InputFile.{InputFile}
-use Rattle.cli_answers.specs.declared.refusal.InputFile.TheVariants.{Geo, Segment1, Adjacency, Links, Withdrawn}
+use Rattle.cli_answers.specs.declared.refusal.InputFile.TheVariants.{Geo, Segment1, People, Adjacency, Links, Withdrawn}
 use Rattle.cli_answers.specs.declared.refusal.InputFile.TheVariants.{Grouping, Assignments, Events, Pieces}
 use Rattle.county_problem.specs.declared.fault.ProblemFault.{ProblemFault}
 use Rattle.county_problem.specs.declared.fault.ProblemFault.TheVariants as problem
@@ -56,6 +59,17 @@ kind_word kinds.TooMany = codes "TooMany"
 kind_word (kinds.Lower fault) = line_fault_word fault
 kind_word kinds.Memory = codes "Memory"
 
+-- the word of a kind of fault of a table of counties
+abbrev pub people_word : PeopleKind → List ℕ
+people_word people.BadLine = codes "BadLine"
+people_word people.BadCode = codes "BadCode"
+people_word people.BadNumber = codes "BadNumber"
+people_word people.BadName = codes "BadName"
+people_word people.DoubleCounty = codes "DoubleCounty"
+people_word people.NoCounties = codes "NoCounties"
+people_word (people.Lower fault) = line_fault_word fault
+people_word people.Memory = codes "Memory"
+
 -- the word of a kind of fault of a file whose lines have county codes
 abbrev pub code_line_word : CodeLineKind → List ℕ
 code_line_word lines_of_codes.TooFewFields = codes "TooFewFields"
@@ -84,6 +98,11 @@ abbrev pub shown_line : Pl94Kind → ℕ → ℕ
 shown_line (kinds.Lower fault) line = cut_line fault line
 shown_line kind line = line
 
+-- the line that is shown of a fault of a table of counties
+abbrev pub shown_people_line : PeopleKind → ℕ → ℕ
+shown_people_line (people.Lower fault) line = cut_line fault line
+shown_people_line kind line = line
+
 -- the line that is shown of a fault of a file whose lines have county codes
 abbrev pub shown_code_line : CodeLineKind → ℕ → ℕ
 shown_code_line (lines_of_codes.Lower fault) line = cut_line fault line
@@ -98,6 +117,7 @@ shown_assignment_line kind line = line
 abbrev pub file_word : InputFile → List ℕ
 file_word Geo = codes "geo"
 file_word Segment1 = codes "segment1"
+file_word People = codes "people"
 file_word Adjacency = codes "adjacency"
 file_word Links = codes "links"
 file_word Withdrawn = codes "withdrawn"
@@ -133,6 +153,15 @@ pl94_answer fault = file_answer (input_of fault.file) fault.kind fault.line
 abbrev pub named_answer : NamedFault → Answered
 named_answer (names.Files fault) = pl94_answer fault
 named_answer (names.BadName line) = input_answer Geo (codes "BadName") line
+
+-- a fault of this kind, at this line of a table of counties
+abbrev pub people_line_answer : PeopleKind → ℕ → Answered
+people_line_answer people.Memory line = memory_answer
+people_line_answer kind line = input_answer People (people_word kind) (shown_people_line kind line)
+
+-- the answer to a fault of a table of counties
+abbrev pub people_answer : PeopleFault → Answered
+people_answer fault = people_line_answer fault.kind fault.line
 
 -- a fault of this kind, at this line of a file whose lines have county codes
 abbrev pub code_line_answer : InputFile → CodeLineKind → ℕ → Answered

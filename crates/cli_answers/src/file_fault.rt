@@ -3,6 +3,7 @@
 use baf_auditor::AssignmentFault;
 use certificate_lines::TextFault;
 use grouping_reader::CodeLineFault;
+use people_table::PeopleFault;
 use pl94_counties::Pl94Fault;
 use std::fmt;
 
@@ -13,6 +14,8 @@ pub enum FileOption {
     Geo,
     /// The PL 94-171 data segment 1.
     Segment,
+    /// The table of counties with their people.
+    People,
     /// The county adjacency file.
     Adjacency,
     /// Links over the adjacent pairs.
@@ -53,6 +56,7 @@ impl fmt::Display for FileOption {
         f.write_str(match self {
             FileOption::Geo => "--geo",
             FileOption::Segment => "--segment",
+            FileOption::People => "--people",
             FileOption::Adjacency => "--adjacency",
             FileOption::Links => "--links",
             FileOption::Withdrawn => "--withdrawn",
@@ -78,6 +82,8 @@ pub enum FileFault {
     Census(Pl94Fault),
     /// The NAME of a county on this line of the geographic header isn't UTF-8.
     BadName(u32),
+    /// A fault of the table of counties.
+    People(PeopleFault),
     /// A fault of a file whose lines have county codes.
     Codes(CodeLineFault),
     /// A fault of a block assignment file.
@@ -94,6 +100,7 @@ impl FileFault {
         match self {
             FileFault::Census(fault) => u64::from(fault.line),
             FileFault::BadName(line) => u64::from(*line),
+            FileFault::People(fault) => u64::from(fault.line),
             FileFault::Codes(fault) => u64::from(fault.line),
             FileFault::Assignments(fault) => u64::from(fault.line),
             FileFault::Events(fault) | FileFault::Pieces(fault) => fault.line,
@@ -107,6 +114,7 @@ impl fmt::Display for FileFault {
         match self {
             FileFault::Census(fault) => write!(f, "{}", fault.kind),
             FileFault::BadName(_) => f.write_str("the name of the county isn't UTF-8"),
+            FileFault::People(fault) => write!(f, "{}", fault.kind),
             FileFault::Codes(fault) => write!(f, "{}", fault.kind),
             FileFault::Assignments(fault) => write!(f, "{}", fault.kind),
             FileFault::Events(fault) | FileFault::Pieces(fault) => write!(f, "{}", fault.kind),

@@ -22,5 +22,5 @@ pub use file_fault::{FileFault, FileOption};
 pub use outcome::{BestNotShown, RunOutcome, Subject};
 pub use refusal::{
     InputFile, MEMORY, RefusedFile, refuse_assignments, refuse_codes, refuse_file, refuse_load,
-    refuse_named_counties, refuse_problem, refuse_store, refuse_verdict,
+    refuse_named_counties, refuse_people, refuse_problem, refuse_store, refuse_verdict,
 };

@@ -3,9 +3,10 @@
 ghost use Rattle.std.specs.Prelude.{◌≡◌, ◌≢◌, ℕ, ◌++◌, OnOk, IfOk, codes, decimal};
 ghost use Rattle.pl94_counties.specs.declared.fault.Pl94Kind.TheVariants as kinds;
 ghost use Rattle.pl94_counties.specs.CountyNames.{IsNoMemory};
+ghost use Rattle.people_table.specs.declared.fault.PeopleKind.TheVariants as people;
 ghost use Rattle.county_problem.specs.declared.fault.ProblemFault.TheVariants as problem;
 ghost use Rattle.cli_answers.specs.Answers.{RefusalShows, IsShown};
-ghost use Rattle.cli_answers.specs.Refusals.{line_fault_word, kind_word, code_line_word, assignment_word, refused_line, input_answer, pl94_answer, named_answer, code_file_answer, fault_line, verdict_answer, after_blank, problem_words, refused_problem, problem_answer, file_store_word, device_line, file_store_answer};
+ghost use Rattle.cli_answers.specs.Refusals.{line_fault_word, kind_word, people_word, people_answer, code_line_word, assignment_word, refused_line, input_answer, pl94_answer, named_answer, code_file_answer, fault_line, verdict_answer, after_blank, problem_words, refused_problem, problem_answer, file_store_word, device_line, file_store_answer};
 ghost use Rattle.county_codes.specs.Digits.{five_digits};
 ghost use Rattle.grouping_reader.specs.declared.fault.CodeLineKind.TheVariants as lines_of_codes;
 ghost use Rattle.baf_auditor.specs.declared.fault.AssignmentKind.TheVariants as lines_of_assignments;
@@ -22,6 +23,7 @@ use county_problem::{GroupingFault, ProblemFault};
 use field_lines::{LineFault, push_number};
 use grouping_reader::{CodeLineFault, CodeLineKind};
 use grouping_report::push_grouping_fault;
+use people_table::{PeopleFault, PeopleKind};
 use pl94_counties::{File, NamedFault, Pl94Fault, Pl94Kind};
 use std::alloc::{AllocError, Global};
 
@@ -58,6 +60,21 @@ fn word_of_kind(kind: Pl94Kind) -> &'static [u8]
     }
 }
 
+fn word_of_people(kind: PeopleKind) -> &'static [u8]
+    ensures { result.now ≡ people_word kind }
+{
+    match kind {
+        PeopleKind::BadLine => b"BadLine",
+        PeopleKind::BadCode => b"BadCode",
+        PeopleKind::BadNumber => b"BadNumber",
+        PeopleKind::BadName => b"BadName",
+        PeopleKind::DoubleCounty => b"DoubleCounty",
+        PeopleKind::NoCounties => b"NoCounties",
+        PeopleKind::Lower(fault) => word_of_line_fault(fault),
+        PeopleKind::Memory => b"Memory",
+    }
+}
+
 fn word_of_code_line(kind: CodeLineKind) -> &'static [u8]
     ensures { result.now ≡ code_line_word kind }
 {
@@ -91,6 +108,8 @@ pub enum InputFile {
     Geo,
     /// The PL 94-171 data segment 1.
     Segment1,
+    /// A table of counties with their people.
+    People,
     /// The county adjacency file.
     Adjacency,
     /// Links over the adjacent pairs.
@@ -122,6 +141,7 @@ fn word_of_file(file: InputFile) -> &'static [u8]
     match file {
         InputFile::Geo => b"geo",
         InputFile::Segment1 => b"segment1",
+        InputFile::People => b"people",
         InputFile::Adjacency => b"adjacency",
         InputFile::Links => b"links",
         InputFile::Withdrawn => b"withdrawn",
@@ -224,6 +244,23 @@ pub fn refuse_named_counties(alloc: Global, fault: NamedFault, refused: RefusedF
             refuse_input(alloc, InputFile::Geo, b"BadName", u64::from(line), outcome)
         }
     }
+}
+
+/// Returns the refusal of a table of counties: `refused people KIND line L` with exit status 4. The line counts from 1.
+/// It is 0 if the table has too many lines, or if none of its lines is a county of the state. Returns `Memory` if that
+/// is the fault, or if memory for the line was refused. The outcome tells the file as `refused`, with its `fault`.
+pub fn refuse_people(alloc: Global, fault: PeopleFault, refused: RefusedFile) -> Refusal
+    ensures answer { RefusalShows (people_answer fault) result }
+    ensures shown { IsShown result → fault.kind ≢ people.Memory }
+{
+    let line = match fault.kind {
+        PeopleKind::Memory => return Refusal::Memory,
+        PeopleKind::Lower(cut) => line_of_cut(cut, fault.line),
+        _ => fault.line,
+    };
+    let word = word_of_people(fault.kind);
+    let outcome = refused.outcome(FileFault::People(fault));
+    refuse_input(alloc, InputFile::People, word, u64::from(line), outcome)
 }
 
 /// Returns the refusal of a file whose lines have county codes: `refused FILE KIND line L` with exit status 4. The line

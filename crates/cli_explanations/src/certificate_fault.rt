@@ -87,13 +87,75 @@ fn explain_tolerances(out: &mut String, text: &[u8], problem: &Problem) -> Resul
     )
 }
 
-/// Says what was done to the `text` of `file` on its way, or what else helps against the `fault`. If the fault is one
-/// of the target or of the tolerance, this compares the certificate with `problem` first.
+/// What a fault of a certificate means to whoever checks it.
+const MEANING: &str =
+    "countygroups: as it stands this text proves nothing, neither that its grouping is best nor that it isn't\ncountygroups: the text is that of whoever made it: see that you have all its bytes and that the other options are the maker's, or ask the maker for another one\n";
+
+/// The lines that may stand in the tree of a certificate and at its end.
+const TREE_LINES: &str =
+    "branch CODE, take CODE .., mark, stuck CODE, seats, bound J, room, weigh Q CODE:W .., end";
+
+/// Returns the number of groups of the target that line `number` of the certificate `text` gives, or 0 if it can't be
+/// read.
+fn target_length(text: &[u8], number: u64) -> u64 {
+    let line = whole_line(text, number).unwrap_or(&[]);
+    match field_at(line, b' ', 1) {
+        Some(word) => u64::from(number_in(word, 0, 256).unwrap_or(0)),
+        None => 0,
+    }
+}
+
+/// Returns which lines may stand as line `number` of the certificate `text`. Behind the target any line of a tree may.
+fn lines_at(text: &[u8], number: u64) -> &'static str {
+    let first = whole_line(text, 1).unwrap_or(&[]);
+    let (is_second, shift) = if first.ends_with(b" 2") {
+        (true, 1)
+    } else {
+        (false, 0)
+    };
+    match number.saturating_sub(shift) {
+        _ if number == 1 => {
+            "county-groups certificate 1 or county-groups wide certificate 1, and 2 in place of 1 for another tolerance than 1/20"
+        }
+        1 if is_second => "window A B",
+        2 => "order CODE CODE ..",
+        3 => "limit M, with M from 0 to 256",
+        4 => "target G, with G from 0 to 256, or target none",
+        place if place <= target_length(text, 4 + shift).saturating_add(4) => {
+            "group SEATS CODE CODE .."
+        }
+        _ => TREE_LINES,
+    }
+}
+
+/// Names the first word of the `line` of this `number` in the certificate `text`, and the lines that may stand there.
+/// Says nothing of a `kind` of fault that isn't one of words.
+fn explain_word(
+    out: &mut String,
+    kind: TextKind,
+    text: &[u8],
+    (line, number): (Option<&[u8]>, u64),
+) -> Result<(), AllocError> {
+    match kind {
+        TextKind::BadHead | TextKind::BadWord | TextKind::BadNumber | TextKind::NotCanonical => {}
+        _ => return Ok(()),
+    }
+    let word = start_of(field_at(line.unwrap_or(&[]), b' ', 0).unwrap_or(&[]));
+    let lines = lines_at(text, number);
+    writeln!(
+        out,
+        "countygroups: its first word is `{word}`; there may stand: {lines}"
+    )
+}
+
+/// Says what was done to the `text` of `file` on its way, or what else helps against the `fault` in the `line` of this
+/// `number`. If the fault is one of the target or of the tolerance, this compares the certificate with `problem` first.
 fn explain_help(
     out: &mut String,
     file: NamedFile<'_>,
     fault: &CheckFault,
     (text, problem): (&[u8], &Problem),
+    (line, number): (Option<&[u8]>, u64),
 ) -> Result<(), AllocError> {
     let first = whole_line(text, 1).unwrap_or(&[]);
     if is_zip(text) {
@@ -116,11 +178,10 @@ fn explain_help(
             explain_chamber(out, FileOption::Certificate, target_seats(text), problem)?
         }
         CheckFault::WrongWindow => explain_tolerances(out, text, problem)?,
+        CheckFault::Text(cut) => explain_word(out, cut.kind, text, (line, number))?,
         _ => {}
     }
-    out.push_str(
-        "countygroups: see that the other options are those that it was made with, or make it again with `countygroups solve --certificate FILE`\n",
-    )
+    out.push_str(MEANING)
 }
 
 /// Explains the `fault` in line `number` of `text`, for which it is no certificate of `problem`. This tells what is
@@ -148,5 +209,5 @@ pub(crate) fn explain_certificate(
         }
     };
     show_line(out, is_cut, (line, number))?;
-    explain_help(out, file, fault, (text.head(), problem))
+    explain_help(out, file, fault, (text.head(), problem), (known, number))
 }

@@ -1,7 +1,7 @@
 //! Why a file could not be read or stored.
 
 use crate::machine_files::words_of_reason;
-use crate::shown_bytes::name_of;
+use crate::shown_bytes::{name_of, whole};
 use cli_answers::FileOption;
 use cli_file_stores::FileStoreFault;
 use std::alloc::AllocError;
@@ -70,7 +70,7 @@ pub(crate) fn explain_unstored(out: &mut String, file: Unmoved<'_>) -> Result<()
     match file.reason {
         Some(ErrorKind::AlreadyExists) => writeln!(
             out,
-            "countygroups: if no other run is storing {name}, remove {name}.part, {name}.part2, {name}.part3 and {name}.part4"
+            "countygroups: each run that is to store {name} has a file beside it, from {name}.countygroups.part to {name}.countygroups9.part: wait for one of them to end, or remove what killed runs left"
         ),
         _ => writeln!(
             out,
@@ -79,8 +79,8 @@ pub(crate) fn explain_unstored(out: &mut String, file: Unmoved<'_>) -> Result<()
     }
 }
 
-/// Appends `report`, the text of the answer of a run that could not store one of its files. Appends nothing if the text
-/// isn't UTF-8.
+/// Appends `report`, the text of the answer of a run that could not store one of its files, with its control characters
+/// escaped. Appends nothing if the text isn't UTF-8.
 ///
 /// # Errors
 ///
@@ -89,7 +89,10 @@ pub(crate) fn push_report(out: &mut String, report: &[u8]) -> Result<(), AllocEr
     match str::from_utf8(report) {
         Ok(report) => {
             out.push_str("countygroups: the answer is:\n")?;
-            out.push_str(report)
+            for line in report.lines() {
+                writeln!(out, "{}", whole(line))?;
+            }
+            Ok(())
         }
         Err(_) => Ok(()),
     }

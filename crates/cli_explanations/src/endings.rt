@@ -2,18 +2,19 @@
 
 use crate::best_not_shown::explain_best_not_shown;
 use crate::board::{explain_board, explain_left, explain_no_piece, explain_open_piece};
+use crate::borders::warn_of_borders;
 use crate::certificate_fault::explain_certificate;
 use crate::device::{Unmoved, explain_unloaded, explain_unstored, push_report};
 use crate::findings::explain_findings;
 use crate::grouping_fault::explain_fault;
 use crate::named_groups::push_named;
 use crate::options::Options;
-use crate::outputs::{warn_of_older_files, warn_of_outputs};
+use crate::outputs::{Output, warn_of_older_files, warn_of_outputs};
 use crate::refusals::{explain_problem, explain_refused};
 use crate::state_line::{warn_of_state, warn_of_two_states};
 use crate::usage::explain_usage;
 use crate::warnings::push_warnings;
-use cli::{EndedRun, Notes};
+use cli::EndedRun;
 use cli_answers::{FileOption, RunOutcome, Subject};
 use cli_file_stores::FileStoreFault;
 use cli_words::WordsEnd;
@@ -84,6 +85,8 @@ pub struct Ended<'a> {
     pub run: &'a EndedRun,
     /// The kind of error that the system gave at the last file that failed.
     pub reason: Option<ErrorKind>,
+    /// Whether it was told before the run that the adjacency file has no border.
+    pub is_without_borders: bool,
     /// Whether the answer could not be written.
     pub is_unwritten: bool,
     /// Whether standard output is a terminal, so that the answer stands beside what a person is told.
@@ -179,15 +182,20 @@ fn explain_outcome(
     }
 }
 
-/// Warns if the adjacency file hasn't a single pair of listed counties, as `notes` tell.
-fn warn_of_pairs(out: &mut String, options: Options<'_>, notes: &Notes) -> Result<(), AllocError> {
-    if notes.has_pairs != Some(false) {
+/// Warns if the adjacency file hasn't a single pair of listed counties, as the notes of the run that has `ended` tell.
+/// Says nothing if this was told before the run.
+fn warn_of_pairs(
+    out: &mut String,
+    options: Options<'_>,
+    ended: Ended<'_>,
+) -> Result<(), AllocError> {
+    if ended.is_without_borders || ended.run.notes.has_pairs != Some(false) {
         return Ok(());
     }
     let file = options.file(FileOption::Adjacency);
     writeln!(
         out,
-        "countygroups: warning: {file} has not one pair of listed counties, so that no two are adjacent but by --links"
+        "countygroups: warning: {file} has not one pair of listed counties: no border was read from it, so that no two counties are adjacent but by --links"
     )
 }
 
@@ -201,7 +209,6 @@ fn warn(
 ) -> Result<(), AllocError> {
     let notes = &run.notes;
     warn_of_two_states(out, options, notes)?;
-    warn_of_pairs(out, options, notes)?;
     push_warnings(out, options, run)?;
     let Some(command) = options.command else {
         return Ok(());
@@ -222,6 +229,7 @@ fn warn(
 pub fn explain(rt: &(impl Files + AllocGlobal), ended: Ended<'_>) -> Result<String, AllocError> {
     let options = ended.options;
     let mut out = String::new(rt.alloc());
+    warn_of_pairs(&mut out, options, ended)?;
     if ended.is_unwritten {
         out.push_str(UNWRITTEN)?;
     } else {
@@ -237,7 +245,17 @@ pub fn explain(rt: &(impl Files + AllocGlobal), ended: Ended<'_>) -> Result<Stri
     Ok(out)
 }
 
-/// Returns what a person is told before a run with these `options`: warnings of the files that it is to store.
+/// What a person is told before a run.
+#[derive(Drop)]
+pub struct Before {
+    /// The text, in whole lines that each begin with `countygroups: `.
+    pub text: String,
+    /// Whether it says that the adjacency file has no border.
+    pub is_without_borders: bool,
+}
+
+/// Returns what a person is told before a run with these `options`: warnings of the adjacency file, and of the `outputs`
+/// that the run is to store.
 ///
 /// # Errors
 ///
@@ -245,10 +263,15 @@ pub fn explain(rt: &(impl Files + AllocGlobal), ended: Ended<'_>) -> Result<Stri
 pub fn explain_before(
     rt: &(impl Files + AllocGlobal),
     options: Options<'_>,
-) -> Result<String, AllocError> {
-    let mut out = String::new(rt.alloc());
+    outputs: &[Output<'_>],
+) -> Result<Before, AllocError> {
+    let mut text = String::new(rt.alloc());
+    let is_without_borders = warn_of_borders(rt, &mut text, options)?;
     if let Some(command) = options.command {
-        warn_of_outputs(rt, &mut out, command)?;
+        warn_of_outputs(rt, &mut text, command, outputs)?;
     }
-    Ok(out)
+    Ok(Before {
+        text,
+        is_without_borders,
+    })
 }

@@ -5,32 +5,32 @@ use crate::options::Options;
 use baf_auditor::{Finding, Findings, Set};
 use county_codes::{Codes, Grouping};
 use county_problem::Problem;
-use std::alloc::AllocError;
+use std::alloc::{AllocError, Global};
 use std::fmt::Write;
 
-/// Returns whether one of the `findings` names `set`.
-pub(crate) fn is_named(findings: &Findings, set: Set) -> bool {
+/// Returns the sets that `findings` name, as often as they name them.
+///
+/// # Errors
+///
+/// Returns `AllocError` if memory was refused.
+pub(crate) fn named_sets(alloc: Global, findings: &Findings) -> Result<Vec<Set>, AllocError> {
+    let mut named = Vec::new(alloc);
     for finding in &findings.list {
-        let (first, second) = match finding {
-            Finding::Crosses(_, first, second) => (*first, *second),
-            Finding::WrongNumber(named, _, _) => (*named, *named),
-            _ => continue,
-        };
-        if first == set || second == set {
-            return true;
+        match finding {
+            Finding::Crosses(_, first, second) => {
+                named.push(*first)?;
+                named.push(*second)?;
+            }
+            Finding::WrongNumber(set, _, _) => named.push(*set)?,
+            _ => {}
         }
     }
-    false
+    Ok(named)
 }
 
-/// Says with which county `set` begins, if a finding names it.
-fn explain_set(
-    out: &mut String,
-    findings: &Findings,
-    set: Set,
-    codes: &Codes,
-) -> Result<(), AllocError> {
-    if !is_named(findings, set) {
+/// Says with which county `set` begins, if it is one of the sets `named` by findings.
+fn explain_set(out: &mut String, named: &[Set], set: Set, codes: &Codes) -> Result<(), AllocError> {
+    if !named.contains(&set) {
         return Ok(());
     }
     match (set, codes.as_slice().first()) {
@@ -57,11 +57,12 @@ fn explain_sets(
     findings: &Findings,
     (problem, grouping): (&Problem, &Grouping),
 ) -> Result<(), AllocError> {
+    let named = named_sets(*out.allocator(), findings)?;
     for (number, group) in (1..=u32::MAX).zip(&grouping.groups) {
-        explain_set(out, findings, Set::Group(number), &group.codes)?;
+        explain_set(out, &named, Set::Group(number), &group.codes)?;
     }
     for (number, set) in (1..=u32::MAX).zip(problem.withdrawn()) {
-        explain_set(out, findings, Set::Withdrawn(number), &set.codes)?;
+        explain_set(out, &named, Set::Withdrawn(number), &set.codes)?;
     }
     Ok(())
 }

@@ -5,6 +5,7 @@
 
 mod best_not_shown;
 mod board;
+mod borders;
 mod certificate_fault;
 mod county_names;
 mod device;
@@ -22,5 +23,6 @@ mod state_line;
 mod usage;
 mod warnings;
 
-pub use endings::{Ended, explain, explain_before};
+pub use endings::{Before, Ended, explain, explain_before};
 pub use options::Options;
+pub use outputs::{Output, outputs_of};

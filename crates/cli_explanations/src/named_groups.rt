@@ -2,7 +2,7 @@
 //! of an audit by kind.
 
 use crate::county_names::push_county;
-use crate::findings::is_named;
+use crate::findings::named_sets;
 use crate::options::Options;
 use crate::shown_bytes::start_of;
 use baf_auditor::{Finding, Findings, Set};
@@ -172,15 +172,16 @@ fn push_findings(
     subject: &Subject,
 ) -> Result<(), AllocError> {
     push_kinds(out, findings)?;
+    let named = named_sets(*out.allocator(), findings)?;
     if let Some(grouping) = &subject.grouping {
         for (number, group) in (1..=u32::MAX).zip(&grouping.groups) {
-            if is_named(findings, Set::Group(number)) {
+            if named.contains(&Set::Group(number)) {
                 push_set(out, head, "group", number, &group.codes)?;
             }
         }
     }
     for (number, set) in (1..=u32::MAX).zip(subject.problem.withdrawn()) {
-        if is_named(findings, Set::Withdrawn(number)) {
+        if named.contains(&Set::Withdrawn(number)) {
             push_set(out, head, "withdrawn set", number, &set.codes)?;
         }
     }
@@ -210,7 +211,7 @@ pub(crate) fn push_named(
     options: Options<'_>,
     run: &EndedRun,
 ) -> Result<(), AllocError> {
-    let head = run.notes.geo_head.as_slice();
+    let head = run.notes.names_head.as_slice();
     if let (RunOutcome::Found(findings), Some(subject)) = (&run.outcome, &run.subject) {
         return push_findings(out, head, findings, subject);
     }

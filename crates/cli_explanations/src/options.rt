@@ -2,7 +2,9 @@
 
 use crate::shown_bytes::name_of;
 use cli_answers::FileOption;
-use cli_words::{CommandWords, CommonWords, ProblemWords, STANDARD_INPUT, parse};
+use cli_words::{
+    CensusWords, CommandWords, CommonWords, CountyWords, ProblemWords, STANDARD_INPUT, parse,
+};
 use std::alloc::Global;
 use std::fmt;
 
@@ -55,11 +57,29 @@ pub(crate) fn common_of<'a>(command: CommandWords<'a>) -> CommonWords<'a> {
     }
 }
 
+/// Returns the census files that `command` reads, if it reads them.
+fn census_of<'a>(command: CommandWords<'a>) -> Option<CensusWords<'a>> {
+    match (command, common_of(command).counties) {
+        (CommandWords::Audit(words), _) => Some(words.census),
+        (_, CountyWords::Census(census)) => Some(census),
+        (_, CountyWords::People(_)) => None,
+    }
+}
+
+/// Returns the path of the table of counties that `command` reads, if it reads one.
+fn people_of<'a>(command: CommandWords<'a>) -> Option<&'a str> {
+    match common_of(command).counties {
+        CountyWords::Census(_) => None,
+        CountyWords::People(name) => Some(name),
+    }
+}
+
 /// Returns the path that `command` has for `option`, if it has one.
 pub(crate) fn path_in<'a>(command: CommandWords<'a>, option: FileOption) -> Option<&'a str> {
     match (command, option) {
-        (_, FileOption::Geo) => Some(common_of(command).geo),
-        (_, FileOption::Segment) => Some(common_of(command).segment),
+        (_, FileOption::Geo) => Some(census_of(command)?.geo),
+        (_, FileOption::Segment) => Some(census_of(command)?.segment),
+        (_, FileOption::People) => people_of(command),
         (_, FileOption::Record) => common_of(command).record_file,
         (_, FileOption::Adjacency) => Some(problem_of(command)?.adjacency),
         (_, FileOption::Links) => problem_of(command)?.links,

@@ -2,12 +2,13 @@
 
 use crate::file_lines::{UNZIP, county_state, is_utf16, is_zip, line_at_fault, looks_like};
 use crate::machine_files::is_plain;
-use crate::options::{NamedFile, Options};
+use crate::options::{NamedFile, Options, common_of};
 use crate::shown_bytes::start_of;
 use cli_answers::{FaultText, FileFault, FileOption};
-use cli_words::CommandWords;
+use cli_words::{CommandWords, CountyWords};
 use county_problem::ProblemFault;
-use field_lines::field_at;
+use field_lines::{Fields, field_at};
+use people_table::PeopleKind;
 use pl94_counties::Pl94Kind;
 use std::alloc::AllocError;
 use std::fmt::Write;
@@ -19,13 +20,16 @@ const QUOTES: &str =
     "countygroups: the fields stand between quotes: store the file without quotes round its fields\n";
 
 /// Returns what the file of `option` has to be.
-fn remedy(option: FileOption) -> &'static str {
+pub(crate) fn remedy(option: FileOption) -> &'static str {
     match option {
         FileOption::Geo => {
             "give --geo a state's geographic header of the Census Bureau's PL 94-171 files of 2020, unzipped, as nc2020geo.pl"
         }
         FileOption::Segment => {
             "give --segment the same state's segment 1 of the Census Bureau's PL 94-171 files of 2020, unzipped, as nc000012020.pl"
+        }
+        FileOption::People => {
+            "a line of --people is a county's five digits, its people and, if it is known, its name, as 37001,171415,Alamance"
         }
         FileOption::Adjacency => {
             "give --adjacency the Census Bureau's county adjacency file with pipes between its fields, as county_adjacency2023.txt"
@@ -108,7 +112,10 @@ fn spent_file<'a>(
         _ => return None,
     };
     match (options.command, file.path) {
-        (Some(CommandWords::Audit(_)), Some(path)) if !is_plain(rt, path) => Some(file),
+        (Some(CommandWords::Audit(words)), Some(path)) => match words.problem.common.counties {
+            CountyWords::Census(_) if !is_plain(rt, path) => Some(file),
+            _ => None,
+        },
         _ => None,
     }
 }
@@ -170,6 +177,37 @@ fn explain_name(out: &mut String, line: Option<&[u8]>) -> Result<(), AllocError>
     )
 }
 
+/// Returns the state of the first county in the `text` of a table of counties: the first two digits of the first of its
+/// lines that begins with five digits.
+fn state_in_table(text: &[u8]) -> Option<&[u8]> {
+    for line in Fields::new(text, b'\n') {
+        if let [first, second, third, fourth, fifth, ..] = line {
+            let digits = [*first, *second, *third, *fourth, *fifth];
+            if digits.iter().all(|digit| digit.is_ascii_digit()) {
+                return line.get(..2);
+            }
+        }
+    }
+    None
+}
+
+/// Says what helps against a fault of this `kind` in a table of counties, whose text is `text`.
+fn explain_people(out: &mut String, kind: PeopleKind, text: &[u8]) -> Result<(), AllocError> {
+    match (kind, state_in_table(text)) {
+        (PeopleKind::NoCounties, Some(state)) => {
+            let state = start_of(state);
+            writeln!(
+                out,
+                "countygroups: its first county is of state {state}: --state names the state, and is 37 where it is left out"
+            )
+        }
+        _ => {
+            let words = remedy(FileOption::People);
+            writeln!(out, "countygroups: {words}")
+        }
+    }
+}
+
 /// Says what helps against a `fault` of the file of `option`.
 fn explain_help(
     rt: &impl Files,
@@ -185,10 +223,13 @@ fn explain_help(
     if is_utf16(text) {
         return out.push_str(UTF_16);
     }
-    explain_quotes(out, line)?;
+    if option != FileOption::People {
+        explain_quotes(out, line)?;
+    }
     match fault {
         FileFault::Census(fault) => explain_census(rt, out, options, option, (fault.kind, text)),
         FileFault::BadName(_) => explain_name(out, line),
+        FileFault::People(fault) => explain_people(out, fault.kind, text),
         _ => {
             let words = remedy(option);
             writeln!(out, "countygroups: {words}")
@@ -213,6 +254,17 @@ pub(crate) fn explain_refused(
     explain_help(rt, out, options, option, fault, (text.head(), line))
 }
 
+/// Returns the option of the file that the counties of a command are read from.
+fn county_option(options: Options<'_>) -> FileOption {
+    match options.command {
+        Some(command) => match common_of(command).counties {
+            CountyWords::People(_) => FileOption::People,
+            CountyWords::Census(_) => FileOption::Geo,
+        },
+        None => FileOption::Geo,
+    }
+}
+
 /// Explains the `fault` for which the problem is refused, and names the file at fault. If the tolerance is out of
 /// range, this names its two options instead.
 ///
@@ -233,7 +285,7 @@ pub(crate) fn explain_problem(
         | ProblemFault::WithdrawnTwice(_)
         | ProblemFault::WithdrawnSeats => FileOption::Withdrawn,
         ProblemFault::UnknownPair(_, _) => FileOption::Links,
-        _ => FileOption::Geo,
+        _ => county_option(options),
     });
     writeln!(out, "countygroups: {file}: {fault}")
 }

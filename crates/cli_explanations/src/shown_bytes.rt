@@ -5,8 +5,8 @@ use std::fmt;
 /// The most characters of a line or a field that are shown.
 const MOST: usize = 120;
 
-/// Bytes as text. Control characters, byte order marks and bytes that aren't UTF-8 are escaped, such as `\n` and
-/// `\x1b`.
+/// Bytes as text. Control characters, byte order marks, marks that change the direction of text and bytes that aren't
+/// UTF-8 are escaped, such as `\n`, `\x1b` and `\u202e`.
 #[derive(Clone, Copy)]
 pub(crate) struct Shown<'a> {
     bytes: &'a [u8],
@@ -36,13 +36,24 @@ pub(crate) fn name_of(name: &str) -> Shown<'_> {
     }
 }
 
-/// Writes a `character`, or its escape if it is a control character or a byte order mark.
+/// Returns whether `character` is one that Unicode's Bidirectional Algorithm (UAX #9, section 2) takes as a mark: it
+/// changes the direction in which the characters behind it are shown, and isn't shown itself.
+fn turns_text(character: char) -> bool {
+    matches!(
+        character,
+        '\u{61c}' | '\u{200e}' | '\u{200f}' | '\u{202a}'..='\u{202e}' | '\u{2066}'..='\u{2069}'
+    )
+}
+
+/// Writes a `character`, or its escape if it is a control character, a byte order mark or a mark that changes the
+/// direction of text.
 fn write_character<W: fmt::Write>(f: &mut fmt::Formatter<W>, character: char) -> fmt::Result {
     match character {
         '\n' => f.write_str("\\n"),
         '\r' => f.write_str("\\r"),
         '\t' => f.write_str("\\t"),
         '\u{feff}' => f.write_str("\\ufeff"),
+        _ if turns_text(character) => write!(f, "\\u{:04x}", u32::from(character)),
         _ if character.is_control() => write!(f, "\\x{:02x}", u32::from(character)),
         _ => f.write_char(character),
     }

@@ -4,7 +4,7 @@ use crate::options::{Options, common_of};
 use crate::shown_bytes::name_of;
 use cli::Notes;
 use cli_answers::FileOption;
-use cli_words::CommandWords;
+use cli_words::{CommandWords, CountyWords};
 use std::alloc::AllocError;
 use std::fmt::Write;
 
@@ -25,7 +25,10 @@ pub(crate) fn warn_of_state(
     if u64::from(all) == people {
         return Ok(());
     }
-    let geo = name_of(common_of(command).geo);
+    let CountyWords::Census(census) = common_of(command).counties else {
+        return Ok(());
+    };
+    let geo = name_of(census.geo);
     writeln!(
         out,
         "countygroups: warning: the {count} counties of --geo {geo} have {people} people, and the state's own line has {all}: the file may be cut short"

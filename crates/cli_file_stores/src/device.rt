@@ -6,7 +6,8 @@ ghost use Rattle.cli_file_stores.specs.declared.file_store.FileStoreFault.TheVar
 
 use crate::file_reader::FileReader;
 use crate::file_store::{FileStore, FileStoreFault, MAX_FILE, ReadEnd};
-use crate::replace::replace_file;
+use crate::machine::Machine;
+use crate::replace::{Ready, open_ready, remove_ready, replace_file};
 use crate::sums::{EventSum, EventSums};
 use crate::whole_source::{WholeFault, read_whole};
 use field_lines::Reading;
@@ -18,22 +19,25 @@ use std::{fs, io};
 
 /// The machine's files.
 #[derive(Drop)]
-pub struct DiskFileStore<R> {
+pub struct DiskFileStore<R: Files> {
     rt: R,
     failures: u64,
     reason: Option<ErrorKind>,
+    ready: Vec<Ready<R::File>>,
     log: EventSums,
 }
 
-impl<R: Files + AllocGlobal> DiskFileStore<R> {
+impl<R: Machine + AllocGlobal> DiskFileStore<R> {
     /// Creates a file store of the files that `rt` reaches, with no failure and no event so far.
     pub fn new(rt: R) -> Self
         ensures { ⟦<DiskFileStore<R> as FileStore>⟧.history result ≡ no_history }
     {
+        let ready = Vec::new(rt.alloc());
         DiskFileStore {
             rt,
             failures: 0,
             reason: None,
+            ready,
             log: EventSums::new(),
         }
     }
@@ -43,6 +47,33 @@ impl<R: Files + AllocGlobal> DiskFileStore<R> {
     /// memory was refused for the bytes of a load.
     pub fn reason(&self) -> Option<ErrorKind> {
         self.reason
+    }
+
+    /// Opens the file beside the one that is to be stored under `name`, so that a later store of this name need not.
+    /// Nothing is opened if the name leads to a device or a pipe. `remove_parts` removes the file if no store takes it.
+    ///
+    /// # Errors
+    ///
+    /// Returns the kind of error that the system gives if no file can be put under this name. A store would meet that
+    /// error too, unless it has passed by then. Returns `OutOfMemory` if memory was refused.
+    pub fn open_part(&mut self, alloc: Global, name: &str) -> Result<(), ErrorKind>
+        ensures { ⟦<DiskFileStore<R> as FileStore>⟧.history self.new ≡ ⟦<DiskFileStore<R> as FileStore>⟧.history self.old }
+    {
+        if self.ready.reserve(1).is_err() {
+            return Err(ErrorKind::OutOfMemory);
+        }
+        match open_ready(&self.rt, alloc, name) {
+            Ok(Some(ready)) => self.ready.push(ready).map_err(|_| ErrorKind::OutOfMemory),
+            Ok(None) => Ok(()),
+            Err(error) => Err(error.kind()),
+        }
+    }
+
+    /// Removes the files that `open_part` opened and no store took.
+    pub fn remove_parts(&mut self)
+        ensures { ⟦<DiskFileStore<R> as FileStore>⟧.history self.new ≡ ⟦<DiskFileStore<R> as FileStore>⟧.history self.old }
+    {
+        remove_ready(&self.rt, &mut self.ready);
     }
 }
 
@@ -128,7 +159,7 @@ fn read_fault(fault: WholeFault, failures: &mut u64) -> FileStoreFault
     }
 }
 
-impl<R: Files + AllocGlobal> DiskFileStore<R> {
+impl<R: Machine + AllocGlobal> DiskFileStore<R> {
     /// Reads the file of this `name` whole. Reading stops once more than `MAX_FILE` bytes have come. A file that the
     /// system says is larger isn't read at all.
     fn read_file(&mut self, alloc: Global, name: &str) -> Result<Vec<u8>, FileStoreFault>
@@ -164,7 +195,7 @@ impl<R: Files + AllocGlobal> DiskFileStore<R> {
     }
 }
 
-impl<R: Files + AllocGlobal> FileStore for DiskFileStore<R> {
+impl<R: Machine + AllocGlobal> FileStore for DiskFileStore<R> {
     type Reader = FileReader<R::File>;
 
     ghost contents = { λ _. None };
@@ -212,15 +243,18 @@ impl<R: Files + AllocGlobal> FileStore for DiskFileStore<R> {
         answer
     }
 
-    /// Puts a file under `name` whole or not at all. The bytes go to a new file beside it, in the same folder. The new
-    /// file's name is `name` with `.part` behind it. If a file has that name already, the first free one of the
-    /// suffixes `.part2`, `.part3` and `.part4` is taken. The new file is renamed once the device has all bytes, and
-    /// has the permissions of a new file. A link of the name is replaced.
+    /// Puts a file under `name` whole or not at all. The bytes go to a new file beside it, in the same folder, which is
+    /// renamed once the device has all bytes. Then the folder is synced. Links of the name are followed and stay, and
+    /// the file keeps the owner and the permissions of the one that it replaces, as far as the system lets it. The new
+    /// file's name is that of the file with `.countygroups.part` behind it, or `.countygroups2.part` up to
+    /// `.countygroups9.part` while other runs store this name. A long name is cut. Files of such names are this
+    /// program's: one that a killed run has left is removed, as its advisory lock tells.
     ///
     /// At a fault, what stood under the name is as it was, and the new file is removed if that can be done. A name that
-    /// is a folder, a device or a read-only file is a failure of the device.
+    /// leads to a folder or a read-only file is a failure of the device. A device, a pipe or standard output is written
+    /// as it stands. There is nothing to put back, so at a fault a beginning of the bytes may be gone.
     fn store(&mut self, alloc: Global, name: &str, bytes: &[u8]) -> Result<(), FileStoreFault> {
-        let answer = match replace_file(&self.rt, alloc, name, bytes) {
+        let answer = match replace_file(&self.rt, alloc, &mut self.ready, name, bytes) {
             Ok(()) => Ok(()),
             Err(error) => {
                 self.reason = Some(error.kind());

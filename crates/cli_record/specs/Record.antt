@@ -15,6 +15,7 @@ use Rattle.cli_file_stores.specs.ByteSums.{SumValue}
 abbrev pub record_file_word : ReadFile → List ℕ
 record_file_word files.Geo = codes "geo"
 record_file_word files.Segment1 = codes "segment1"
+record_file_word files.People = codes "people"
 record_file_word files.Adjacency = codes "adjacency"
 record_file_word files.Links = codes "links"
 record_file_word files.Withdrawn = codes "withdrawn"

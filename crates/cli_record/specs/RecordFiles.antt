@@ -5,7 +5,10 @@ use Rattle.std.specs.List.{filter_map}
 use Rattle.std.specs.Option.{option_map, option_or}
 use Rattle.std.specs.Borrow.{Bor}
 use Rattle.std.specs.Str.{bytes_eq}
-use Rattle.cli_words.specs.declared.words.CommonWords.{CommonWords}
+use Rattle.cli_words.specs.declared.words.CensusWords.{CensusWords}
+use Rattle.cli_words.specs.declared.words.CountyWords.{CountyWords}
+use Rattle.cli_words.specs.declared.words.CountyWords.TheVariants.{Census, People}
+use Rattle.cli_words.specs.declared.words.AuditWords.{AuditWords}
 use Rattle.cli_words.specs.declared.words.ProblemWords.{ProblemWords}
 use Rattle.cli_words.specs.declared.words.BoardWords.{BoardWords}
 use Rattle.cli_words.specs.declared.words.StoredWords.{StoredWords}
@@ -36,13 +39,27 @@ if_named file None = []
 if_named file (Some name) = file_named file name.now ∷ []
 
 -- the two census files
-abbrev pub census_files : CommonWords → List FileToRead
+abbrev pub census_files : CensusWords → List FileToRead
 census_files w = file_named files.Geo w.geo.now ∷ file_named files.Segment1 w.segment.now ∷ []
+
+-- the files of the counties: the two census files, or the table of counties
+abbrev pub county_files : CountyWords → List FileToRead
+county_files (Census census) = census_files census
+county_files (People table) = file_named files.People table.now ∷ []
+
+-- the census files that `audit` reads for its blocks, where the counties aren't read from them
+abbrev pub block_files : CountyWords → CensusWords → List FileToRead
+block_files (Census counties) census = []
+block_files (People table) census = census_files census
+
+-- the files of a plan: the grouping, and the assignments
+abbrev pub plan_files : AuditWords → List FileToRead
+plan_files w = file_named files.Grouping w.grouping.now ∷ file_named files.Assignments w.assignments.now ∷ []
 
 -- the files of a problem
 abbrev pub problem_files : ProblemWords → List FileToRead
 problem_files w =
-    census_files w.common ++ (file_named files.Adjacency w.adjacency.now
+    county_files w.common.counties ++ (file_named files.Adjacency w.adjacency.now
     ∷ (if_named files.Links w.links ++ if_named files.Withdrawn w.withdrawn))
 
 -- the files of a problem, and another one
@@ -59,13 +76,13 @@ board_and_events w events = board_files w ++ file_named files.Events events ∷ 
 
 -- the files that a command reads, in the order in which it opens each of them for the first time
 abbrev pub files_to_read : CommandWords → List FileToRead
-files_to_read (Size w) = census_files w
+files_to_read (Size w) = county_files w.counties
 files_to_read (Judge w) =
     problem_and w.problem files.Grouping w.grouping.now ++ if_named files.Certificate w.certificate
 files_to_read (Solve w) = problem_files w.problem
 files_to_read (Check w) = problem_and w.check.problem files.Certificate w.check.certificate.now
 files_to_read (Audit w) =
-    problem_and w.problem files.Grouping w.grouping.now ++ file_named files.Assignments w.assignments.now ∷ []
+    problem_files w.problem ++ (block_files w.problem.common.counties w.census ++ plan_files w)
 files_to_read (ListAll w) =
     problem_files w.check.problem
     ++ (if_named files.Grouping w.which ++ file_named files.Certificate w.check.certificate.now ∷ [])
@@ -123,9 +140,10 @@ if_answered status list = if nat_le status 1 then list else []
 
 -- The options whose files a command stores, in order, where it ends with this status: the certificate of a proof, the
 -- grouping and the table where there is a grouping, the events of a search that is open, and the table of the districts
--- behind each audit. `list` stores its files with status 1 too, if it tells that a grouping isn't listed.
+-- behind each audit. `list` stores its files with status 1 too, if it tells that a grouping isn't listed, and `judge` its
+-- table, if another grouping has greater counts.
 abbrev pub options_to_store : CommandWords → ℕ → List StoreOption
-options_to_store (Judge w) status = at_status 0 status (if_given options.Table w.table)
+options_to_store (Judge w) status = if_answered status (if_given options.Table w.table)
 options_to_store (Solve w) status =
     (if status == 3 then [] else if_given options.Certificate w.certificate)
     ++ (if status == 1 then [] else if_given options.Out w.out ++ if_given options.Table w.table)

@@ -3,15 +3,15 @@
 ghost use Rattle.std.specs.{Prelude.{◌≡◌, ◌++◌, ◌∷◌, [], List, IfOk, OnOk, map, find}, Option.option_map};
 ghost use Rattle.cli_words.specs.declared.words.CommandWords.TheVariants.{Judge, Audit, List as ListAll, Piece};
 ghost use Rattle.cli_record.specs.{declared.run.ReadFile.TheVariants.Certificate, RunRecord.read_line_of};
-ghost use Rattle.cli_record.specs.RecordFiles.{files_read, file_named, if_named, census_files, problem_files, problem_and, board_files, board_and_events, files_to_read};
+ghost use Rattle.cli_record.specs.RecordFiles.{files_read, file_named, if_named, census_files, county_files, block_files, plan_files, problem_files, problem_and, board_files, board_and_events, files_to_read};
 ghost use Rattle.cli_file_stores.specs.Sums.{sum_value};
 ghost use Rattle.cli_record.specs.RecordFiles.{went as has_gone, is_of as is_event_of, reading_of as reading_of_name};
 
 use crate::run::{FileRead, ReadFile};
 use cli_file_stores::{EventKind, EventSum};
 use cli_words::{
-    AuditWords, BoardWords, CertificateWords, CommandWords, CommonWords, JudgeWords, ListWords,
-    PieceWords, ProblemWords, STANDARD_INPUT,
+    AuditWords, BoardWords, CensusWords, CertificateWords, CommandWords, CountyWords, JudgeWords,
+    ListWords, PieceWords, ProblemWords, STANDARD_INPUT,
 };
 use std::alloc::{AllocError, Global};
 
@@ -105,13 +105,46 @@ fn push_if_named(
 fn push_census(
     reads: &mut Vec<FileRead>,
     sums: &[EventSum],
-    words: &CommonWords<'_>,
+    words: &CensusWords<'_>,
 ) -> Result<(), AllocError>
     ensures { OnOk result (map read_line_of reads.new.items
         ≡ map read_line_of reads.old.items ++ files_read (census_files words.now) (map sum_value sums.now)) }
 {
     push_read(reads, sums, ReadFile::Geo, words.geo)?;
     push_read(reads, sums, ReadFile::Segment1, words.segment)
+}
+
+/// Appends to `reads` the lines of the files of the counties that `words` name, each if it was read.
+fn push_counties(
+    reads: &mut Vec<FileRead>,
+    sums: &[EventSum],
+    words: &CountyWords<'_>,
+) -> Result<(), AllocError>
+    ensures { OnOk result (map read_line_of reads.new.items
+        ≡ map read_line_of reads.old.items ++ files_read (county_files words.now) (map sum_value sums.now)) }
+{
+    match words {
+        CountyWords::Census(census) => push_census(reads, sums, census),
+        CountyWords::People(table) => push_read(reads, sums, ReadFile::People, table),
+    }
+}
+
+/// Appends to `reads` the lines of the `census` files of an audit, each if it was read, unless the `counties` are read
+/// from them.
+fn push_blocks(
+    reads: &mut Vec<FileRead>,
+    sums: &[EventSum],
+    counties: &CountyWords<'_>,
+    census: &CensusWords<'_>,
+) -> Result<(), AllocError>
+    ensures { OnOk result (map read_line_of reads.new.items
+        ≡ map read_line_of reads.old.items
+        ++ files_read (block_files counties.now census.now) (map sum_value sums.now)) }
+{
+    match counties {
+        CountyWords::Census(_) => Ok(()),
+        CountyWords::People(_) => push_census(reads, sums, census),
+    }
 }
 
 /// Appends to `reads` the lines of the files of a problem that `words` name, each if it was read.
@@ -123,7 +156,7 @@ fn push_problem(
     ensures { OnOk result (map read_line_of reads.new.items
         ≡ map read_line_of reads.old.items ++ files_read (problem_files words.now) (map sum_value sums.now)) }
 {
-    push_census(reads, sums, &words.common)?;
+    push_counties(reads, sums, &words.common.counties)?;
     push_read(reads, sums, ReadFile::Adjacency, words.adjacency)?;
     push_if_named(reads, sums, ReadFile::Links, words.links)?;
     push_if_named(reads, sums, ReadFile::Withdrawn, words.withdrawn)
@@ -191,6 +224,20 @@ fn push_list(
     push_read(reads, sums, ReadFile::Certificate, words.check.certificate)
 }
 
+/// Appends to `reads` the lines of the grouping and of the assignments that an audit's `words` name, each if it was
+/// read.
+fn push_plan(
+    reads: &mut Vec<FileRead>,
+    sums: &[EventSum],
+    words: &AuditWords<'_>,
+) -> Result<(), AllocError>
+    ensures { OnOk result (map read_line_of reads.new.items
+        ≡ map read_line_of reads.old.items ++ files_read (plan_files words.now) (map sum_value sums.now)) }
+{
+    push_read(reads, sums, ReadFile::Grouping, words.grouping)?;
+    push_read(reads, sums, ReadFile::Assignments, words.assignments)
+}
+
 /// Appends to `reads` the lines of the files that `audit` reads by its `words`, each if it was read.
 fn push_audit(
     reads: &mut Vec<FileRead>,
@@ -200,9 +247,9 @@ fn push_audit(
     ensures { OnOk result (map read_line_of reads.new.items
         ≡ map read_line_of reads.old.items ++ files_read (files_to_read (Audit words.now)) (map sum_value sums.now)) }
 {
-    let (file, name) = (ReadFile::Grouping, words.grouping);
-    push_problem_and(reads, sums, &words.problem, file, name)?;
-    push_read(reads, sums, ReadFile::Assignments, words.assignments)
+    push_problem(reads, sums, &words.problem)?;
+    push_blocks(reads, sums, &words.problem.common.counties, &words.census)?;
+    push_plan(reads, sums, words)
 }
 
 /// Appends the lines of the files of a board, and then that of the file `events`, each if it was read.
@@ -258,7 +305,7 @@ fn push_files(
         ≡ map read_line_of reads.old.items ++ files_read (files_to_read command.now) (map sum_value sums.now)) }
 {
     match command {
-        CommandWords::Size(words) => push_census(reads, sums, words),
+        CommandWords::Size(words) => push_counties(reads, sums, &words.counties),
         CommandWords::Judge(words) => push_judge(reads, sums, words),
         CommandWords::Solve(words) => push_problem(reads, sums, &words.problem),
         CommandWords::Check(words) => push_certificate(reads, sums, &words.check),

@@ -9,6 +9,8 @@ pub enum ReadFile {
     Geo,
     /// Segment 1.
     Segment1,
+    /// A table of counties with their people.
+    People,
     /// The county adjacency file.
     Adjacency,
     /// Links over the adjacent pairs.

@@ -3,14 +3,14 @@
 ghost use Rattle.std.specs.Prelude.{◌≡◌, ◌++◌, List, IfOk, OnOk, map};
 ghost use Rattle.cli_file_stores.specs.{declared.sums.EventKind.TheVariants.Taken, Sums.sum_value};
 ghost use Rattle.cli_record.specs.RunRecord.{stored_line_of};
-ghost use Rattle.cli_record.specs.RecordFiles.{at_status, if_given, if_listed, files_stored, stored_value};
+ghost use Rattle.cli_record.specs.RecordFiles.{at_status, if_answered, if_given, if_listed, files_stored, stored_value};
 ghost use Rattle.cli_record.specs.RecordFiles.{options_to_store as options_of};
-ghost use Rattle.cli_words.specs.declared.words.CommandWords.TheVariants.{Audit, List as ListAll, Solve};
+ghost use Rattle.cli_words.specs.declared.words.CommandWords.TheVariants.{List as ListAll, Solve};
 
 use crate::reads::went;
 use crate::run::{FileStored, StoreOption};
 use cli_file_stores::{EventKind, EventSum};
-use cli_words::{AuditWords, CommandWords, ListWords, SolveWords, StoredWords};
+use cli_words::{CommandWords, ListWords, SolveWords, StoredWords};
 use std::alloc::{AllocError, Global};
 
 /// Appends `option`, if the words name its file.
@@ -67,16 +67,17 @@ fn push_at_0(
     }
 }
 
-/// Appends the options whose files `audit` stores if it ends with `status`.
-fn push_audit(
+/// Appends `option`, if the words name its file and the run ends with status 0 or 1.
+fn push_at_0_or_1(
     options: &mut Vec<StoreOption>,
-    words: &AuditWords<'_>,
+    option: StoreOption,
+    name: Option<&str>,
     status: u8,
 ) -> Result<(), AllocError>
-    ensures { OnOk result (options.new.items ≡ options.old.items ++ options_of (Audit words.now) status) }
+    ensures { OnOk result (options.new.items ≡ options.old.items ++ if_answered status (if_given option name.entry)) }
 {
     if status <= 1 {
-        push_if_given(options, StoreOption::Districts, words.districts)
+        push_if_given(options, option, name)
     } else {
         Ok(())
     }
@@ -120,10 +121,14 @@ fn push_options(
     ensures { OnOk result (options.new.items ≡ options.old.items ++ options_of command.now status) }
 {
     match command {
-        CommandWords::Judge(words) => push_at_0(options, StoreOption::Table, words.table, status),
+        CommandWords::Judge(words) => {
+            push_at_0_or_1(options, StoreOption::Table, words.table, status)
+        }
         CommandWords::Solve(words) => push_solve(options, words, status),
         CommandWords::Check(words) => push_at_0(options, StoreOption::Table, words.table, status),
-        CommandWords::Audit(words) => push_audit(options, words, status),
+        CommandWords::Audit(words) => {
+            push_at_0_or_1(options, StoreOption::Districts, words.districts, status)
+        }
         CommandWords::List(words) => push_list(options, words, status),
         CommandWords::Share(words) => {
             push_at_0(options, StoreOption::Certificate, words.certificate, status)

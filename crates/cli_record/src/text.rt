@@ -18,6 +18,7 @@ fn push_file_word(out: &mut Vec<u8>, file: ReadFile) -> Result<(), AllocError>
     match file {
         ReadFile::Geo => out.extend_from_slice(b"geo"),
         ReadFile::Segment1 => out.extend_from_slice(b"segment1"),
+        ReadFile::People => out.extend_from_slice(b"people"),
         ReadFile::Adjacency => out.extend_from_slice(b"adjacency"),
         ReadFile::Links => out.extend_from_slice(b"links"),
         ReadFile::Withdrawn => out.extend_from_slice(b"withdrawn"),

@@ -4,12 +4,12 @@ ghost use Rattle.std.specs.{Prelude.{◌≤◌, ◌<◌, All, IfOk, length, map,
 ghost use Rattle.run_laws.specs.JudgeSteps.{IsAudited, IsTableIfAsked};
 ghost use Rattle.cli_reports.specs.Texts.{audited_of};
 
+use crate::forms::findings_in;
 use baf_auditor::{Assignment, Findings, audit, districts};
 use cli_answers::{RunAnswer, RunOutcome};
 use county_codes::Grouping;
 use county_problem::Problem;
 use district_table::districts_table;
-use grouping_report::findings_text;
 use pl94_counties::Block;
 use std::alloc::{AllocError, Global};
 
@@ -54,7 +54,7 @@ fn audit_outcome(findings: Findings) -> RunOutcome {
 }
 
 /// Returns what `audit` says of the assignments of a plan: all findings of `blocks` and `lines` against `grouping`. The
-/// table of the districts is beside them if it is `asked` for.
+/// table of the districts is beside them if it is `asked` for. The findings are an object if `json` is true.
 ///
 /// The blocks ascend by code, as `read_blocks` gives them. There are at most 4,000,000 lines, as `read_assignments`
 /// gives them.
@@ -64,6 +64,7 @@ fn audit_outcome(findings: Findings) -> RunOutcome {
 /// Returns `AllocError` if memory was refused.
 pub fn audit_and_report(
     alloc: Global,
+    json: bool,
     problem: &Problem,
     grouping: &Grouping,
     blocks: &[Block],
@@ -73,11 +74,11 @@ pub fn audit_and_report(
     requires fits { All (λ block. block.code < 1000000000000000) blocks.now }
     requires ascending { IsStrictlyIncreasing (map (λ block. block.code) blocks.now) }
     requires few { length lines.now ≤ 4000000 }
-    ensures { IfOk result (λ s. IsAudited asked problem.now grouping.now.groups.items blocks.now lines.now (audited_of s)) }
+    ensures { IfOk result (λ s. IsAudited json asked problem.now grouping.now.groups.items blocks.now lines.now (audited_of s)) }
 {
     let findings = audit(alloc, problem, grouping, blocks, lines)?;
     let table = table_if_asked(alloc, problem, grouping, blocks, lines, asked)?;
-    let text = findings_text(alloc, &findings)?;
+    let text = findings_in(alloc, json, &findings)?;
     let status = if findings.list.is_empty() { 0 } else { 1 };
     Ok(Audited {
         answer: RunAnswer {

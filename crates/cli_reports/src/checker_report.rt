@@ -8,12 +8,13 @@ ghost use Rattle.cli_answers.specs.Answers.{answer_of};
 ghost use Rattle.run_laws.specs.CheckSteps.{ChecksGiven, verdict_said, verdict_table};
 ghost use Rattle.cli_reports.specs.Texts.{reported_of, tabled_of};
 
+use crate::forms::{line_in, report_in};
 use crate::table_runs::{Reported, Tabled, table_of};
 use certificate_checker::{CheckStop, Verdict, check_from_keeping};
 use cli_answers::{RunAnswer, RunOutcome, budget_answer, no_answer};
 use county_codes::Grouping;
 use field_lines::Source;
-use grouping_report::{Outcome, report};
+use grouping_report::Outcome;
 use std::alloc::{AllocError, Global};
 
 /// Returns `answer` without a table.
@@ -27,13 +28,18 @@ fn without_table(answer: RunAnswer) -> Reported
 }
 
 /// Returns what is said of a `grouping` that is best, with its table if a table is asked for.
-fn report_best(alloc: Global, tabled: &Tabled, grouping: Grouping) -> Result<Reported, AllocError>
+fn report_best(
+    alloc: Global,
+    json: bool,
+    tabled: &Tabled,
+    grouping: Grouping,
+) -> Result<Reported, AllocError>
     requires { CheckIsRight (problem_of tabled.now.problem) (verdict.Best grouping) }
     ensures { IfOk result (λ r. reported_of r
-        ≡ record { answer = verdict_said tabled.now.problem (verdict.Best grouping); table = verdict_table (tabled_of tabled.now) (verdict.Best grouping) }) }
+        ≡ record { answer = verdict_said json (tabled_of tabled.now) (verdict.Best grouping); table = verdict_table (tabled_of tabled.now) (verdict.Best grouping) }) }
 {
     let table = table_of(alloc, tabled, &grouping)?;
-    let text = report(alloc, &tabled.problem, &Outcome::Best(grouping))?;
+    let text = report_in(alloc, json, tabled, &Outcome::Best(grouping))?;
     Ok(Reported {
         answer: RunAnswer {
             text,
@@ -46,15 +52,20 @@ fn report_best(alloc: Global, tabled: &Tabled, grouping: Grouping) -> Result<Rep
 }
 
 /// Returns what is said of `verdict`.
-fn report_verdict(alloc: Global, tabled: &Tabled, verdict: Verdict) -> Result<Reported, AllocError>
+fn report_verdict(
+    alloc: Global,
+    json: bool,
+    tabled: &Tabled,
+    verdict: Verdict,
+) -> Result<Reported, AllocError>
     requires { CheckIsRight (problem_of tabled.now.problem) verdict }
     ensures { IfOk result (λ r. reported_of r
-        ≡ record { answer = verdict_said tabled.now.problem verdict; table = verdict_table (tabled_of tabled.now) verdict }) }
+        ≡ record { answer = verdict_said json (tabled_of tabled.now) verdict; table = verdict_table (tabled_of tabled.now) verdict }) }
 {
     match verdict {
-        Verdict::Best(grouping) => report_best(alloc, tabled, grouping),
+        Verdict::Best(grouping) => report_best(alloc, json, tabled, grouping),
         Verdict::Impossible => {
-            let text = report(alloc, &tabled.problem, &Outcome::Impossible)?;
+            let text = report_in(alloc, json, tabled, &Outcome::Impossible)?;
             Ok(without_table(RunAnswer {
                 text,
                 status: 1,
@@ -64,14 +75,18 @@ fn report_verdict(alloc: Global, tabled: &Tabled, verdict: Verdict) -> Result<Re
         }
         Verdict::No(fault, line) => {
             let answer = no_answer(alloc, fault, line)?;
-            Ok(without_table(answer))
+            Ok(without_table(line_in(alloc, json, answer)?))
         }
-        Verdict::Budget => Ok(without_table(budget_answer(alloc)?)),
+        Verdict::Budget => {
+            let answer = budget_answer(alloc)?;
+            Ok(without_table(line_in(alloc, json, answer)?))
+        }
     }
 }
 
 /// Returns what `check` says of the bytes that `source` gives up to its end, or to where the checker left it. The
-/// verdict of a checker with this `budget` is told as a report or as the line that stands in its place. `line` keeps
+/// verdict of a checker with this `budget` is told as a report or as the line that stands in its place, as an object if
+/// `json` is true. `line` keeps
 /// the bytes of the line at fault, at most 65,536, for whoever shows it.
 ///
 /// # Errors
@@ -79,20 +94,21 @@ fn report_verdict(alloc: Global, tabled: &Tabled, verdict: Verdict) -> Result<Re
 /// Returns `ReadFault` if the source could not be read, and `Memory` if memory was refused.
 pub fn check_from_and_report<S: Source>(
     alloc: Global,
+    json: bool,
     tabled: &Tabled,
     source: &mut S,
     budget: u64,
     line: &mut Vec<u8>,
 ) -> Result<Reported, CheckStop>
     requires { S.is_failed source.old ≡ false }
-    ensures checked { IfOk result (λ r. ChecksGiven (tabled_of tabled.now) budget (S.given source.old) (S.given source.new) (reported_of r)) }
+    ensures checked { IfOk result (λ r. ChecksGiven json (tabled_of tabled.now) budget (S.given source.old) (S.given source.new) (reported_of r)) }
     ensures failed { S.is_failed source.new ≡ is_read_fault result }
 {
     let verdict = match check_from_keeping(alloc, &tabled.problem, source, budget, line) {
         Ok(verdict) => verdict,
         Err(stop) => return Err(stop),
     };
-    match report_verdict(alloc, tabled, verdict) {
+    match report_verdict(alloc, json, tabled, verdict) {
         Ok(reported) => Ok(reported),
         Err(AllocError) => Err(CheckStop::Memory),
     }

@@ -1,20 +1,22 @@
 //! What `judge` says of a lawful grouping.
 
-ghost use Rattle.std.specs.Prelude.{◌≡◌, ℕ, IfOk, option_map};
+ghost use Rattle.std.specs.Prelude.{◌≡◌, ◌++◌, ℕ, IfOk, OnOk, option_map};
 ghost use Rattle.county_problem.specs.{ProblemValue.problem_of, CountList.count_at};
 ghost use Rattle.grouping_laws.specs.Grouping.{Lawful, counts, sets_of};
 ghost use Rattle.certificate_checker.specs.Answers.{CheckIsRight};
 ghost use Rattle.cli_answers.specs.Answers.{answer_of};
-ghost use Rattle.run_laws.specs.JudgeWithCertificate.{IsSaidBy, IsSaidOf, NamesSameCounts, SaysBeside, best_answer, lawful_answer};
+ghost use Rattle.run_laws.specs.JudgeWithCertificate.{IsSaidBy, IsSaidOf, SaysBeside, best_answer, greater_answer, greater_in, greater_line, lawful_answer};
 ghost use Rattle.run_laws.specs.JudgeSteps.{HasTable};
 ghost use Rattle.cli_reports.specs.Texts.{reported_of, tabled_of};
 
+use crate::forms::report_in;
 use crate::table_runs::{Reported, Tabled, table_of};
 use certificate_checker::{Verdict, check};
 use cli_answers::{BestNotShown, RunAnswer, RunOutcome};
 use county_codes::Grouping;
 use county_problem::{Counts, Problem, compare, judge};
-use grouping_report::{Outcome, report};
+use grouping_report::{Outcome, push_counts, report};
+use json_report::greater_json;
 use std::alloc::{AllocError, Global};
 use std::cmp::Ordering;
 
@@ -22,16 +24,17 @@ use std::cmp::Ordering;
 /// the grouping isn't shown to be best, if a certificate was given.
 fn lawful_report(
     alloc: Global,
+    json: bool,
     tabled: &Tabled,
     grouping: Grouping,
     outcome: RunOutcome,
 ) -> Result<Reported, AllocError>
     requires { Lawful (problem_of tabled.now.problem) grouping.groups.items }
-    ensures said { IfOk result (λ r. answer_of r.answer ≡ lawful_answer tabled.now.problem grouping.groups.items) }
+    ensures said { IfOk result (λ r. answer_of r.answer ≡ lawful_answer json tabled.now.problem (tabled_of tabled.now).named grouping.groups.items) }
     ensures table { IfOk result (λ r. HasTable (tabled_of tabled.now) grouping.groups.items (reported_of r)) }
 {
     let table = table_of(alloc, tabled, &grouping)?;
-    let text = report(alloc, &tabled.problem, &Outcome::Lawful(grouping))?;
+    let text = report_in(alloc, json, tabled, &Outcome::Lawful(grouping))?;
     let answer = RunAnswer {
         text,
         status: 0,
@@ -42,13 +45,18 @@ fn lawful_report(
 }
 
 /// Returns the report of a `grouping` that is best, with status 0, and its table if a table is asked for.
-fn best_report(alloc: Global, tabled: &Tabled, grouping: Grouping) -> Result<Reported, AllocError>
+fn best_report(
+    alloc: Global,
+    json: bool,
+    tabled: &Tabled,
+    grouping: Grouping,
+) -> Result<Reported, AllocError>
     requires { Lawful (problem_of tabled.now.problem) grouping.groups.items }
-    ensures said { IfOk result (λ r. answer_of r.answer ≡ best_answer tabled.now.problem grouping.groups.items) }
+    ensures said { IfOk result (λ r. answer_of r.answer ≡ best_answer json tabled.now.problem (tabled_of tabled.now).named grouping.groups.items) }
     ensures table { IfOk result (λ r. HasTable (tabled_of tabled.now) grouping.groups.items (reported_of r)) }
 {
     let table = table_of(alloc, tabled, &grouping)?;
-    let text = report(alloc, &tabled.problem, &Outcome::Best(grouping))?;
+    let text = report_in(alloc, json, tabled, &Outcome::Best(grouping))?;
     let answer = RunAnswer {
         text,
         status: 0,
@@ -62,16 +70,18 @@ fn best_report(alloc: Global, tabled: &Tabled, grouping: Grouping) -> Result<Rep
 /// why it doesn't.
 fn left_lawful(
     alloc: Global,
+    json: bool,
     tabled: &Tabled,
     grouping: Grouping,
     best_not_shown: BestNotShown,
 ) -> Result<Reported, AllocError>
     requires { Lawful (problem_of tabled.now.problem) grouping.groups.items }
-    ensures said { IfOk result (λ r. answer_of r.answer ≡ lawful_answer tabled.now.problem grouping.groups.items) }
+    ensures said { IfOk result (λ r. answer_of r.answer ≡ lawful_answer json tabled.now.problem (tabled_of tabled.now).named grouping.groups.items) }
     ensures table { IfOk result (λ r. HasTable (tabled_of tabled.now) grouping.groups.items (reported_of r)) }
 {
     lawful_report(
         alloc,
+        json,
         tabled,
         grouping,
         RunOutcome::NotShownBest(best_not_shown),
@@ -89,10 +99,64 @@ fn counts_of(alloc: Global, problem: &Problem, grouping: &Grouping) -> Result<Co
     }
 }
 
+/// Appends the line of the counts of `target`, a grouping with greater counts than the one that is judged.
+fn push_greater_line(out: &mut Vec<u8>, target: &Grouping) -> Result<(), AllocError>
+    ensures { OnOk result (out.new.items ≡ out.old.items ++ greater_line target.now.groups.items) }
+{
+    out.extend_from_slice(b"greater ")?;
+    push_counts(out, &target.groups)
+}
+
+/// Returns the text of the report of a lawful `grouping`, with the counts of `target` behind it, as an object if `json`
+/// is true.
+fn greater_text(
+    alloc: Global,
+    json: bool,
+    tabled: &Tabled,
+    grouping: Grouping,
+    target: &Grouping,
+) -> Result<Vec<u8>, AllocError>
+    requires { Lawful (problem_of tabled.now.problem) grouping.groups.items }
+    ensures { IfOk result (λ v. v.items ≡ greater_in json tabled.now.problem (tabled_of tabled.now).named grouping.groups.items target.now.groups.items) }
+{
+    if json {
+        return greater_json(alloc, &tabled.problem, &tabled.named, &grouping, target);
+    }
+    let mut text = report(alloc, &tabled.problem, &Outcome::Lawful(grouping))?;
+    push_greater_line(&mut text, target)?;
+    Ok(text)
+}
+
+/// Returns the report of a lawful `grouping` than which the `target` of a certificate has greater counts, with status
+/// 1, and its table if a table is asked for. `lesser` are the counts of the grouping and those of the target.
+fn greater_report(
+    alloc: Global,
+    json: bool,
+    tabled: &Tabled,
+    grouping: Grouping,
+    target: &Grouping,
+    lesser: BestNotShown,
+) -> Result<Reported, AllocError>
+    requires { Lawful (problem_of tabled.now.problem) grouping.groups.items }
+    ensures said { IfOk result (λ r. answer_of r.answer ≡ greater_answer json tabled.now.problem (tabled_of tabled.now).named grouping.groups.items target.now.groups.items) }
+    ensures table { IfOk result (λ r. HasTable (tabled_of tabled.now) grouping.groups.items (reported_of r)) }
+{
+    let table = table_of(alloc, tabled, &grouping)?;
+    let text = greater_text(alloc, json, tabled, grouping, target)?;
+    let answer = RunAnswer {
+        text,
+        status: 1,
+        outcome: RunOutcome::NotShownBest(lesser),
+        subject: None,
+    };
+    Ok(Reported { answer, table })
+}
+
 /// Returns what is said of a lawful `grouping` with the counts `own`, where the `target` of a certificate is best. If
-/// both have the same counts, the grouping is said to be best.
+/// both have the same counts, the grouping is said to be best, and else the target to have greater counts.
 fn report_beside_best(
     alloc: Global,
+    json: bool,
     tabled: &Tabled,
     grouping: Grouping,
     own: Counts,
@@ -101,19 +165,23 @@ fn report_beside_best(
     requires lawful { Lawful (problem_of tabled.now.problem) grouping.groups.items }
     requires own { (size : ℕ) → count_at own size ≡ counts (sets_of grouping.groups.items) size }
     requires best { CheckIsRight (problem_of tabled.now.problem) (Verdict.Best target) }
-    ensures said { IfOk result (λ r. SaysBeside tabled.now.problem grouping.groups.items (Verdict.Best target) (answer_of r.answer)) }
+    ensures said { IfOk result (λ r. SaysBeside json (tabled_of tabled.now) grouping.groups.items (Verdict.Best target) (answer_of r.answer)) }
     ensures table { IfOk result (λ r. HasTable (tabled_of tabled.now) grouping.groups.items (reported_of r)) }
 {
     let best = counts_of(alloc, &tabled.problem, &target)?;
     match compare(&own, &best) {
-        Ordering::Equal => best_report(alloc, tabled, grouping),
-        _ => left_lawful(alloc, tabled, grouping, BestNotShown::Lesser(own, best)),
+        Ordering::Equal => best_report(alloc, json, tabled, grouping),
+        _ => {
+            let lesser = BestNotShown::Lesser(own, best);
+            greater_report(alloc, json, tabled, grouping, &target, lesser)
+        }
     }
 }
 
 /// Returns what is said of a lawful `grouping` with the counts `own`, where a certificate has this `verdict`.
 fn report_beside(
     alloc: Global,
+    json: bool,
     tabled: &Tabled,
     grouping: Grouping,
     own: Counts,
@@ -122,17 +190,17 @@ fn report_beside(
     requires lawful { Lawful (problem_of tabled.now.problem) grouping.groups.items }
     requires own { (size : ℕ) → count_at own size ≡ counts (sets_of grouping.groups.items) size }
     requires best { CheckIsRight (problem_of tabled.now.problem) verdict }
-    ensures said { IfOk result (λ r. SaysBeside tabled.now.problem grouping.groups.items verdict (answer_of r.answer)) }
+    ensures said { IfOk result (λ r. SaysBeside json (tabled_of tabled.now) grouping.groups.items verdict (answer_of r.answer)) }
     ensures table { IfOk result (λ r. HasTable (tabled_of tabled.now) grouping.groups.items (reported_of r)) }
 {
     match verdict {
-        Verdict::Best(target) => report_beside_best(alloc, tabled, grouping, own, target),
-        Verdict::Impossible => left_lawful(alloc, tabled, grouping, BestNotShown::Impossible),
+        Verdict::Best(target) => report_beside_best(alloc, json, tabled, grouping, own, target),
+        Verdict::Impossible => left_lawful(alloc, json, tabled, grouping, BestNotShown::Impossible),
         Verdict::No(fault, line) => {
             let best_not_shown = BestNotShown::NoCertificate(fault, line);
-            left_lawful(alloc, tabled, grouping, best_not_shown)
+            left_lawful(alloc, json, tabled, grouping, best_not_shown)
         }
-        Verdict::Budget => left_lawful(alloc, tabled, grouping, BestNotShown::Budget),
+        Verdict::Budget => left_lawful(alloc, json, tabled, grouping, BestNotShown::Budget),
     }
 }
 
@@ -140,6 +208,7 @@ fn report_beside(
 /// this `budget`.
 fn report_by(
     alloc: Global,
+    json: bool,
     tabled: &Tabled,
     grouping: Grouping,
     own: Counts,
@@ -148,21 +217,23 @@ fn report_by(
 ) -> Result<Reported, AllocError>
     requires lawful { Lawful (problem_of tabled.now.problem) grouping.groups.items }
     requires own { (size : ℕ) → count_at own size ≡ counts (sets_of grouping.groups.items) size }
-    ensures said { IfOk result (λ r. IsSaidBy tabled.now.problem grouping.groups.items budget text.now (answer_of r.answer)) }
+    ensures said { IfOk result (λ r. IsSaidBy json (tabled_of tabled.now) grouping.groups.items budget text.now (answer_of r.answer)) }
     ensures table { IfOk result (λ r. HasTable (tabled_of tabled.now) grouping.groups.items (reported_of r)) }
 {
     let verdict = check(alloc, &tabled.problem, text, budget)?;
-    report_beside(alloc, tabled, grouping, own, verdict)
+    report_beside(alloc, json, tabled, grouping, own, verdict)
 }
 
-/// Returns what `judge` says of a lawful `grouping` with the counts `own`. It says that the grouping is lawful, or that
-/// it is best if `certificate` shows it. The certificate's checker has this `budget`.
+/// Returns what `judge` says of a lawful `grouping` with the counts `own`: that it is lawful, or, if `certificate` shows
+/// it, that it is best, or that the certificate's grouping has greater counts. The certificate's checker has this
+/// `budget`. The report is an object if `json` is true.
 ///
 /// # Errors
 ///
 /// Returns `AllocError` if memory was refused.
 pub fn judge_and_report(
     alloc: Global,
+    json: bool,
     tabled: &Tabled,
     grouping: Grouping,
     own: Counts,
@@ -171,11 +242,11 @@ pub fn judge_and_report(
 ) -> Result<Reported, AllocError>
     requires lawful { Lawful (problem_of tabled.now.problem) grouping.groups.items }
     requires own { (size : ℕ) → count_at own size ≡ counts (sets_of grouping.groups.items) size }
-    ensures said { IfOk result (λ r. IsSaidOf tabled.now.problem grouping.groups.items budget (option_map (λ t. t.now.items) certificate.entry) (answer_of r.answer)) }
+    ensures said { IfOk result (λ r. IsSaidOf json (tabled_of tabled.now) grouping.groups.items budget (option_map (λ t. t.now.items) certificate.entry) (answer_of r.answer)) }
     ensures table { IfOk result (λ r. HasTable (tabled_of tabled.now) grouping.groups.items (reported_of r)) }
 {
     match certificate {
-        Some(text) => report_by(alloc, tabled, grouping, own, text, budget),
-        None => lawful_report(alloc, tabled, grouping, RunOutcome::Done),
+        Some(text) => report_by(alloc, json, tabled, grouping, own, text, budget),
+        None => lawful_report(alloc, json, tabled, grouping, RunOutcome::Done),
     }
 }

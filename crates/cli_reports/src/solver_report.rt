@@ -15,6 +15,7 @@ ghost use Rattle.run_laws.specs.SolveSteps.{SaysSolved, IsSolved};
 ghost use Rattle.cli_reports.specs.Texts.{solved_of, tabled_of};
 ghost use Rattle.run_laws.specs.TableSteps.{table_of as table_text_of};
 
+use crate::forms::report_in;
 use crate::table_runs::{Tabled, table_of};
 use board_report::resuming_text;
 use branch_bound::{Answer as SolverAnswer, Watcher, solve_watched};
@@ -23,7 +24,7 @@ use certificate_lines::WriteFault;
 use certificate_text::write;
 use cli_answers::{RunAnswer, RunOutcome};
 use county_codes::Grouping;
-use grouping_report::{Outcome, grouping_text, report};
+use grouping_report::{Outcome, grouping_text};
 use partial_trees::PartialTree;
 use std::alloc::{AllocError, Global};
 
@@ -57,18 +58,19 @@ fn certificate_lines(alloc: Global, certificate: &Certificate) -> Result<Vec<u8>
 /// Returns what is said of the best `grouping`, with its `certificate`.
 fn report_best(
     alloc: Global,
+    json: bool,
     tabled: &Tabled,
     grouping: Grouping,
     certificate: Certificate,
 ) -> Result<Solved, AllocError>
     requires lawful { Lawful (problem_of tabled.now.problem) grouping.groups.items }
     requires spelled { (text : List ℕ) × IsSpelling text (certificate_of certificate) }
-    ensures { IfOk result (λ s. SaysSolved (tabled_of tabled.now) (solver.Best grouping certificate) (solved_of s)) }
+    ensures { IfOk result (λ s. SaysSolved json (tabled_of tabled.now) (solver.Best grouping certificate) (solved_of s)) }
 {
     let lines = certificate_lines(alloc, &certificate)?;
     let groups = grouping_text(alloc, &grouping)?;
     let table = table_of(alloc, tabled, &grouping)?;
-    let text = report(alloc, &tabled.problem, &Outcome::Best(grouping))?;
+    let text = report_in(alloc, json, tabled, &Outcome::Best(grouping))?;
     Ok(Solved {
         answer: RunAnswer {
             text,
@@ -86,14 +88,15 @@ fn report_best(
 /// Returns what is said if no grouping is lawful, with the `certificate` that shows it.
 fn report_impossible(
     alloc: Global,
+    json: bool,
     tabled: &Tabled,
     certificate: Certificate,
 ) -> Result<Solved, AllocError>
     requires { (text : List ℕ) × IsSpelling text (certificate_of certificate) }
-    ensures { IfOk result (λ s. SaysSolved (tabled_of tabled.now) (solver.Impossible certificate) (solved_of s)) }
+    ensures { IfOk result (λ s. SaysSolved json (tabled_of tabled.now) (solver.Impossible certificate) (solved_of s)) }
 {
     let lines = certificate_lines(alloc, &certificate)?;
-    let text = report(alloc, &tabled.problem, &Outcome::Impossible)?;
+    let text = report_in(alloc, json, tabled, &Outcome::Impossible)?;
     Ok(Solved {
         answer: RunAnswer {
             text,
@@ -156,6 +159,7 @@ fn events_of_found(
 /// and the `part` that was proved of it being best.
 fn report_open(
     alloc: Global,
+    json: bool,
     tabled: &Tabled,
     found: Option<Grouping>,
     part: Option<PartialTree>,
@@ -163,12 +167,12 @@ fn report_open(
 ) -> Result<Solved, AllocError>
     requires lawful { NamesLawful tabled.now.problem (outcome.Open found steps) }
     requires part { (limit : ℕ) × IsFoundOpen (problem_of tabled.now.problem) limit found part }
-    ensures { IfOk result (λ s. SaysSolved (tabled_of tabled.now) (solver.Open found part steps) (solved_of s)) }
+    ensures { IfOk result (λ s. SaysSolved json (tabled_of tabled.now) (solver.Open found part steps) (solved_of s)) }
 {
     let groups = lines_of(alloc, &found)?;
     let table = table_of_found(alloc, tabled, &found)?;
     let events = events_of_found(alloc, tabled, &found, part)?;
-    let text = report(alloc, &tabled.problem, &Outcome::Open(found, steps))?;
+    let text = report_in(alloc, json, tabled, &Outcome::Open(found, steps))?;
     Ok(Solved {
         answer: RunAnswer {
             text,
@@ -184,27 +188,39 @@ fn report_open(
 }
 
 /// Returns what is said of `found`, the solver's answer, with the texts for the files of `solve`.
-fn report_answer(alloc: Global, tabled: &Tabled, found: SolverAnswer) -> Result<Solved, AllocError>
+fn report_answer(
+    alloc: Global,
+    json: bool,
+    tabled: &Tabled,
+    found: SolverAnswer,
+) -> Result<Solved, AllocError>
     requires answer { (limit : ℕ) × IsSolveAnswer (problem_of tabled.now.problem) limit found }
     requires best { SolveIsRight (problem_of tabled.now.problem) found }
-    ensures { IfOk result (λ s. SaysSolved (tabled_of tabled.now) found (solved_of s)) }
+    ensures { IfOk result (λ s. SaysSolved json (tabled_of tabled.now) found (solved_of s)) }
 {
     match found {
         SolverAnswer::Best(grouping, certificate) => report_best(
             alloc,
+            json,
             tabled,
             grouping,
             certificate,
         ),
-        SolverAnswer::Impossible(certificate) => report_impossible(alloc, tabled, certificate),
+        SolverAnswer::Impossible(certificate) => report_impossible(
+            alloc,
+            json,
+            tabled,
+            certificate,
+        ),
         SolverAnswer::Open { found, part, steps } => {
-            report_open(alloc, tabled, found, part, steps)
+            report_open(alloc, json, tabled, found, part, steps)
         }
     }
 }
 
 /// Returns what `solve` says of a problem. The solver takes at most this number of `steps`. Its answer is told as a
-/// report, with the texts of its certificate, of its grouping, of its table and of its events. `watcher` is told how
+/// report, as an object if `json` is true, with the texts of its certificate, of its grouping, of its table and of its
+/// events. `watcher` is told how
 /// far the search is, and changes nothing of what is said.
 ///
 /// # Errors
@@ -212,12 +228,13 @@ fn report_answer(alloc: Global, tabled: &Tabled, found: SolverAnswer) -> Result<
 /// Returns `AllocError` if memory was refused.
 pub fn solve_and_report<W: Watcher>(
     alloc: Global,
+    json: bool,
     tabled: &Tabled,
     steps: u64,
     watcher: &mut W,
 ) -> Result<Solved, AllocError>
-    ensures { IfOk result (λ s. IsSolved (tabled_of tabled.now) steps (solved_of s)) }
+    ensures { IfOk result (λ s. IsSolved json (tabled_of tabled.now) steps (solved_of s)) }
 {
     let found = solve_watched(alloc, &tabled.problem, steps, watcher)?;
-    report_answer(alloc, tabled, found)
+    report_answer(alloc, json, tabled, found)
 }

@@ -35,16 +35,29 @@ fold_top a [] = λ i. record a.top { rules = sym (append-nil a.top.rules) i }
 fold_top a (x ∷ xs) = fold_top (with_rule a x) xs ∙ (λ i. record a.top { rules = append_assoc a.top.rules (x ∷ []) xs i })
 
 -- a new command with these options is a subcommand of this shape
-pub has_shape : (old new : Command) (name : Text) (options : List Rule) → app_of old ≡ new_app name → (out-Command old).has_globals ≡ false → HasMore old options new
+has_shape : (old new : Command) (name : Text) (options : List Rule) → app_of old ≡ new_app name → (out-Command old).has_globals ≡ false → HasMore old options new
     → HasShape new (subcommand name options)
 has_shape old new name options is local more = record {
   shape = ap (λ (a : App). a.top) (more.app ∙ ap (λ (a : App). fold with_rule a options) is) ∙ fold_top (new_app name) options;
   local = more.local ∙ local;
 }
 
-pub shape_if_ok : {E : Type 0} (old : Command) (r : Result Command E) (name : Text) (options : List Rule) → app_of old ≡ new_app name → (out-Command old).has_globals ≡ false
-    → IfOk r (HasMore old options) → IfOk r (λ c. HasShape c (subcommand name options))
-shape_if_ok old r name options is local more = IfOk-weaker r _ _ (λ new m. has_shape old new name options is local m) more
+fold_two : (a : App) (xs ys : List Rule) → fold with_rule (fold with_rule a xs) ys ≡ fold with_rule a (xs ++ ys)
+fold_two a [] ys = refl
+fold_two a (x ∷ xs) ys = fold_two (with_rule a x) xs ys
+
+-- these options, and those behind them
+has_both : (old mid new : Command) (xs ys : List Rule) → HasMore old xs mid → HasMore mid ys new → HasMore old (xs ++ ys) new
+has_both old mid new xs ys front behind = record {
+  app = behind.app ∙ (ap (λ (a : App). fold with_rule a ys) front.app ∙ fold_two (app_of old) xs ys);
+  local = behind.local ∙ front.local;
+}
+
+-- a new command with these options, and those behind them, is a subcommand of this shape
+pub shape_behind : {E : Type 0} (old mid : Command) (r : Result Command E) (name : Text) (xs ys : List Rule) → app_of old ≡ new_app name → (out-Command old).has_globals ≡ false
+    → HasMore old xs mid → IfOk r (HasMore mid ys) → IfOk r (λ c. HasShape c (subcommand name (xs ++ ys)))
+shape_behind old mid r name xs ys is local front more =
+    IfOk-weaker r _ _ (λ new m. has_shape old new name (xs ++ ys) is local (has_both old mid new xs ys front m)) more
 
 -- one more subcommand
 pub has_one_subcommand_more : (old sub new : Command) (a : App) (s : Shape) → app_of old ≡ a → HasShape sub s → AddsSubcommand old sub new → app_of new ≡ with_subcommand a s

@@ -1,11 +1,13 @@
 -- What the definitions of `specs/Words.antt` say of words that are written out.
-use Rattle.std.proofs.Common.{◌≡◌, true, false, refl, List, [], ◌∷◌, ◌++◌, Some, codes, option_map}
+use Rattle.std.proofs.Common.{◌≡◌, true, false, refl, inl, inr, List, [], ◌∷◌, ◌++◌, Some, codes, option_map}
 use Rattle.clap.specs.Words.{Text, first_of}
 use Rattle.clap.specs.Takes.{is_given}
 use Rattle.clap.specs.declared.error.kind.ErrorKind.TheVariants as kind
 use Rattle.clap.proofs.OnLiterals.{clap_on_literals}
 use Rattle.cli_words.specs.Command.{countygroups}
-use Rattle.cli_words.specs.Words.{faults_of, subcommand_in, takes_words}
+use Rattle.cli_words.specs.Words.{HaveOptionsFault, faults_of, subcommand_in, takes_words}
+use Rattle.cli_words.specs.declared.end.OptionsFault.TheVariants.{CountyFiles, PeopleAndCensus}
+use Rattle.cli_words.proofs.TogetherLemmas.{differ}
 
 abbrev files : List Text
 files = codes "size" ∷ codes "--geo" ∷ codes "a" ∷ codes "--segment=b" ∷ []
@@ -21,6 +23,38 @@ signed = refl
 default_state : option_map (λ p. first_of (codes "state") p.1) (subcommand_in (files ++ codes "--chamber" ∷ codes "120" ∷ [])) ≡ Some (Some (codes "37"))
 unfolding clap_on_literals countygroups subcommand_in
 default_state = refl
+
+-- the file of the people in place of the census files, or beside them
+abbrev of_people : List Text
+of_people = codes "size" ∷ codes "--people" ∷ codes "p" ∷ codes "--chamber=120" ∷ []
+
+people : option_map (λ p. first_of (codes "people") p.1) (subcommand_in of_people) ≡ Some (Some (codes "p"))
+unfolding clap_on_literals countygroups subcommand_in
+people = refl
+
+both_files : HaveOptionsFault (of_people ++ codes "--geo=a" ∷ [])
+unfolding clap_on_literals countygroups subcommand_in
+both_files = (PeopleAndCensus, (differ (codes "size") (codes "audit") refl, (refl, inl refl)))
+
+one_census_file : HaveOptionsFault (codes "size" ∷ codes "--geo=a" ∷ codes "--chamber=120" ∷ [])
+unfolding clap_on_literals countygroups subcommand_in
+one_census_file = (CountyFiles, (differ (codes "size") (codes "audit") refl, (refl, inr refl)))
+
+no_files : HaveOptionsFault (codes "size" ∷ codes "--chamber=120" ∷ [])
+unfolding clap_on_literals countygroups subcommand_in
+no_files = (CountyFiles, (differ (codes "size") (codes "audit") refl, (refl, inl refl)))
+
+-- `audit` without a census file, and with the file of the people beside both
+abbrev audited : List Text
+audited = codes "audit" ∷ codes "--people=p" ∷ codes "--geo=a" ∷ codes "--chamber=50" ∷ codes "--adjacency=c" ∷ codes "--grouping=d" ∷ codes "--assignments=e" ∷ []
+
+audit_of_people : faults_of audited ≡ kind.MissingRequiredArgument ∷ []
+unfolding clap_on_literals countygroups faults_of
+audit_of_people = refl
+
+audit_of_all : takes_words (audited ++ codes "--segment=b" ∷ []) ≡ true
+unfolding clap_on_literals countygroups takes_words
+audit_of_all = refl
 
 -- a tolerance of which only the whole is given, or neither number
 default_part : option_map (λ p. first_of (codes "part") p.1) (subcommand_in (files ++ codes "--chamber" ∷ codes "120" ∷ codes "--of=10" ∷ [])) ≡ Some (Some (codes "1"))
@@ -80,6 +114,14 @@ no_words = refl
 help : faults_of (codes "--help" ∷ []) ≡ kind.DisplayHelp ∷ []
 unfolding clap_on_literals countygroups faults_of
 help = refl
+
+help_alone : faults_of (codes "help" ∷ []) ≡ kind.DisplayHelp ∷ []
+unfolding clap_on_literals countygroups faults_of
+help_alone = refl
+
+help_of_a_subcommand : faults_of (codes "help" ∷ codes "size" ∷ []) ≡ kind.UnknownArgument ∷ kind.InvalidSubcommand ∷ []
+unfolding clap_on_literals countygroups faults_of
+help_of_a_subcommand = refl
 
 version : faults_of (codes "--version" ∷ []) ≡ kind.DisplayVersion ∷ []
 unfolding clap_on_literals countygroups faults_of

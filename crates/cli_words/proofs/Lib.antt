@@ -7,4 +7,5 @@ pub mod CommandLemmas
 pub mod CountygroupsLemmas
 pub mod NumberLemmas
 pub mod ReadLemmas
+pub mod TogetherLemmas
 mod ExampleLemmas

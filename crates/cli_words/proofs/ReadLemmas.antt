@@ -124,3 +124,8 @@ module _ (f : Found) (a : Rule) (bare : slice_get a.defaults 0 ≡ None) (k low 
 pub front_values : (options more : List Rule) (rows : List Row) → HasValues (options ++ more) rows → HasValues options rows
 front_values [] more rows h = tt
 front_values (x ∷ xs) more rows h = (h.0, front_values xs more rows h.1)
+
+-- and those of the others
+pub behind_values : (options more : List Rule) (rows : List Row) → HasValues (options ++ more) rows → HasValues more rows
+behind_values [] more rows h = h
+behind_values (x ∷ xs) more rows h = behind_values xs more rows h.1

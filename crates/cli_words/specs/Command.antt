@@ -1,8 +1,8 @@
 -- The command `countygroups`, as clap reads it.
 use Rattle.std.specs.Prelude.{◌≡◌, ◌++◌, ℕ, true, false, fold, List, [], ◌∷◌, Some, Result, IfOk, codes, pos}
-use Rattle.clap.specs.Words.{App, Rule, Shape, Text, app_of, new_rule, rule_of, shape_of, with_rule, with_subcommand}
+use Rattle.clap.specs.Words.{App, Rule, Shape, Text, app_of, new_app, new_rule, rule_of, shape_of, with_rule, with_subcommand}
 use Rattle.clap.specs.Simple.{new_shape}
-use Rattle.clap.specs.declared.builder.action.ArgAction.TheVariants.{Set}
+use Rattle.clap.specs.declared.builder.action.ArgAction.TheVariants.{Set, SetTrue}
 use Rattle.clap.specs.declared.builder.arg.Arg.{Arg}
 use Rattle.clap.specs.declared.builder.command.Command.{Command}
 use Rattle.clap.specs.declared.builder.command.Command.TheViews.{out-Command}
@@ -11,6 +11,14 @@ use Rattle.clap.specs.declared.builder.value_parser.ValueParser.TheVariants.{Sig
 -- `--name VALUE`
 abbrev pub text_option : Text → Rule
 text_option name = record (new_rule name) { long = Some name; action = Some Set; value_names = 1 }
+
+-- `--name`, which has no value
+abbrev pub flag_option : Text → Rule
+flag_option name = record (new_rule name) { long = Some name; action = Some SetTrue }
+
+-- `--json`
+abbrev pub json_option : Rule
+json_option = flag_option (codes "json")
 
 -- the option, which must be given
 abbrev pub required : Rule → Rule
@@ -56,14 +64,23 @@ limit_option = of_number 0 65535 (text_option (codes "limit"))
 abbrev pub depth_option : Rule
 depth_option = of_number 0 255 (text_option (codes "depth"))
 
--- the options of each subcommand: the two files, the number of seats, the state, the two numbers of the tolerance, and
--- the file of the record, which need not be given
-abbrev pub common_options : List Rule
-common_options = required (text_option (codes "geo")) ∷ required (text_option (codes "segment"))
-    ∷ chamber_option ∷ state_option ∷ part_option ∷ whole_option ∷ text_option (codes "record") ∷ []
+-- the options of the files that give the counties, of which none need be given: the two census files and the file of
+-- the people
+abbrev pub county_options : List Rule
+county_options = text_option (codes "geo") ∷ text_option (codes "segment") ∷ text_option (codes "people") ∷ []
 
--- the options that give a problem: those of each subcommand, the file of adjacency, and those of links and
--- of withdrawn sets, which need not be given
+-- those options where the blocks are read, too: both census files must be given
+abbrev pub census_options : List Rule
+census_options =
+    required (text_option (codes "geo")) ∷ required (text_option (codes "segment")) ∷ text_option (codes "people") ∷ []
+
+-- the options of each subcommand that need no further file: the number of seats, the state, and the two numbers of the
+-- tolerance
+abbrev pub common_options : List Rule
+common_options = chamber_option ∷ state_option ∷ part_option ∷ whole_option ∷ []
+
+-- the options that give a problem, but for the files of the counties: those of each subcommand, the file of adjacency,
+-- and those of links and of withdrawn sets, which need not be given
 abbrev pub problem_options : List Rule
 problem_options = common_options ++ required (text_option (codes "adjacency")) ∷ text_option (codes "links")
     ∷ text_option (codes "withdrawn") ∷ []
@@ -72,81 +89,101 @@ problem_options = common_options ++ required (text_option (codes "adjacency")) �
 abbrev pub grouping_options : List Rule
 grouping_options = problem_options ++ required (text_option (codes "grouping")) ∷ []
 
--- the options of `judge`: those that give a problem and a grouping, the file of a certificate, the most steps of its
--- checker, and the file of the table; the two files need not be given
-abbrev pub judge_options : List Rule
-judge_options =
-    grouping_options
-    ++ text_option (codes "certificate") ∷ of_steps (text_option (codes "budget")) ∷ text_option (codes "table") ∷ []
+-- the options that give a problem and the file of a certificate
+abbrev pub certificate_options : List Rule
+certificate_options = problem_options ++ required (text_option (codes "certificate")) ∷ []
 
--- the options of `solve`: those that give a problem, the most steps of the search, and the files of the certificate, of
--- the grouping, of the table and of the events, which need not be given
+-- In the options of each subcommand the files that are read come first, then those that are written, which need not be
+-- given, and then what bounds a search. The last of the files that are written is that of the record. Where an answer
+-- can be an object of JSON, `--json` comes behind it.
+
+-- the options of `solve`: those that give a problem, the files of the certificate, of the grouping, of the table, of
+-- the events and of the record, and the most steps of the search
 abbrev pub solve_options : List Rule
 solve_options =
     problem_options
-    ++ of_steps (text_option (codes "steps")) ∷ text_option (codes "certificate") ∷ text_option (codes "out")
-    ∷ text_option (codes "table") ∷ text_option (codes "events") ∷ []
+    ++ text_option (codes "certificate") ∷ text_option (codes "out") ∷ text_option (codes "table")
+    ∷ text_option (codes "events") ∷ text_option (codes "record") ∷ json_option
+    ∷ of_steps (text_option (codes "steps")) ∷ []
 
--- the options that give a certificate: those that give a problem, the file of the certificate, and the most steps of
--- the checker
-abbrev pub certificate_options : List Rule
-certificate_options =
-    problem_options ++ required (text_option (codes "certificate")) ∷ of_steps (text_option (codes "budget")) ∷ []
-
--- the options of `check`: those that give a certificate, and the file of the table, which need not be given
+-- the options of `check`: those that give a certificate, the files of the table and of the record, and the most steps
+-- of the checker
 abbrev pub check_options : List Rule
-check_options = certificate_options ++ text_option (codes "table") ∷ []
+check_options =
+    certificate_options
+    ++ text_option (codes "table") ∷ text_option (codes "record") ∷ json_option
+    ∷ of_steps (text_option (codes "budget")) ∷ []
 
--- the options of `audit`: those that give a problem and a grouping, the file of the assignments, and the file of the
--- table of the districts, which need not be given
-abbrev pub audit_options : List Rule
-audit_options =
-    grouping_options ++ required (text_option (codes "assignments")) ∷ text_option (codes "districts") ∷ []
+-- the options of `judge`: those that give a problem and a grouping, the file of a certificate, which need not be given,
+-- the files of the table and of the record, and the most steps of the certificate's checker
+abbrev pub judge_options : List Rule
+judge_options =
+    grouping_options
+    ++ text_option (codes "certificate") ∷ text_option (codes "table") ∷ text_option (codes "record") ∷ json_option
+    ∷ of_steps (text_option (codes "budget")) ∷ []
 
--- the options of `list`: those that give a certificate, the number of a listed grouping and the file that it is written
--- to, the file of a grouping whose number is asked for, and the file of the table of all listed groupings; these four
--- need not be given
+-- the options of `list`: those that give a certificate, the file of a grouping whose number is asked for, which need
+-- not be given, the number of a listed grouping and the file that it is written to, which need not be given either, the
+-- files of the table of all listed groupings and of the record, and the most steps of the checker
 abbrev pub list_options : List Rule
 list_options =
     certificate_options
-    ++ number_option (codes "number") ∷ text_option (codes "out") ∷ text_option (codes "which")
-    ∷ text_option (codes "groupings") ∷ []
+    ++ text_option (codes "which") ∷ number_option (codes "number") ∷ text_option (codes "out")
+    ∷ text_option (codes "groupings") ∷ text_option (codes "record") ∷ json_option
+    ∷ of_steps (text_option (codes "budget")) ∷ []
 
--- the options that give a board: those that give a problem and a grouping, the limit of its first round in counties,
--- and how many branchings stand above its pieces at most; these two need not be given
-abbrev pub board_options : List Rule
-board_options = grouping_options ++ limit_option ∷ depth_option ∷ []
+-- the options of `size`: those of each subcommand, and the file of the record
+abbrev pub size_options : List Rule
+size_options = common_options ++ text_option (codes "record") ∷ json_option ∷ []
 
--- the options of `share`: those that give a board, the file of the events, the most steps of a test, and the file of
--- the certificate, which need not be given
+-- the options of `audit`: those that give a problem and a grouping, the file of the assignments, and the files of the
+-- table of the districts and of the record
+abbrev pub audit_options : List Rule
+audit_options =
+    grouping_options
+    ++ required (text_option (codes "assignments")) ∷ text_option (codes "districts") ∷ text_option (codes "record")
+    ∷ json_option ∷ []
+
+-- the options of `share`: those that give a problem and a grouping, the file of the events, the files of the
+-- certificate and of the record, the limit of the board's first round in counties and how many branchings stand above
+-- its pieces at most, which need not be given, and the most steps of a test
 abbrev pub share_options : List Rule
 share_options =
-    board_options
-    ++ required (text_option (codes "events")) ∷ of_steps (text_option (codes "budget"))
-    ∷ text_option (codes "certificate") ∷ []
+    grouping_options
+    ++ required (text_option (codes "events")) ∷ text_option (codes "certificate") ∷ text_option (codes "record")
+    ∷ limit_option ∷ depth_option ∷ of_steps (text_option (codes "budget")) ∷ []
 
--- the options of `piece`: those that give a board, the file of the events, which need not be given, the round and the
--- number of a piece, and the most steps of the search
+-- the options of `piece`: those that give a problem and a grouping, the file of the events, which need not be given,
+-- the file of the record, the limit of the board's first round in counties and how many branchings stand above its
+-- pieces at most, which need not be given, the round and the number of a piece, and the most steps of the search
 abbrev pub piece_options : List Rule
 piece_options =
-    board_options ++ text_option (codes "events") ∷ required (number_option (codes "round"))
-    ∷ required (number_option (codes "number")) ∷ of_steps (text_option (codes "steps")) ∷ []
+    grouping_options
+    ++ text_option (codes "events") ∷ text_option (codes "record") ∷ limit_option ∷ depth_option
+    ∷ required (number_option (codes "round")) ∷ required (number_option (codes "number"))
+    ∷ of_steps (text_option (codes "steps")) ∷ []
 
--- the options of `worker`: those that give a problem, and the most steps of the search of a piece
+-- the options of `worker`: those that give a problem, the file of the record, and the most steps of the search of a
+-- piece
 abbrev pub worker_options : List Rule
-worker_options = problem_options ++ of_steps (text_option (codes "steps")) ∷ []
+worker_options =
+    problem_options ++ text_option (codes "record") ∷ of_steps (text_option (codes "steps")) ∷ []
 
 -- a subcommand with these options
 abbrev pub subcommand : Text → List Rule → Shape
 subcommand name options = record (new_shape name) { rules = options }
 
--- the subcommands of the program
+-- a subcommand with the options of the counties, and these
+abbrev pub with_counties : Text → List Rule → Shape
+with_counties name options = subcommand name (county_options ++ options)
+
+-- the subcommands of the program: those for every day, and those that share a proof
 abbrev pub subcommands : List Shape
-subcommands = subcommand (codes "size") common_options ∷ subcommand (codes "judge") judge_options
-    ∷ subcommand (codes "solve") solve_options ∷ subcommand (codes "check") check_options
-    ∷ subcommand (codes "audit") audit_options ∷ subcommand (codes "list") list_options
-    ∷ subcommand (codes "share") share_options ∷ subcommand (codes "piece") piece_options
-    ∷ subcommand (codes "worker") worker_options ∷ []
+subcommands = with_counties (codes "solve") solve_options ∷ with_counties (codes "check") check_options
+    ∷ with_counties (codes "judge") judge_options ∷ with_counties (codes "list") list_options
+    ∷ with_counties (codes "size") size_options ∷ subcommand (codes "audit") (census_options ++ audit_options)
+    ∷ with_counties (codes "share") share_options ∷ with_counties (codes "piece") piece_options
+    ∷ with_counties (codes "worker") worker_options ∷ []
 
 -- the program without its subcommands: it has no option of its own but help and the version, and requires a subcommand
 abbrev pub countygroups_alone : App
@@ -168,6 +205,11 @@ countygroups = fold with_subcommand countygroups_alone subcommands
 pub record HasMore (old : Command) (options : List Rule) (new : Command) : Type 0 where
   pub app : app_of new ≡ fold with_rule (app_of old) options
   pub local : (out-Command new).has_globals ≡ (out-Command old).has_globals
+
+-- the command has this name, and nothing else that a parse reads
+pub record IsBare (name : Text) (command : Command) : Type 0 where
+  pub app : app_of command ≡ new_app name
+  pub local : (out-Command command).has_globals ≡ false
 
 -- the command is a subcommand of this shape, and none of its options is global
 pub record HasShape (command : Command) (like : Shape) : Type 0 where

@@ -1,7 +1,6 @@
 -- The version of the program.
 use Rattle.std.specs.Prelude.{ℕ, List, codes}
 
--- what `--version` says behind the program's name
+-- the version of the program and the logic that it is proved by, as the record of a run says them
 unfoldable pub program_version : List ℕ
-program_version =
-    codes "0.1.0 (logic dac8208d650f15bf; the program can't tell whether its build was proved: `rt run` proves it first, `rt try` doesn't)"
+program_version = codes "1.0.0 (logic dac8208d650f15bf)"

@@ -1,7 +1,8 @@
 -- What the words of the command line say.
-use Rattle.std.specs.Prelude.{◌≡◌, ◌≢◌, ◌≤◌, ◌⊎◌, ⊤, ℕ, Bool, true, false, [], ◌∷◌, List, Option, Some, None, codes}
+use Rattle.std.specs.Prelude.{◌≡◌, ◌≢◌, ◌≤◌, ◌⊎◌, ⊤, ℕ, Bool, cond, true, false, [], ◌∷◌, List, Option, Some, None, codes}
 use Rattle.std.specs.Borrow.{Bor}
 use Rattle.std.specs.Option.{IsSomeAnd}
+use Rattle.std.specs.Str.{bytes_eq}
 use Rattle.clap.specs.Words.{Kinds, Row, Text, fault_of, first_of, subcommand_of, takes}
 use Rattle.clap.specs.Takes.{is_given}
 use Rattle.county_codes.specs.declared.tolerance.Tolerance.{Tolerance}
@@ -14,9 +15,12 @@ use Rattle.cli_words.specs.declared.words.CommandWords.TheVariants.{Audit, Check
 use Rattle.cli_words.specs.declared.words.CommandWords.TheVariants.{List as ListCommand, Piece, Share, Size, Solve}
 use Rattle.cli_words.specs.declared.words.AuditWords.{AuditWords}
 use Rattle.cli_words.specs.declared.words.BoardWords.{BoardWords}
+use Rattle.cli_words.specs.declared.words.CensusWords.{CensusWords}
 use Rattle.cli_words.specs.declared.words.CertificateWords.{CertificateWords}
 use Rattle.cli_words.specs.declared.words.CheckWords.{CheckWords}
 use Rattle.cli_words.specs.declared.words.CommonWords.{CommonWords}
+use Rattle.cli_words.specs.declared.words.CountyWords.{CountyWords}
+use Rattle.cli_words.specs.declared.words.CountyWords.TheVariants.{Census, People}
 use Rattle.cli_words.specs.declared.words.WorkerWords.{WorkerWords}
 use Rattle.cli_words.specs.declared.words.JudgeWords.{JudgeWords}
 use Rattle.cli_words.specs.declared.words.ListWords.{ListWords}
@@ -25,10 +29,12 @@ use Rattle.cli_words.specs.declared.words.ProblemWords.{ProblemWords}
 use Rattle.cli_words.specs.declared.words.RoundWords.{RoundWords}
 use Rattle.cli_words.specs.declared.words.RoundWords.TheVariants.{Plain, Wide}
 use Rattle.cli_words.specs.declared.words.ShareWords.{ShareWords}
+use Rattle.cli_words.specs.declared.words.SharedWords.{SharedWords}
 use Rattle.cli_words.specs.declared.words.SolveWords.{SolveWords}
 use Rattle.cli_words.specs.declared.words.StoredWords.{StoredWords}
 use Rattle.cli_words.specs.declared.end.OptionsFault.{OptionsFault}
-use Rattle.cli_words.specs.declared.end.OptionsFault.TheVariants.{Depth, NumberOrOut, WhichAndStored}
+use Rattle.cli_words.specs.declared.end.OptionsFault.TheVariants.{CountyFiles, Depth, NumberOrOut, PeopleAndCensus}
+use Rattle.cli_words.specs.declared.end.OptionsFault.TheVariants.{WhichAndStored}
 use Rattle.cli_words.specs.declared.end.WordsEnd.{WordsEnd}
 use Rattle.cli_words.specs.declared.end.WordsEnd.TheVariants.{Help, Version, Usage, Memory}
 
@@ -36,17 +42,23 @@ use Rattle.cli_words.specs.declared.end.WordsEnd.TheVariants.{Help, Version, Usa
 abbrev pub standard_input : Text
 standard_input = codes "/dev/stdin"
 
+-- the words as clap reads them: the word `help` alone is `--help`
+abbrev pub words_read : List Text → List Text
+words_read [] = []
+words_read (word ∷ []) = cond (bytes_eq word (codes "help")) (codes "--help" ∷ []) (word ∷ [])
+words_read (word ∷ next ∷ rest) = word ∷ next ∷ rest
+
 -- the subcommand that the words name, and the values of its options
 unfoldable pub subcommand_in : List Text → Option (Text × List Row)
-subcommand_in words = subcommand_of countygroups words
+subcommand_in words = subcommand_of countygroups (words_read words)
 
 -- clap takes the words: they have no fault and ask neither for help nor for the version
 unfoldable pub takes_words : List Text → Bool
-takes_words words = takes countygroups words
+takes_words words = takes countygroups (words_read words)
 
 -- what stops clap first in the words: nothing, a call for help or for the version, or a mistake
 unfoldable pub faults_of : List Text → Kinds
-faults_of words = fault_of countygroups words
+faults_of words = fault_of countygroups (words_read words)
 
 -- the value of the option writes the number
 abbrev pub GivesNumber : Text → List Row → ℕ → Type 0
@@ -68,10 +80,33 @@ abbrev pub GivesText : Text → List Row → Option (Bor Text) → Type 0
 GivesText name rows None = is_given name rows ≡ false
 GivesText name rows (Some text) = (is_given name rows ≡ true) × (first_of name rows ≡ Some text.now)
 
--- the values of a subcommand's options say what those give that each subcommand has
-pub record SaysCommon (rows : List Row) (words : CommonWords) : Type 0 where
+-- whether a flag is set: its value is the text `true`, which clap gives it where the words have it
+abbrev pub is_set : Option Text → Bool
+is_set None = false
+is_set (Some text) = bytes_eq text (codes "true")
+
+-- the values of a subcommand's options name the two census files
+pub record GivesCensus (rows : List Row) (words : CensusWords) : Type 0 where
   pub geo : first_of (codes "geo") rows ≡ Some words.geo.now
   pub segment : first_of (codes "segment") rows ≡ Some words.segment.now
+
+-- the values of a subcommand's options say which files give the counties: the file of --people exactly where the words
+-- give it, and else the two census files
+abbrev pub GivesCounties : List Row → CountyWords → Type 0
+GivesCounties rows (Census words) = (is_given (codes "people") rows ≡ false) × GivesCensus rows words
+GivesCounties rows (People name) =
+    (is_given (codes "people") rows ≡ true) × (first_of (codes "people") rows ≡ Some name.now)
+
+-- the values of a subcommand's options say which files give the counties, the file of the record, and whether the
+-- answer is an object
+pub record SaysShared (rows : List Row) (words : SharedWords) : Type 0 where
+  pub counties : GivesCounties rows words.counties
+  pub record_file : GivesText (codes "record") rows words.record_file
+  pub json : words.json ≡ is_set (first_of (codes "json") rows)
+
+-- the values of a subcommand's options say what those give that each subcommand has
+pub record SaysCommon (rows : List Row) (words : CommonWords) : Type 0 where
+  pub counties : GivesCounties rows words.counties
   pub chamber : GivesNumber (codes "chamber") rows words.chamber
   pub seats : (1 ≤ words.chamber) × (words.chamber ≤ 1000)
   pub state : GivesNumber (codes "state") rows words.state
@@ -79,6 +114,7 @@ pub record SaysCommon (rows : List Row) (words : CommonWords) : Type 0 where
   pub default : is_given (codes "state") rows ≡ false → words.state ≡ 37
   pub tolerance : SaysTolerance rows words.tolerance
   pub record_file : GivesText (codes "record") rows words.record_file
+  pub json : words.json ≡ is_set (first_of (codes "json") rows)
 
 -- the values of a subcommand's options say which problem is meant
 pub record SaysProblem (rows : List Row) (words : ProblemWords) : Type 0 where
@@ -121,10 +157,11 @@ pub record SaysCheck (rows : List Row) (words : CheckWords) : Type 0 where
   pub check : SaysCertificate rows words.check
   pub table : GivesText (codes "table") rows words.table
 
--- the values of the options of `audit` say which problem, which grouping and which assignments are meant, and the file
--- that the table of the districts is written to
+-- the values of the options of `audit` say which problem, which census files of the blocks, which grouping and which
+-- assignments are meant, and the file that the table of the districts is written to
 pub record SaysAudit (rows : List Row) (words : AuditWords) : Type 0 where
   pub problem : SaysProblem rows words.problem
+  pub census : GivesCensus rows words.census
   pub grouping : first_of (codes "grouping") rows ≡ Some words.grouping.now
   pub assignments : first_of (codes "assignments") rows ≡ Some words.assignments.now
   pub districts : GivesText (codes "districts") rows words.districts
@@ -189,17 +226,41 @@ pub record SaysWorker (rows : List Row) (words : WorkerWords) : Type 0 where
   pub steps : GivesNumber (codes "steps") rows words.steps
   pub default : is_given (codes "steps") rows ≡ false → words.steps ≡ 10000000
 
--- a subcommand with the values of its options means the command
-abbrev pub SaysCommand : Text × List Row → CommandWords → Type 0
-SaysCommand p (Size words) = (p.0 ≡ codes "size") × SaysCommon p.1 words
-SaysCommand p (Judge words) = (p.0 ≡ codes "judge") × SaysJudge p.1 words
-SaysCommand p (Solve words) = (p.0 ≡ codes "solve") × SaysSolve p.1 words
-SaysCommand p (Check words) = (p.0 ≡ codes "check") × SaysCheck p.1 words
-SaysCommand p (Audit words) = (p.0 ≡ codes "audit") × SaysAudit p.1 words
-SaysCommand p (ListCommand words) = (p.0 ≡ codes "list") × SaysList p.1 words
-SaysCommand p (Share words) = (p.0 ≡ codes "share") × SaysShare p.1 words
-SaysCommand p (Piece words) = (p.0 ≡ codes "piece") × SaysPiece p.1 words
-SaysCommand p (Worker words) = (p.0 ≡ codes "worker") × SaysWorker p.1 words
+-- the values of the options of a subcommand are those of the command
+abbrev pub SaysOptions : Text × List Row → CommandWords → Type 0
+SaysOptions p (Size words) = (p.0 ≡ codes "size") × SaysCommon p.1 words
+SaysOptions p (Judge words) = (p.0 ≡ codes "judge") × SaysJudge p.1 words
+SaysOptions p (Solve words) = (p.0 ≡ codes "solve") × SaysSolve p.1 words
+SaysOptions p (Check words) = (p.0 ≡ codes "check") × SaysCheck p.1 words
+SaysOptions p (Audit words) = (p.0 ≡ codes "audit") × SaysAudit p.1 words
+SaysOptions p (ListCommand words) = (p.0 ≡ codes "list") × SaysList p.1 words
+SaysOptions p (Share words) = (p.0 ≡ codes "share") × SaysShare p.1 words
+SaysOptions p (Piece words) = (p.0 ≡ codes "piece") × SaysPiece p.1 words
+SaysOptions p (Worker words) = (p.0 ≡ codes "worker") × SaysWorker p.1 words
+
+-- the words give neither the file of the people nor both census files: none of the three, or one census file alone
+abbrev pub LacksCountyFiles : List Row → Type 0
+LacksCountyFiles rows =
+    (is_given (codes "people") rows ≡ false)
+    × ((is_given (codes "geo") rows ≡ false) ⊎ (is_given (codes "segment") rows ≡ false))
+
+-- the words give the file of the people beside a census file
+abbrev pub GivesPeopleAndCensus : List Row → Type 0
+GivesPeopleAndCensus rows =
+    (is_given (codes "people") rows ≡ true)
+    × ((is_given (codes "geo") rows ≡ true) ⊎ (is_given (codes "segment") rows ≡ true))
+
+-- the words give the files of the counties once: the file of the people or both census files
+pub record GivesCountiesOnce (rows : List Row) (words : CountyWords) : Type 0 where
+  pub counties : GivesCounties rows words
+  pub enough : LacksCountyFiles rows → ⊥
+  pub once : GivesPeopleAndCensus rows → ⊥
+
+-- what is wrong with the files of the counties that the words give
+abbrev pub IsCountiesFault : List Row → OptionsFault → Type 0
+IsCountiesFault rows CountyFiles = LacksCountyFiles rows
+IsCountiesFault rows PeopleAndCensus = GivesPeopleAndCensus rows
+IsCountiesFault rows _ = ⊥
 
 -- the words give the number of a grouping without a file, or a file without a number
 abbrev pub AreUnpaired : List Row → Type 0
@@ -215,9 +276,12 @@ AskAndStore rows =
 abbrev pub LacksLimit : List Row → Type 0
 LacksLimit rows = (is_given (codes "depth") rows ≡ true) × (is_given (codes "limit") rows ≡ false)
 
--- which options don't go together: one of `--number` and `--out` alone at `list`, `--which` beside both, or `--depth`
--- without `--limit` at `share` or `piece`
+-- which options don't go together: at all subcommands but `audit`, neither `--people` nor both of `--geo` and
+-- `--segment`, or `--people` beside one of them; at `list`, one of `--number` and `--out` alone, or `--which` beside
+-- both; at `share` and `piece`, `--depth` without `--limit`
 abbrev pub IsOptionsFault : Text × List Row → OptionsFault → Type 0
+IsOptionsFault p CountyFiles = (p.0 ≢ codes "audit") × LacksCountyFiles p.1
+IsOptionsFault p PeopleAndCensus = (p.0 ≢ codes "audit") × GivesPeopleAndCensus p.1
 IsOptionsFault p NumberOrOut = (p.0 ≡ codes "list") × AreUnpaired p.1
 IsOptionsFault p WhichAndStored = (p.0 ≡ codes "list") × AskAndStore p.1
 IsOptionsFault p Depth =
@@ -226,6 +290,12 @@ IsOptionsFault p Depth =
 -- some options of a subcommand don't go together
 abbrev pub HasOptionsFault : Text × List Row → Type 0
 HasOptionsFault p = (fault : OptionsFault) × IsOptionsFault p fault
+
+-- a subcommand with the values of its options means the command: the values are the command's, and the options go
+-- together
+pub record SaysCommand (p : Text × List Row) (command : CommandWords) : Type 0 where
+  pub options : SaysOptions p command
+  pub together : HasOptionsFault p → ⊥
 
 -- the words give options that don't go together
 abbrev pub HaveOptionsFault : List Text → Type 0

@@ -28,6 +28,10 @@ pub enum WordsEnd {
 /// A fault of options that `clap` accepts one by one, but that don't go together.
 #[derive(Clone, Copy, Debug)]
 pub(crate) enum OptionsFault {
+    /// At a subcommand other than `audit`, neither `--people` nor both of `--geo` and `--segment` are given.
+    CountyFiles,
+    /// At a subcommand other than `audit`, `--people` is given beside `--geo` or `--segment`.
+    PeopleAndCensus,
     /// One of `--number` and `--out` of `list` is given without the other.
     NumberOrOut,
     /// `--which` of `list` is given beside `--number` and `--out`.
@@ -35,6 +39,20 @@ pub(crate) enum OptionsFault {
     /// `--depth` of `share` or `piece` is given without `--limit`.
     Depth,
 }
+
+/// The text of usage where no files give the counties.
+const COUNTY_FILES: &str = "\
+error: the counties are missing: give '--geo <FILE>' and '--segment <FILE>', or '--people <FILE>'
+
+For more information, try '--help'.
+";
+
+/// The text of usage where the file of the people is given beside a census file.
+const PEOPLE_AND_CENSUS: &str = "\
+error: '--people <FILE>' can't be used with '--geo <FILE>' or '--segment <FILE>', except by `audit`
+
+For more information, try '--help'.
+";
 
 /// The text of usage where one of `--number` and `--out` is given without the other.
 const NUMBER_OR_OUT: &str = "\
@@ -63,6 +81,8 @@ impl WordsEnd {
         ensures { (result ≡ Memory) ⊎ IsUsage result }
     {
         let text = match fault {
+            OptionsFault::CountyFiles => COUNTY_FILES,
+            OptionsFault::PeopleAndCensus => PEOPLE_AND_CENSUS,
             OptionsFault::NumberOrOut => NUMBER_OR_OUT,
             OptionsFault::WhichAndStored => WHICH_AND_STORED,
             OptionsFault::Depth => DEPTH,

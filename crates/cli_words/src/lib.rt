@@ -4,11 +4,14 @@
 //!
 //! - a variant of `CommandWords`;
 //! - a function in `command.rt` that builds it, and one in `words.rt` that reads its values;
+//! - its texts in `help.rt`;
 //! - its name and options in `specs/Command.antt`, and what they mean in `specs/Words.antt`;
-//! - one line of `each_has_command` in `proofs/CountygroupsLemmas.antt`.
+//! - one line of `each_has_command` in `proofs/CountygroupsLemmas.antt`, and one each of `each_has_counties`,
+//!   `each_has_record`, `list_says` and `board_says` in `proofs/TogetherLemmas.antt`.
 //!
-//! For a subcommand over a problem, `with_problem_options`, `problem_words`, `problem_options` and `SaysProblem` give
-//! that part, and `front_values` gives the values of the options in front of its own.
+//! The files that give the counties and the file of the record are read first, as `SharedWords`. For a subcommand over
+//! a problem, `with_problem_options`, `problem_words`, `problem_options` and `SaysProblem` give that part, and
+//! `front_values` gives the values of the options in front of its own.
 //!
 //! An option which is required or has a default has a value wherever `clap` takes the words. Any other option has one
 //! exactly where it is given. The lemma `level_values` says this for any list of options. The values are read in
@@ -19,6 +22,7 @@
 
 mod command;
 mod end;
+mod help;
 mod values;
 mod version;
 mod words;
@@ -26,7 +30,7 @@ mod words;
 pub use end::WordsEnd;
 pub use version::version_text;
 pub use words::{
-    AuditWords, BoardWords, CertificateWords, CheckWords, CommandWords, CommonWords, JudgeWords,
-    ListWords, PieceWords, ProblemWords, RoundWords, STANDARD_INPUT, ShareWords, SolveWords,
-    StoredWords, WorkerWords, parse,
+    AuditWords, BoardWords, CensusWords, CertificateWords, CheckWords, CommandWords, CommonWords,
+    CountyWords, JudgeWords, ListWords, PieceWords, ProblemWords, RoundWords, STANDARD_INPUT,
+    ShareWords, SolveWords, StoredWords, WorkerWords, parse,
 };

@@ -2,7 +2,7 @@
 ghost use Rattle.std.specs.Prelude.{◌≡◌, ◌≤◌, Some, codes, false};
 ghost use Rattle.clap.specs.{Takes.is_given, Words.{first_of, found_of, rows_of}};
 ghost use Rattle.cli_words.specs.Command.{chamber_option, depth_option, limit_option, number_option, of_steps, part_option, required, state_option, text_option, whole_option};
-ghost use Rattle.cli_words.specs.{Options.HasItsValue, Words.{GivesItsNumber, GivesNumber, GivesText, SaysTolerance}};
+ghost use Rattle.cli_words.specs.{Options.HasItsValue, Words.{GivesItsNumber, GivesNumber, GivesText, SaysTolerance, is_set}};
 
 use clap::ArgMatches;
 use county_codes::Tolerance;
@@ -21,6 +21,16 @@ pub(crate) fn path_or_none<'a>(found: &ArgMatches<'a>, name: &str) -> Option<&'a
     ensures { GivesText name.now (rows_of (found_of found.now)) result }
 {
     found.get_str(name)
+}
+
+/// Reads whether the flag `name` is set. It isn't where the subcommand hasn't that flag.
+pub(crate) fn flag<'a>(found: &ArgMatches<'a>, name: &str) -> bool
+    ensures { result ≡ is_set (first_of name.now (rows_of (found_of found.now))) }
+{
+    match found.get_str(name) {
+        Some(value) => value == "true",
+        None => false,
+    }
 }
 
 /// Reads the number of steps that the option `name` gives, or 10,000,000 if the words don't give it.

@@ -1,16 +1,17 @@
 //! The command that the words name.
-ghost use Rattle.std.specs.Prelude.{◌≡◌, ◌⊎◌, [], IfErr, IfOk, MatchResult, None, Some, true, codes};
+ghost use Rattle.std.specs.Prelude.{◌≡◌, ◌≢◌, ◌⊎◌, ◌++◌, [], IfErr, IfOk, MatchResult, None, Some, true, codes};
 ghost use Rattle.std.specs.Option.{IsSomeAnd};
 ghost use Rattle.clap.specs.{Walk.texts, Words.{FailsBy, first_of, found_of, kind_of, rows_of, subcommand_rows_of}};
-ghost use Rattle.cli_words.specs.Command.{audit_options, board_options, certificate_options, check_options, common_options, worker_options, grouping_options, judge_options, list_options, piece_options, problem_options, share_options, solve_options};
-ghost use Rattle.cli_words.specs.Options.{HasCommand, HasValues};
-ghost use Rattle.cli_words.specs.Words.{AreUnpaired, EndsFor, EndsTaken, GivesRoundWords, GivesStored, GivesText, IsOptionsFault, LacksLimit, Means, SaysAudit, SaysBoard, SaysCertificate, SaysCheck, SaysCommand, SaysCommon, SaysWorker, SaysJudge, SaysList, SaysPiece, SaysProblem, SaysShare, SaysSolve, faults_of, subcommand_in, takes_words};
+ghost use Rattle.cli_words.specs.Command.{audit_options, census_options, certificate_options, check_options, common_options, county_options, worker_options, grouping_options, judge_options, list_options, depth_option, limit_option, of_steps, piece_options, problem_options, share_options, size_options, solve_options, text_option};
+ghost use Rattle.cli_words.specs.Options.{HasCommand, HasItsValue, HasValues};
+ghost use Rattle.cli_words.specs.Words.{AreUnpaired, EndsFor, EndsTaken, GivesCensus, GivesCounties, GivesCountiesOnce, GivesRoundWords, GivesStored, GivesText, IsCountiesFault, IsOptionsFault, LacksLimit, Means, SaysAudit, SaysBoard, SaysCertificate, SaysCheck, SaysCommand, SaysCommon, SaysOptions, SaysWorker, SaysJudge, SaysList, SaysPiece, SaysProblem, SaysShare, SaysShared, SaysSolve, faults_of, subcommand_in, takes_words, words_read};
 ghost use Rattle.cli_words.specs.declared.end.OptionsFault.TheVariants.{Depth, NumberOrOut};
 
 use crate::command::program;
 use crate::end::{OptionsFault, WordsEnd};
 use crate::values::{
-    chamber, depth, limit, number, number_or_none, path, path_or_none, state, steps, tolerance,
+    chamber, depth, flag, limit, number, number_or_none, path, path_or_none, state, steps,
+    tolerance,
 };
 use clap::error::ErrorKind;
 use clap::{ArgMatches, Error};
@@ -43,13 +44,40 @@ pub enum CommandWords<'a> {
     Worker(WorkerWords<'a>),
 }
 
-/// The options that each subcommand has.
+/// The census files.
 #[derive(Clone, Copy, Debug)]
-pub struct CommonWords<'a> {
+pub struct CensusWords<'a> {
     /// The name of the PL 94-171 geographic header.
     pub geo: &'a str,
     /// The name of the PL 94-171 data segment 1.
     pub segment: &'a str,
+}
+
+/// The files that give the counties and their people.
+#[derive(Clone, Copy, Debug)]
+pub enum CountyWords<'a> {
+    /// The census files.
+    Census(CensusWords<'a>),
+    /// The name of the file of the people, a table of counties.
+    People(&'a str),
+}
+
+/// The words that each subcommand has and that are read first.
+#[derive(Clone, Copy)]
+pub(crate) struct SharedWords<'a> {
+    /// The files that give the counties.
+    counties: CountyWords<'a>,
+    /// The name of the file that the record of the run is written to, where the words give one.
+    record_file: Option<&'a str>,
+    /// Whether the answer is an object of JSON.
+    json: bool,
+}
+
+/// The options that each subcommand has.
+#[derive(Clone, Copy, Debug)]
+pub struct CommonWords<'a> {
+    /// The files that give the counties.
+    pub counties: CountyWords<'a>,
     /// The number of seats, from 1 to 1000.
     pub chamber: u16,
     /// The state's FIPS code, from 0 to 99; 37 where the words give none.
@@ -61,6 +89,9 @@ pub struct CommonWords<'a> {
     pub tolerance: Tolerance,
     /// The name of the file that the record of the run is written to, where the words give one.
     pub record_file: Option<&'a str>,
+    /// Whether the answer is an object of JSON in place of a text. It is a text where the words don't ask for one, and
+    /// in each of `share`, `piece` and `worker`.
+    pub json: bool,
 }
 
 /// The options that give a problem: those of each subcommand, and the files of adjacency, links and withdrawn sets.
@@ -131,8 +162,11 @@ pub struct CheckWords<'a> {
 /// The options of `audit`.
 #[derive(Clone, Copy, Debug)]
 pub struct AuditWords<'a> {
-    /// The options that give the problem.
+    /// The options that give the problem. Its counties are those of the file of the people where the words give one,
+    /// and else of the census files.
     pub problem: ProblemWords<'a>,
+    /// The census files, from which the blocks are read.
+    pub census: CensusWords<'a>,
     /// The name of the file of the grouping.
     pub grouping: &'a str,
     /// The name of the block assignment file.
@@ -228,28 +262,73 @@ pub struct WorkerWords<'a> {
     pub steps: u64,
 }
 
-/// Reads from `found` the values of the options that each subcommand has.
-fn common_words<'a>(found: &ArgMatches<'a>) -> CommonWords<'a>
-    requires { HasValues common_options (rows_of (found_of found.now)) }
+/// Reads from `found`, the values of the options of a subcommand other than `audit`, which files give the counties.
+/// Returns the fault `CountyFiles` if neither `--people` nor both of `--geo` and `--segment` are given. Returns
+/// `PeopleAndCensus` if `--people` is given beside `--geo` or `--segment`.
+fn county_words<'a>(found: &ArgMatches<'a>) -> Result<CountyWords<'a>, OptionsFault>
+    requires { HasValues county_options (rows_of (found_of found.now)) }
+    ensures { MatchResult
+        result
+        (GivesCountiesOnce (rows_of (found_of found.now)))
+        (IsCountiesFault (rows_of (found_of found.now))) }
+{
+    let geo = path_or_none(found, "geo");
+    let segment = path_or_none(found, "segment");
+    match path_or_none(found, "people") {
+        Some(people) => match geo {
+            Some(_) => Err(OptionsFault::PeopleAndCensus),
+            None => match segment {
+                Some(_) => Err(OptionsFault::PeopleAndCensus),
+                None => Ok(CountyWords::People(people)),
+            },
+        },
+        None => match geo {
+            None => Err(OptionsFault::CountyFiles),
+            Some(geo) => match segment {
+                None => Err(OptionsFault::CountyFiles),
+                Some(segment) => Ok(CountyWords::Census(CensusWords { geo, segment })),
+            },
+        },
+    }
+}
+
+/// Returns the files that give the counties to `audit`, whose census files are `census`: the file of the people if
+/// `found` has one, and else the census files.
+fn audit_county_words<'a>(found: &ArgMatches<'a>, census: CensusWords<'a>) -> CountyWords<'a>
+    requires people { HasItsValue (rows_of (found_of found.now)) (text_option (codes "people")) }
+    requires census { GivesCensus (rows_of (found_of found.now)) census }
+    ensures { GivesCounties (rows_of (found_of found.now)) result }
+{
+    match path_or_none(found, "people") {
+        Some(people) => CountyWords::People(people),
+        None => CountyWords::Census(census),
+    }
+}
+
+/// Returns the values of the options that each subcommand has: those that are `shared`, and the others from `found`.
+fn common_words<'a>(found: &ArgMatches<'a>, shared: SharedWords<'a>) -> CommonWords<'a>
+    requires values { HasValues common_options (rows_of (found_of found.now)) }
+    requires shared { SaysShared (rows_of (found_of found.now)) shared }
     ensures { SaysCommon (rows_of (found_of found.now)) result }
 {
     CommonWords {
-        geo: path(found, "geo"),
-        segment: path(found, "segment"),
+        counties: shared.counties,
         chamber: chamber(found),
         state: state(found),
         tolerance: tolerance(found),
-        record_file: path_or_none(found, "record"),
+        record_file: shared.record_file,
+        json: shared.json,
     }
 }
 
 /// Reads from `found` the values of the options that give a problem.
-fn problem_words<'a>(found: &ArgMatches<'a>) -> ProblemWords<'a>
-    requires { HasValues problem_options (rows_of (found_of found.now)) }
+fn problem_words<'a>(found: &ArgMatches<'a>, shared: SharedWords<'a>) -> ProblemWords<'a>
+    requires values { HasValues problem_options (rows_of (found_of found.now)) }
+    requires shared { SaysShared (rows_of (found_of found.now)) shared }
     ensures { SaysProblem (rows_of (found_of found.now)) result }
 {
     ProblemWords {
-        common: common_words(found),
+        common: common_words(found, shared),
         adjacency: path(found, "adjacency"),
         links: path_or_none(found, "links"),
         withdrawn: path_or_none(found, "withdrawn"),
@@ -257,21 +336,26 @@ fn problem_words<'a>(found: &ArgMatches<'a>) -> ProblemWords<'a>
 }
 
 /// Reads from `found` the values of the options that give a problem, and the name of the file of the grouping.
-fn grouping_words<'a>(found: &ArgMatches<'a>) -> (ProblemWords<'a>, &'a str)
-    requires { HasValues grouping_options (rows_of (found_of found.now)) }
+fn grouping_words<'a>(
+    found: &ArgMatches<'a>,
+    shared: SharedWords<'a>,
+) -> (ProblemWords<'a>, &'a str)
+    requires values { HasValues grouping_options (rows_of (found_of found.now)) }
+    requires shared { SaysShared (rows_of (found_of found.now)) shared }
     ensures problem { SaysProblem (rows_of (found_of found.now)) result.0 }
     ensures grouping { first_of (codes "grouping") (rows_of (found_of found.now)) ≡ Some result.1.now }
 {
-    let problem = problem_words(found);
+    let problem = problem_words(found, shared);
     (problem, path(found, "grouping"))
 }
 
 /// Reads from `found` the values of the options of `judge`.
-fn judge_words<'a>(found: &ArgMatches<'a>) -> JudgeWords<'a>
-    requires { HasValues judge_options (rows_of (found_of found.now)) }
+fn judge_words<'a>(found: &ArgMatches<'a>, shared: SharedWords<'a>) -> JudgeWords<'a>
+    requires values { HasValues judge_options (rows_of (found_of found.now)) }
+    requires shared { SaysShared (rows_of (found_of found.now)) shared }
     ensures { SaysJudge (rows_of (found_of found.now)) result }
 {
-    let (problem, grouping) = grouping_words(found);
+    let (problem, grouping) = grouping_words(found, shared);
     let file = path_or_none(found, "certificate");
     JudgeWords {
         problem,
@@ -283,12 +367,13 @@ fn judge_words<'a>(found: &ArgMatches<'a>) -> JudgeWords<'a>
 }
 
 /// Reads from `found` the values of the options of `solve`.
-fn solve_words<'a>(found: &ArgMatches<'a>) -> SolveWords<'a>
-    requires { HasValues solve_options (rows_of (found_of found.now)) }
+fn solve_words<'a>(found: &ArgMatches<'a>, shared: SharedWords<'a>) -> SolveWords<'a>
+    requires values { HasValues solve_options (rows_of (found_of found.now)) }
+    requires shared { SaysShared (rows_of (found_of found.now)) shared }
     ensures { SaysSolve (rows_of (found_of found.now)) result }
 {
     SolveWords {
-        problem: problem_words(found),
+        problem: problem_words(found, shared),
         steps: steps(found, "steps"),
         certificate: path_or_none(found, "certificate"),
         out: path_or_none(found, "out"),
@@ -297,36 +382,49 @@ fn solve_words<'a>(found: &ArgMatches<'a>) -> SolveWords<'a>
     }
 }
 
-/// Reads from `found` the values of the options that give a problem and its certificate.
-fn certificate_words<'a>(found: &ArgMatches<'a>) -> CertificateWords<'a>
-    requires { HasValues certificate_options (rows_of (found_of found.now)) }
+/// Reads from `found` the values of the options that give a problem and its certificate, and the budget of the check.
+fn certificate_words<'a>(found: &ArgMatches<'a>, shared: SharedWords<'a>) -> CertificateWords<'a>
+    requires values { HasValues certificate_options (rows_of (found_of found.now)) }
+    requires budget { HasItsValue (rows_of (found_of found.now)) (of_steps (text_option (codes "budget"))) }
+    requires shared { SaysShared (rows_of (found_of found.now)) shared }
     ensures { SaysCertificate (rows_of (found_of found.now)) result }
 {
     CertificateWords {
-        problem: problem_words(found),
+        problem: problem_words(found, shared),
         certificate: path(found, "certificate"),
         budget: steps(found, "budget"),
     }
 }
 
 /// Reads from `found` the values of the options of `check`.
-fn check_words<'a>(found: &ArgMatches<'a>) -> CheckWords<'a>
-    requires { HasValues check_options (rows_of (found_of found.now)) }
+fn check_words<'a>(found: &ArgMatches<'a>, shared: SharedWords<'a>) -> CheckWords<'a>
+    requires values { HasValues check_options (rows_of (found_of found.now)) }
+    requires shared { SaysShared (rows_of (found_of found.now)) shared }
     ensures { SaysCheck (rows_of (found_of found.now)) result }
 {
     CheckWords {
-        check: certificate_words(found),
+        check: certificate_words(found, shared),
         table: path_or_none(found, "table"),
     }
 }
 
 /// Reads from `found` the values of the options of `audit`.
 fn audit_words<'a>(found: &ArgMatches<'a>) -> AuditWords<'a>
-    requires { HasValues audit_options (rows_of (found_of found.now)) }
+    requires { HasValues (census_options ++ audit_options) (rows_of (found_of found.now)) }
     ensures { SaysAudit (rows_of (found_of found.now)) result }
 {
+    let census = CensusWords {
+        geo: path(found, "geo"),
+        segment: path(found, "segment"),
+    };
+    let shared = SharedWords {
+        counties: audit_county_words(found, census),
+        record_file: path_or_none(found, "record"),
+        json: flag(found, "json"),
+    };
     AuditWords {
-        problem: problem_words(found),
+        problem: problem_words(found, shared),
+        census,
         grouping: path(found, "grouping"),
         assignments: path(found, "assignments"),
         districts: path_or_none(found, "districts"),
@@ -364,15 +462,17 @@ fn list_words_with<'a>(
     found: &ArgMatches<'a>,
     stored: Option<StoredWords<'a>>,
     which: Option<&'a str>,
+    shared: SharedWords<'a>,
 ) -> ListWords<'a>
     requires values { HasValues list_options (rows_of (found_of found.now)) }
+    requires shared { SaysShared (rows_of (found_of found.now)) shared }
     requires stored { GivesStored (rows_of (found_of found.now)) stored }
     requires which { GivesText (codes "which") (rows_of (found_of found.now)) which }
     requires apart { (which ≡ None) ⊎ (stored ≡ None) }
     ensures { SaysList (rows_of (found_of found.now)) result }
 {
     ListWords {
-        check: certificate_words(found),
+        check: certificate_words(found, shared),
         stored,
         which,
         groupings: path_or_none(found, "groupings"),
@@ -381,8 +481,12 @@ fn list_words_with<'a>(
 
 /// Reads from `found` the values of the options of `list`. Returns the fault `NumberOrOut` if one of `--number` and
 /// `--out` is given without the other. Returns `WhichAndStored` if `--which` is given beside both.
-fn list_words<'a>(found: &ArgMatches<'a>) -> Result<ListWords<'a>, OptionsFault>
-    requires { HasValues list_options (rows_of (found_of found.now)) }
+fn list_words<'a>(
+    found: &ArgMatches<'a>,
+    shared: SharedWords<'a>,
+) -> Result<ListWords<'a>, OptionsFault>
+    requires values { HasValues list_options (rows_of (found_of found.now)) }
+    requires shared { SaysShared (rows_of (found_of found.now)) shared }
     ensures { MatchResult
         result
         (SaysList (rows_of (found_of found.now)))
@@ -391,9 +495,9 @@ fn list_words<'a>(found: &ArgMatches<'a>) -> Result<ListWords<'a>, OptionsFault>
     let stored = stored_words(found)?;
     let which = path_or_none(found, "which");
     match stored {
-        None => Ok(list_words_with(found, None, which)),
+        None => Ok(list_words_with(found, None, which, shared)),
         Some(_) => match which {
-            None => Ok(list_words_with(found, stored, None)),
+            None => Ok(list_words_with(found, stored, None, shared)),
             Some(_) => Err(OptionsFault::WhichAndStored),
         },
     }
@@ -402,7 +506,8 @@ fn list_words<'a>(found: &ArgMatches<'a>) -> Result<ListWords<'a>, OptionsFault>
 /// Reads how the rounds of a board are from `found`, the values of its options. Returns the fault `Depth` if `--depth`
 /// is given without `--limit`.
 fn round_words<'a>(found: &ArgMatches<'a>) -> Result<RoundWords, OptionsFault>
-    requires { HasValues board_options (rows_of (found_of found.now)) }
+    requires limit { HasItsValue (rows_of (found_of found.now)) limit_option }
+    requires depth { HasItsValue (rows_of (found_of found.now)) depth_option }
     ensures { MatchResult
         result
         (GivesRoundWords (rows_of (found_of found.now)))
@@ -421,15 +526,21 @@ fn round_words<'a>(found: &ArgMatches<'a>) -> Result<RoundWords, OptionsFault>
 
 /// Reads from `found` the values of the options that give a board. Returns the fault `Depth` if `--depth` is given
 /// without `--limit`.
-fn board_words<'a>(found: &ArgMatches<'a>) -> Result<BoardWords<'a>, OptionsFault>
-    requires { HasValues board_options (rows_of (found_of found.now)) }
+fn board_words<'a>(
+    found: &ArgMatches<'a>,
+    shared: SharedWords<'a>,
+) -> Result<BoardWords<'a>, OptionsFault>
+    requires values { HasValues grouping_options (rows_of (found_of found.now)) }
+    requires limit { HasItsValue (rows_of (found_of found.now)) limit_option }
+    requires depth { HasItsValue (rows_of (found_of found.now)) depth_option }
+    requires shared { SaysShared (rows_of (found_of found.now)) shared }
     ensures { MatchResult
         result
         (SaysBoard (rows_of (found_of found.now)))
         (λ fault. (fault ≡ Depth) × LacksLimit (rows_of (found_of found.now))) }
 {
     let round = round_words(found)?;
-    let (problem, grouping) = grouping_words(found);
+    let (problem, grouping) = grouping_words(found, shared);
     Ok(BoardWords {
         problem,
         grouping,
@@ -439,14 +550,18 @@ fn board_words<'a>(found: &ArgMatches<'a>) -> Result<BoardWords<'a>, OptionsFaul
 
 /// Reads from `found` the values of the options of `share`. Returns the fault `Depth` if `--depth` is given without
 /// `--limit`.
-fn share_words<'a>(found: &ArgMatches<'a>) -> Result<ShareWords<'a>, OptionsFault>
-    requires { HasValues share_options (rows_of (found_of found.now)) }
+fn share_words<'a>(
+    found: &ArgMatches<'a>,
+    shared: SharedWords<'a>,
+) -> Result<ShareWords<'a>, OptionsFault>
+    requires values { HasValues share_options (rows_of (found_of found.now)) }
+    requires shared { SaysShared (rows_of (found_of found.now)) shared }
     ensures { MatchResult
         result
         (SaysShare (rows_of (found_of found.now)))
         (λ fault. (fault ≡ Depth) × LacksLimit (rows_of (found_of found.now))) }
 {
-    let board = board_words(found)?;
+    let board = board_words(found, shared)?;
     let certificate = path_or_none(found, "certificate");
     Ok(ShareWords {
         board,
@@ -458,14 +573,18 @@ fn share_words<'a>(found: &ArgMatches<'a>) -> Result<ShareWords<'a>, OptionsFaul
 
 /// Reads from `found` the values of the options of `piece`. Returns the fault `Depth` if `--depth` is given without
 /// `--limit`.
-fn piece_words<'a>(found: &ArgMatches<'a>) -> Result<PieceWords<'a>, OptionsFault>
-    requires { HasValues piece_options (rows_of (found_of found.now)) }
+fn piece_words<'a>(
+    found: &ArgMatches<'a>,
+    shared: SharedWords<'a>,
+) -> Result<PieceWords<'a>, OptionsFault>
+    requires values { HasValues piece_options (rows_of (found_of found.now)) }
+    requires shared { SaysShared (rows_of (found_of found.now)) shared }
     ensures { MatchResult
         result
         (SaysPiece (rows_of (found_of found.now)))
         (λ fault. (fault ≡ Depth) × LacksLimit (rows_of (found_of found.now))) }
 {
-    let board = board_words(found)?;
+    let board = board_words(found, shared)?;
     Ok(PieceWords {
         board,
         events: path_or_none(found, "events"),
@@ -475,34 +594,70 @@ fn piece_words<'a>(found: &ArgMatches<'a>) -> Result<PieceWords<'a>, OptionsFaul
     })
 }
 
+/// Reads from `found` the values of the options of `size`.
+fn size_words<'a>(found: &ArgMatches<'a>, shared: SharedWords<'a>) -> CommonWords<'a>
+    requires values { HasValues size_options (rows_of (found_of found.now)) }
+    requires shared { SaysShared (rows_of (found_of found.now)) shared }
+    ensures { SaysCommon (rows_of (found_of found.now)) result }
+{
+    common_words(found, shared)
+}
+
 /// Reads from `found` the values of the options of `worker`.
-fn worker_words<'a>(found: &ArgMatches<'a>) -> WorkerWords<'a>
-    requires { HasValues worker_options (rows_of (found_of found.now)) }
+fn worker_words<'a>(found: &ArgMatches<'a>, shared: SharedWords<'a>) -> WorkerWords<'a>
+    requires values { HasValues worker_options (rows_of (found_of found.now)) }
+    requires shared { SaysShared (rows_of (found_of found.now)) shared }
     ensures { SaysWorker (rows_of (found_of found.now)) result }
 {
     WorkerWords {
-        problem: problem_words(found),
+        problem: problem_words(found, shared),
         steps: steps(found, "steps"),
     }
 }
 
+/// Reads the command of the subcommand called `name`, which isn't `audit`, from the values of its options, of which some
+/// are `shared`. Returns a fault if they don't go together.
+fn command_words_with<'a>(
+    name: &str,
+    found: &ArgMatches<'a>,
+    shared: SharedWords<'a>,
+) -> Result<CommandWords<'a>, OptionsFault>
+    requires values { HasCommand (name.now, rows_of (found_of found.now)) }
+    requires other { name.now ≢ codes "audit" }
+    requires shared { SaysShared (rows_of (found_of found.now)) shared }
+    ensures { MatchResult result (SaysOptions (name.now, rows_of (found_of found.now))) (IsOptionsFault (name.now, rows_of (found_of found.now))) }
+{
+    match name {
+        "solve" => Ok(CommandWords::Solve(solve_words(found, shared))),
+        "check" => Ok(CommandWords::Check(check_words(found, shared))),
+        "judge" => Ok(CommandWords::Judge(judge_words(found, shared))),
+        "list" => Ok(CommandWords::List(list_words(found, shared)?)),
+        "size" => Ok(CommandWords::Size(size_words(found, shared))),
+        "share" => Ok(CommandWords::Share(share_words(found, shared)?)),
+        "piece" => Ok(CommandWords::Piece(piece_words(found, shared)?)),
+        "worker" => Ok(CommandWords::Worker(worker_words(found, shared))),
+        _ => unreachable!(),
+    }
+}
+
 /// Reads the command of the subcommand called `name` from the values of its options. Returns a fault if they don't go
-/// together.
+/// together. A fault of the files that give the counties comes before any other.
 fn command_words<'a>(name: &str, found: &ArgMatches<'a>) -> Result<CommandWords<'a>, OptionsFault>
     requires { HasCommand (name.now, rows_of (found_of found.now)) }
     ensures { MatchResult result (SaysCommand (name.now, rows_of (found_of found.now))) (IsOptionsFault (name.now, rows_of (found_of found.now))) }
 {
     match name {
-        "size" => Ok(CommandWords::Size(common_words(found))),
-        "judge" => Ok(CommandWords::Judge(judge_words(found))),
-        "solve" => Ok(CommandWords::Solve(solve_words(found))),
-        "check" => Ok(CommandWords::Check(check_words(found))),
         "audit" => Ok(CommandWords::Audit(audit_words(found))),
-        "list" => Ok(CommandWords::List(list_words(found)?)),
-        "share" => Ok(CommandWords::Share(share_words(found)?)),
-        "piece" => Ok(CommandWords::Piece(piece_words(found)?)),
-        "worker" => Ok(CommandWords::Worker(worker_words(found))),
-        _ => unreachable!(),
+        _ => {
+            let counties = county_words(found)?;
+            let record_file = path_or_none(found, "record");
+            let shared = SharedWords {
+                counties,
+                record_file,
+                json: flag(found, "json"),
+            };
+            command_words_with(name, found, shared)
+        }
     }
 }
 
@@ -520,6 +675,22 @@ fn command_in<'a>(matches: &ArgMatches<'a>) -> Result<CommandWords<'a>, OptionsF
     }
 }
 
+/// The words that `help` alone stands for.
+const HELP_WORDS: &[&str] = &["--help"];
+
+/// Returns the `words` as `clap` reads them: `help` alone is `--help`.
+fn words_read<'a>(words: &'a [&'a str]) -> &'a [&'a str]
+    ensures { texts result.now ≡ words_read (texts words.now) }
+{
+    match words {
+        [word] => match *word {
+            "help" => HELP_WORDS,
+            _ => words,
+        },
+        _ => words,
+    }
+}
+
 /// Returns what `clap` finds in the `words`.
 fn matches_in<'a>(alloc: Global, words: &'a [&'a str]) -> Result<ArgMatches<'a>, Error>
     ensures found { IfOk result (λ m. subcommand_rows_of m ≡ subcommand_in (texts words.now)) }
@@ -527,15 +698,16 @@ fn matches_in<'a>(alloc: Global, words: &'a [&'a str]) -> Result<ArgMatches<'a>,
     ensures faults { FailsBy (faults_of (texts words.now)) result }
 {
     let program = program(alloc)?;
-    program.try_get_matches_from(words)
+    program.try_get_matches_from(words_read(words))
 }
 
 /// Parses `words`, those after the program's name, into the command that they say.
 ///
 /// Words that `clap` doesn't take end in `Help` or `Version` if they ask for that before anything is wrong, and else in
-/// `Usage`. Words of `list` end in `Usage` too if they give one of `--number` and `--out` without the other, or
-/// `--which` beside both. So do words of `share` and `piece` that give `--depth` without `--limit`. `Memory`
-/// may come for any words.
+/// `Usage`. The word `help` alone asks for help. Words that `clap` takes end in `Usage` too if their options don't go
+/// together. For each subcommand but `audit` that is `--people` beside `--geo` or `--segment`, or none of the three, or
+/// one census file alone. For `list` it is one of `--number` and `--out` without the other, or `--which` beside both.
+/// For `share` and `piece` it is `--depth` without `--limit`. `Memory` may come for any words.
 pub fn parse<'a>(alloc: Global, words: &'a [&'a str]) -> Result<CommandWords<'a>, WordsEnd>
     // The command is what the words mean.
     ensures said { IfOk result (Means (texts words.now)) }

@@ -1,25 +1,34 @@
 //! The program `countygroups`. It runs the command that its words give over the machine's files, and writes to standard
-//! output. Without any word, it runs a case from standard input. What helps a person is written to standard error.
+//! output. Without any word, it runs a case from standard input, or prints its help if that is a terminal. What helps a
+//! person is written to standard error.
 #![tactic(auto)]
 
 mod progress;
 
 use crate::progress::Progress;
 use cli::{EndedRun, run_program};
-use cli_explanations::{Ended, Options, explain, explain_before};
+use cli_explanations::{Before, Ended, Options, Output, explain, explain_before, outputs_of};
 use cli_file_stores::{DiskFileStore, Sink, Writing};
 use field_lines::Reading;
 use std::alloc::AllocError;
+use std::fs::File;
 use std::io::{ErrorKind, IsTerminal};
 use std::process::ExitCode;
 use std::{env, io};
 
-/// Says on standard error that a case is awaited, if there are no `words` and standard input is a terminal.
-fn announce(rt: &HostRuntime, words: &[&str]) {
+/// The word that asks for help.
+const HELP: &[&str] = &["--help"];
+
+/// The null device, which is empty.
+const NULL_DEVICE: &str = "/dev/null";
+
+/// Returns the words that are run where `words` were given. They are those of help if none were given and standard
+/// input is a terminal, where nobody types a case.
+fn run_words<'a>(rt: &HostRuntime, words: &'a [&'a str]) -> &'a [&'a str] {
     if words.is_empty() && rt.stdin().is_terminal() {
-        let _ = eprintln!(rt;
-            "countygroups: a case is awaited on standard input; `countygroups --help` tells the commands"
-        );
+        HELP
+    } else {
+        words
     }
 }
 
@@ -46,20 +55,50 @@ struct Ran {
     reason: Option<ErrorKind>,
 }
 
-/// Runs `words` over the machine's files, or a case from standard input if there are no words.
-fn run(rt: &HostRuntime, words: &[&str], out: &mut impl Sink) -> Ran {
-    let mut file_store = DiskFileStore::new(rt);
+/// Takes the numbers of the standard streams that are closed, if the run has `outputs`. The system gives a file the
+/// least number that is free, and what is written to standard output isn't to go to such a file. The files that are
+/// returned hold the numbers, and nothing can be written to them.
+fn hold_streams(rt: &HostRuntime, outputs: &[Output<'_>]) -> [Option<File>; 3] {
+    if outputs.is_empty() {
+        return [None, None, None];
+    }
+    [
+        File::open(rt, NULL_DEVICE).ok(),
+        File::open(rt, NULL_DEVICE).ok(),
+        File::open(rt, NULL_DEVICE).ok(),
+    ]
+}
+
+/// Opens the files beside those of `outputs`, and notes why one could not be opened.
+fn open_parts(
+    rt: &HostRuntime,
+    file_store: &mut DiskFileStore<&HostRuntime>,
+    outputs: &mut [Output<'_>],
+) {
+    for output in outputs.iter_mut() {
+        output.reason = file_store.open_part(rt.alloc(), output.path).err();
+    }
+}
+
+/// Runs `words` over the files of `file_store`, or a case from standard input if there are no words.
+fn run(
+    rt: &HostRuntime,
+    words: &[&str],
+    file_store: &mut DiskFileStore<&HostRuntime>,
+    out: &mut impl Sink,
+) -> Ran {
     let mut input = Reading::new(rt.reader());
     let mut progress = Progress::new(rt);
     let (status, ended) = run_program(
         rt.alloc(),
         words,
-        &mut file_store,
+        file_store,
         &mut input,
         out,
         &mut progress,
     );
     progress.clear();
+    file_store.remove_parts();
     Ran {
         status,
         ended,
@@ -67,19 +106,43 @@ fn run(rt: &HostRuntime, words: &[&str], out: &mut impl Sink) -> Ran {
     }
 }
 
+/// Tells what is amiss with the files of `options` and with the `outputs` before the run. Returns whether it was told
+/// that the adjacency file has no border.
+fn tell_before(rt: &HostRuntime, options: Options<'_>, outputs: &[Output<'_>]) -> bool {
+    match explain_before(rt, options, outputs) {
+        Ok(
+            Before {
+                text,
+                is_without_borders,
+            },
+        ) => {
+            tell(rt, Ok(text));
+            is_without_borders
+        }
+        Err(AllocError) => {
+            tell(rt, Err(AllocError));
+            false
+        }
+    }
+}
+
 /// Runs `words`, and writes the answer to standard output. Returns the exit status. What is amiss before the run and
 /// how the run ended are told on standard error.
 fn run_and_tell(rt: &HostRuntime, words: &[&str]) -> u8 {
-    announce(rt, words);
     let options = Options::of(rt.alloc(), words);
-    tell(rt, explain_before(rt, options));
+    let mut outputs = outputs_of(rt.alloc(), options).unwrap_or(Vec::new(rt.alloc()));
+    let _held = hold_streams(rt, &outputs);
+    let mut file_store = DiskFileStore::new(rt);
+    open_parts(rt, &mut file_store, &mut outputs);
+    let is_without_borders = tell_before(rt, options, &outputs);
     let mut out = Writing::new(io::writer(rt));
-    let ran = run(rt, words, &mut out);
+    let ran = run(rt, words, &mut file_store, &mut out);
     let ended = Ended {
         words,
         options,
         run: &ran.ended,
         reason: ran.reason,
+        is_without_borders,
         is_unwritten: out.failed(),
         is_at_terminal: rt.stdout().is_terminal(),
     };
@@ -95,7 +158,7 @@ fn answer(rt: &HostRuntime) -> io::Result<u8> {
         .skip(1)
         .map(|word| word.as_str())
         .collect(rt.alloc())?;
-    Ok(run_and_tell(rt, &words))
+    Ok(run_and_tell(rt, run_words(rt, &words)))
 }
 
 fn main(rt: HostRuntime) -> ExitCode {

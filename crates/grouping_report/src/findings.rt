@@ -10,8 +10,12 @@ use county_codes::push_five_digits;
 use std::alloc::{AllocError, Global};
 
 /// Appends the fifteen digits of `block`.
+///
+/// # Errors
+///
+/// Returns `AllocError` if memory was refused.
 #[tactic(auto, unfolding(crate::specs::FindingsText::fifteen_digits))]
-fn push_block(out: &mut Vec<u8>, block: u64) -> Result<(), AllocError>
+pub fn push_block(out: &mut Vec<u8>, block: u64) -> Result<(), AllocError>
     ensures { OnOk result (out.new.items ≡ out.old.items ++ fifteen_digits block) }
 {
     push_five_digits(out, (block / 10_000_000_000 % 100_000) as u32)?;

@@ -44,7 +44,7 @@ pub fn push_answer(out: &mut Vec<u8>, answer: &[u8]) -> Result<(), AllocError>
 }
 
 /// Returns the number of counties of the longest of `groups`, or 0 if there are no groups.
-fn longest_group(groups: &[Group]) -> usize
+pub fn longest_group(groups: &[Group]) -> usize
     ensures { result ≡ longest_size (sets_of groups.now) }
 {
     let mut longest = 0;
@@ -56,7 +56,7 @@ fn longest_group(groups: &[Group]) -> usize
 
 /// Returns how many of `groups` have `size` counties.
 #[tactic(auto, using(crate::proofs::ReportLemmas::count_of_size))]
-fn groups_of_size(groups: &[Group], size: usize) -> usize
+pub fn groups_of_size(groups: &[Group], size: usize) -> usize
     ensures { result ≡ counts_by_size (sets_of groups.now) size }
 {
     groups

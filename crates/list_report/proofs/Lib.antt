@@ -5,3 +5,4 @@ mod Loops
 mod PlaceLists
 mod Sizes
 mod GroupPeople
+mod FirstSets

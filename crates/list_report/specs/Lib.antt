@@ -5,3 +5,4 @@ pub mod Alternatives
 pub mod Chains
 pub mod Listing
 pub mod GroupPeople
+pub mod ListingObject

@@ -7,6 +7,7 @@
 #![tactic(auto)]
 
 mod alternatives;
+mod json_listing;
 mod laws;
 mod listings;
 mod regions;
@@ -14,5 +15,6 @@ mod sets;
 mod shared_sets;
 mod texts;
 
+pub use json_listing::listing_json;
 pub use laws::{people_are_of_groups, regions_are_joined};
 pub use listings::listing;

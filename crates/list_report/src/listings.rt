@@ -16,7 +16,7 @@ use std::alloc::{AllocError, Global};
 
 /// Returns the regions of those of the `counties` that no `shared` set has, each with its alternatives in the `listed`
 /// groupings. The `shared` sets are those that all `listed` groupings have.
-fn found_regions(
+pub(crate) fn found_regions(
     alloc: Global,
     counties: &[County],
     listed: &[Sets],

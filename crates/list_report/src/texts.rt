@@ -15,7 +15,7 @@ use grouping_report::push_words_number;
 use std::alloc::{AllocError, Global};
 
 /// Returns the people of the problem's counties in `set`.
-fn people_of(problem: &Problem, set: &[CountyCode]) -> u64
+pub(crate) fn people_of(problem: &Problem, set: &[CountyCode]) -> u64
     ensures value { result ≡ people_inside problem.now set.now }
     ensures bound { result ≤ problem.now.total_people }
 {

@@ -27,7 +27,7 @@ use Rattle.cli_file_stores.specs.Files.{NamedFile, Files}
 use Rattle.cli_file_stores.specs.History.{History}
 use Rattle.cli_answers.specs.Answer.{Answered}
 use Rattle.cli_answers.specs.Refusals.{board_answer, events_answer}
-use Rattle.run_laws.specs.Steps.{Steps, ◌>>=◌, load_step}
+use Rattle.run_laws.specs.Steps.{Steps, ◌>>=◌, StepsEndIn, load_step}
 use Rattle.run_laws.specs.FilesProblem.{IsProblemOfFiles, IsGroupingOfFile}
 use Rattle.run_laws.specs.ProblemSteps.{grouping_of}
 use Rattle.run_laws.specs.BoardSteps.{format_of, depth_of, limit_of_words, AreEvents, events_in, events_of, named_events_of}
@@ -37,7 +37,8 @@ use Rattle.run_laws.specs.Storing.{named_file}
 use Rattle.run_laws.specs.Run.{CommandRun}
 use Rattle.run_laws.specs.Headline.{AreEventsOfFile, IsFirstRoundOfFiles, TookEvents, ShareTellsBest, BoardTellsBudget, PieceTells, Tells}
 use Rattle.run_laws.proofs.Refusing.{IsRefusal, Refuses, as_refused, bind_refuses, load_refuses, call_refuses, value_refuses, problem_refuses, grouping_refuses, events_status}
-use Rattle.run_laws.proofs.Ending.{HasEnded, same_status, not_refused, not_out_of_memory, stopped_or_ended}
+use Rattle.run_laws.proofs.Ending.{HasEnded, same_status, not_refused, stopped_or_ended}
+use Rattle.run_laws.proofs.Shown.{ends_low}
 use Rattle.run_laws.proofs.FilesRead.{ReadsProblem, went, problem_reads, problem_of_files}
 use Rattle.run_laws.proofs.FilesProblemLemmas.{grouping_found}
 
@@ -228,9 +229,9 @@ module _ (files : Files) where
         pieces_tell a ended.s h ended.said stored ended.all h.shared.ended.found refl h.shared.ended.certificate
 
     pub share_tells : (before after : History) (stored : List NamedFile) (a : Answered) → CommandRun (Some files) (Share words) before after stored a → a.status ≤ 3 → Tells files (Share words) stored a
-    share_tells before after stored a (inl none) low = absurd (not_out_of_memory a low none.0)
-    share_tells before after stored a (inr run) low =
-        share_end before after stored a low (stopped_or_ended (share_steps (Some files) words) (joined_file words) share_answer before after stored a low run)
+    share_tells before after stored a run low =
+        let ends = ends_low (Some files) (Share words) before after stored a run low in
+        share_end before after stored a low (stopped_or_ended (share_steps (Some files) words) (joined_file words) share_answer before after stored a low ends)
 
   -- ---- piece
   module _ (words : PieceWords) where
@@ -298,10 +299,12 @@ module _ (files : Files) where
         e.value (events_told words.board p.value words.events g.between e.between e.value e.given) s.value on.2 s.goes_on.1
 
     pub piece_tells : (before after : History) (stored : List NamedFile) (a : Answered) → CommandRun (Some files) (Piece words) before after stored a → a.status ≤ 3 → Tells files (Piece words) stored a
-    piece_tells before after stored a (inl none) low = absurd (not_out_of_memory a low none.0)
-    piece_tells before after stored a (inr (inl ended, none)) low = piece_ended before after stored a low ended
-    piece_tells before after stored a (inr (inr stop, none)) low = by_stop (piece_stops before after a stop)
+    piece_tells before after stored a run low = by_end (ends_low (Some files) (Piece words) before after stored a run low).0
       where
         by_stop : StopsAtBudget words.board piece_budget a → Tells files (Piece words) stored a
         by_stop (inl refusal) = absurd (not_refused a low refusal)
         by_stop (inr told) = inr (inr (same_status a _ told.answer, inr told))
+
+        by_end : StepsEndIn (piece_steps (Some files) words) before after a → Tells files (Piece words) stored a
+        by_end (inl ended) = piece_ended before after stored a low ended
+        by_end (inr stop) = by_stop (piece_stops before after a stop)

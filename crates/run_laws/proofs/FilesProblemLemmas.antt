@@ -9,6 +9,7 @@ use Rattle.pl94_counties.specs.declared.blocks.Block.{Block}
 use Rattle.pl94_counties.proofs.ListedLemmas.{are_blocks}
 use Rattle.baf_auditor.specs.declared.assignments.Assignment.{Assignment}
 use Rattle.cli_words.specs.declared.words.CommonWords.{CommonWords}
+use Rattle.cli_words.specs.declared.words.CensusWords.{CensusWords}
 use Rattle.cli_words.specs.declared.words.ProblemWords.{ProblemWords}
 use Rattle.cli_file_stores.specs.Files.{Files}
 use Rattle.cli_file_stores.specs.History.{History}
@@ -17,26 +18,23 @@ use Rattle.run_laws.specs.PlanSteps.{blocks_of, plan_assignments}
 use Rattle.run_laws.specs.ListSteps.{which_of}
 use Rattle.run_laws.specs.FilesProblem.{AreCountiesOfFiles, AreBlocksOfFiles, IsProblemOfFiles, IsGroupingOfFile, IsGroupingIfNamed, AreAssignmentsOfFile}
 use Rattle.run_laws.proofs.Texts.{given_of_both_found}
-use Rattle.run_laws.proofs.FilesRead.{went, problem_reads, counties_of_files, problem_of_files}
+use Rattle.run_laws.proofs.FilesRead.{went, problem_reads, counties_told, problem_of_files}
 
 module _ (files : Files) where
   pub counties_found : (words : CommonWords) (before after : History) (counties : List County) → counties_steps (Some files) words before after (Ok counties) → AreCountiesOfFiles files words counties
-  counties_found words before after counties h =
-      let t = went _ _ before after counties h in
-      let begun = given_of_both_found files words.geo.now words.segment.now before t.between t.value t.given in
-      counties_of_files files words begun.0.text begun.1.text counties begun.0.is begun.1.is (t.goes_on.1 begun.0.text begun.1.text begun.0.sees begun.1.sees)
+  counties_found words before after counties h = counties_told files words.state words.counties before after counties h
 
-  pub blocks_found : (words : CommonWords) (before after : History) (blocks : List Block) → blocks_of (Some files) words before after (Ok blocks) → AreBlocksOfFiles files words blocks
-  blocks_found words before after blocks h =
+  pub blocks_found : (census : CensusWords) (state : ℕ) (before after : History) (blocks : List Block) → blocks_of (Some files) census state before after (Ok blocks) → AreBlocksOfFiles files state census blocks
+  blocks_found census state before after blocks h =
       let t = went _ _ before after blocks h in
-      let begun = given_of_both_found files words.geo.now words.segment.now before t.between t.value t.given in
+      let begun = given_of_both_found files census.geo.now census.segment.now before t.between t.value t.given in
       record {
         geo = begun.0.text;
         segment = begun.1.text;
         geo_is = begun.0.is;
         segment_is = begun.1.is;
         faultless = t.goes_on.1 begun.0.text begun.1.text begun.0.sees begun.1.sees;
-        are = are_blocks begun.0.text begun.1.text words.state blocks (t.goes_on.1 begun.0.text begun.1.text begun.0.sees begun.1.sees);
+        are = are_blocks begun.0.text begun.1.text state blocks (t.goes_on.1 begun.0.text begun.1.text begun.0.sees begun.1.sees);
       }
 
   pub problem_found : (words : ProblemWords) (before after : History) (v : ProblemValue) → problem_steps (Some files) words before after (Ok v) → IsProblemOfFiles files words v

@@ -1,5 +1,5 @@
 -- The values of readers by which steps over the files that a run was given come to a problem.
-use Rattle.std.proofs.Common.{◌≡◌, ℕ, List, [], ◌∷◌, ◌++◌, append-nil, Contains, Option, Some, None, inl, inr, refl, sym, ap, ◌∙◌, subst, subst₂}
+use Rattle.std.proofs.Common.{◌≡◌, ℕ, Bool, true, false, List, [], ◌∷◌, ◌++◌, append-nil, Contains, Option, Some, None, inl, inr, refl, sym, ap, ◌∙◌, subst, subst₂}
 use Rattle.std.specs.Prelude.{Result, Ok, option_map}
 use Rattle.std.proofs.lemmas.List.Elements.{Contains-append_right}
 use Rattle.std.specs.Borrow.{Bor}
@@ -10,6 +10,8 @@ use Rattle.county_problem.specs.ProblemValue.{ProblemValue, codes_of}
 use Rattle.grouping_laws.specs.Grouping.{Grouping}
 use Rattle.pl94_counties.specs.Counties.{county_list}
 use Rattle.pl94_counties.specs.CountyNames.{CountyName}
+use Rattle.people_table.specs.Listed.{people_list}
+use Rattle.people_table.proofs.TableLaws.{counties_are_of_table}
 use Rattle.pl94_counties.proofs.ListedLemmas.{are_counties}
 use Rattle.pl94_counties.proofs.TraceLemmas.{contains_head}
 use Rattle.adjacency_reader.specs.declared.links.Link.{Link}
@@ -20,18 +22,22 @@ use Rattle.adjacency_reader.specs.Adjacency.{AreLinked}
 use Rattle.grouping_table.specs.Table.{unnamed_counties as without_names, table_text}
 use Rattle.grouping_table.specs.GroupingsTable.{groupings_text}
 use Rattle.cli_words.specs.declared.words.CommonWords.{CommonWords}
+use Rattle.cli_words.specs.declared.words.CensusWords.{CensusWords}
+use Rattle.cli_words.specs.declared.words.CountyWords.{CountyWords}
+use Rattle.cli_words.specs.declared.words.CountyWords.TheVariants.{Census, People}
 use Rattle.cli_words.specs.declared.words.ProblemWords.{ProblemWords}
 use Rattle.cli_file_stores.specs.Files.{NamedFile, Files}
 use Rattle.cli_file_stores.specs.History.{History}
+use Rattle.run_laws.specs.Forms.{reads_names}
 use Rattle.run_laws.specs.Steps.{Steps, ◌>>=◌, GoesOn}
-use Rattle.run_laws.specs.ProblemSteps.{IsBuilt, links_of, withdrawn_of, problem_over, problem_steps}
-use Rattle.run_laws.specs.TableSteps.{Tabled, named_counties_of, tabled_problem_in, table_of}
+use Rattle.run_laws.specs.ProblemSteps.{IsBuilt, counties_by, links_of, withdrawn_of, problem_over, problem_steps}
+use Rattle.run_laws.specs.TableSteps.{Tabled, named_counties_by, tabled_problem_in, table_of}
 use Rattle.run_laws.specs.ListSteps.{table_of_all}
-use Rattle.run_laws.specs.FilesProblem.{IsReadAsIfNamed, AreCountiesOfFiles, AreNamedByFiles, IsProblemOfFiles, IsTableOfFiles, IsLongTableOfFiles}
+use Rattle.run_laws.specs.FilesProblem.{AreNamesIf, IsReadAsIfNamed, AreCountiesOfCensus, AreCountiesBy, AreCountiesOfFiles, AreNamedBy, IsProblemOfFiles, IsTableOfFiles, IsLongTableOfFiles}
 use Rattle.run_laws.specs.Storing.{IsStoredAs, named_file}
-use Rattle.run_laws.specs.Agreement.{HoldsSameIfNamed, HasSameProblem}
+use Rattle.run_laws.specs.Agreement.{HoldsSameIfNamed, HasSameCounties, HasSameProblem}
 use Rattle.run_laws.proofs.Texts.{given_of_both_found}
-use Rattle.run_laws.proofs.NamedLists.{counties_named}
+use Rattle.run_laws.proofs.NamedLists.{counties_named, people_named}
 
 -- the readers' values behind the counties, and the problem that is built of them
 pub record ReadsOver (files : Files) (words : ProblemWords) (counties : List County) (v : ProblemValue) : Type 0 where
@@ -47,14 +53,10 @@ pub record ReadsOver (files : Files) (words : ProblemWords) (counties : List Cou
   pub withdrawn_are : IsReadAsIfNamed withdrawn_list files words.withdrawn withdrawn
   pub built : IsBuilt counties pairs withdrawn words.common.chamber words.common.tolerance (Ok v)
 
--- the counties of both census files, and all behind them
+-- the counties of the files that are named for them, and all behind them
 pub record ReadsProblem (files : Files) (words : ProblemWords) (v : ProblemValue) : Type 0 where
-  pub geo : List ℕ
-  pub segment : List ℕ
-  pub geo_is : files words.common.geo.now ≡ Some geo
-  pub segment_is : files words.common.segment.now ≡ Some segment
   pub counties : List County
-  pub counties_are : county_list geo segment words.common.state ≡ Ok counties
+  pub counties_are : AreCountiesOfFiles files words.common counties
   pub over : ReadsOver files words counties v
 
 -- steps that come to a value went on behind the first of them
@@ -113,27 +115,43 @@ module _ (files : Files) where
         built = w.goes_on.1;
       }
 
+  -- the counties of the census files
+  pub counties_of_census : (state : ℕ) (census : CensusWords) (geo segment : List ℕ) (counties : List County) → files census.geo.now ≡ Some geo → files census.segment.now ≡ Some segment
+      → county_list geo segment state ≡ Ok counties → AreCountiesOfCensus files state census counties
+  counties_of_census state census geo segment counties geo_is segment_is listed = record {
+    geo = geo;
+    segment = segment;
+    geo_is = geo_is;
+    segment_is = segment_is;
+    faultless = listed;
+    are = are_counties geo segment state counties listed;
+  }
+
+  -- the counties of the files that the words name
+  pub counties_told : (state : ℕ) (words : CountyWords) (before after : History) (counties : List County) → counties_by (Some files) state words before after (Ok counties) → AreCountiesBy files state words counties
+  counties_told state (Census census) before after counties h =
+      let t = went _ _ before after counties h in
+      let begun = given_of_both_found files census.geo.now census.segment.now before t.between t.value t.given in
+      counties_of_census state census begun.0.text begun.1.text counties begun.0.is begun.1.is (t.goes_on.1 begun.0.text begun.1.text begun.0.sees begun.1.sees)
+  counties_told state (People table) before after counties h =
+      let t = went _ _ before after counties h in
+      record { table = t.value; table_is = t.given.0; faultless = t.goes_on.1; are = counties_are_of_table t.value state counties t.goes_on.1 }
+
   -- the problem of steps that read no names
   pub problem_reads : (words : ProblemWords) (before after : History) (v : ProblemValue) → problem_steps (Some files) words before after (Ok v) → ReadsProblem files words v
   problem_reads words before after v h =
       let c = went _ _ before after v h in
-      let t = went _ _ before c.between c.value c.given in
-      let begun = given_of_both_found files words.common.geo.now words.common.segment.now before t.between t.value t.given in
       record {
-        geo = begun.0.text;
-        segment = begun.1.text;
-        geo_is = begun.0.is;
-        segment_is = begun.1.is;
         counties = c.value;
-        counties_are = t.goes_on.1 begun.0.text begun.1.text begun.0.sees begun.1.sees;
+        counties_are = counties_told words.common.state words.common.counties before c.between c.value c.given;
         over = over_told words c.value c.between after v c.goes_on;
       }
 
   -- the names of counties
-  named_told : (words : CommonWords) (before after : History) (named : List CountyName) → named_counties_of (Some files) words before after (Ok named) → AreNamedByFiles files words named
-  named_told words before after named h =
+  pub named_told : (state : ℕ) (words : CountyWords) (before after : History) (named : List CountyName) → named_counties_by (Some files) state words before after (Ok named) → AreNamedBy files state words named
+  named_told state (Census census) before after named h =
       let t = went _ _ before after named h in
-      let begun = given_of_both_found files words.geo.now words.segment.now before t.between t.value t.given in
+      let begun = given_of_both_found files census.geo.now census.segment.now before t.between t.value t.given in
       record {
         geo = begun.0.text;
         segment = begun.1.text;
@@ -141,55 +159,56 @@ module _ (files : Files) where
         segment_is = begun.1.is;
         are = t.goes_on.1 begun.0.text begun.1.text begun.0.sees begun.1.sees;
       }
+  named_told state (People table) before after named h =
+      let t = went _ _ before after named h in
+      record { table = t.value; table_is = t.given.0; are = t.goes_on.1 }
 
-  -- the names of counties, if a table is asked for
-  abbrev pub IsNamedIf : ProblemWords → Option (Bor (List ℕ)) → Option (List CountyName) → Type 0
-  IsNamedIf words None named = Unit {0}
-  IsNamedIf words (Some table) named = (list : List CountyName) × (named ≡ Some list) × AreNamedByFiles files words.common list
+  -- counties that have names are counties
+  pub counties_with_names : (state : ℕ) (words : CountyWords) (named : List CountyName) → AreNamedBy files state words named → AreCountiesBy files state words (without_names named)
+  counties_with_names state (Census census) named h =
+      counties_of_census state census h.geo h.segment (without_names named) h.geo_is h.segment_is (counties_named h.geo h.segment state named h.are)
+  counties_with_names state (People table) named h =
+      let listed : people_list h.table state ≡ Ok (without_names named) = people_named h.table state named h.are in
+      record { table = h.table; table_is = h.table_is; faultless = listed; are = counties_are_of_table h.table state (without_names named) listed }
 
-  -- the problem of steps that read names, if a table is asked for
-  pub record ReadsTabled (words : ProblemWords) (table : Option (Bor (List ℕ))) (t : Tabled) : Type 0 where
+  -- names that are read for a table or for an object are those of an object
+  names_if : (json : Bool) (words : CommonWords) (named : Option (List CountyName)) → AreNamesIf true files words named → AreNamesIf json files words named
+  names_if false words named h = tt
+  names_if true words named h = h
+
+  pub names_shown : (words : CommonWords) (table : Option (Bor (List ℕ))) (named : Option (List CountyName))
+      → AreNamesIf (reads_names words table) files words named → AreNamesIf words.json files words named
+  names_shown words None named h = h
+  names_shown words (Some table) named h = names_if words.json words named h
+
+  -- the problem of steps that may read names
+  pub record ReadsTabled (words : ProblemWords) (names_read : Bool) (t : Tabled) : Type 0 where
     pub reads : ReadsProblem files words t.problem
-    pub names : IsNamedIf words table t.named
+    pub names : AreNamesIf names_read files words.common t.named
 
-  pub tabled_reads : (words : ProblemWords) (table : Option (Bor (List ℕ))) (before after : History) (t : Tabled) → tabled_problem_in (Some files) words table before after (Ok t) → ReadsTabled words table t
-  tabled_reads words None before after t h =
+  pub tabled_reads : (words : ProblemWords) (names_read : Bool) (before after : History) (t : Tabled)
+      → tabled_problem_in (Some files) words names_read before after (Ok t) → ReadsTabled words names_read t
+  tabled_reads words false before after t h =
       let p = went _ _ before after t h in
-      subst (λ (x : Tabled). ReadsTabled words None x) (sym p.goes_on.1) (record { reads = problem_reads words before p.between p.value p.given; names = tt })
-  tabled_reads words (Some table) before after t h =
+      subst (λ (x : Tabled). ReadsTabled words false x) (sym p.goes_on.1) (record { reads = problem_reads words before p.between p.value p.given; names = tt })
+  tabled_reads words true before after t h =
       let n = went _ _ before after t h in
       let p = went _ _ n.between after t n.goes_on in
-      let names = named_told words.common before n.between n.value n.given in
-      subst (λ (x : Tabled). ReadsTabled words (Some table) x) (sym p.goes_on.1) (record {
+      let names = named_told words.common.state words.common.counties before n.between n.value n.given in
+      subst (λ (x : Tabled). ReadsTabled words true x) (sym p.goes_on.1) (record {
         reads = record {
-          geo = names.geo;
-          segment = names.segment;
-          geo_is = names.geo_is;
-          segment_is = names.segment_is;
           counties = without_names n.value;
-          counties_are = counties_named names.geo names.segment words.common.state n.value names.are;
+          counties_are = counties_with_names words.common.state words.common.counties n.value names;
           over = over_told words (without_names n.value) n.between p.between p.value p.given;
         };
         names = (n.value, refl, names);
       })
 
-  -- the counties of the files
-  pub counties_of_files : (words : CommonWords) (geo segment : List ℕ) (counties : List County) → files words.geo.now ≡ Some geo → files words.segment.now ≡ Some segment
-      → county_list geo segment words.state ≡ Ok counties → AreCountiesOfFiles files words counties
-  counties_of_files words geo segment counties geo_is segment_is listed = record {
-    geo = geo;
-    segment = segment;
-    geo_is = geo_is;
-    segment_is = segment_is;
-    faultless = listed;
-    are = are_counties geo segment words.state counties listed;
-  }
-
   -- the problem of the files
   pub problem_of_files : (words : ProblemWords) (v : ProblemValue) → ReadsProblem files words v → IsProblemOfFiles files words v
   problem_of_files words v h = record {
     counties = h.counties;
-    counties_are = counties_of_files words.common h.geo h.segment h.counties h.geo_is h.segment_is h.counties_are;
+    counties_are = h.counties_are;
     pairs = h.over.pairs;
     pairs_are = record {
       rows = h.over.named_are.0;
@@ -208,7 +227,7 @@ module _ (files : Files) where
 
   -- the table of a grouping stands between the files that are stored before it and behind it
   pub table_between : (words : ProblemWords) (table : Option (Bor (List ℕ))) (t : Tabled) (g : Grouping) (text : Option (List ℕ)) (earlier later stored : List NamedFile)
-      → ReadsTabled words table t → text ≡ table_of t g → stored ≡ earlier ++ (named_file table text ++ later) → IsStoredAs table (IsTableOfFiles files words t.problem g) stored
+      → ReadsTabled words (reads_names words.common table) t → text ≡ table_of t g → stored ≡ earlier ++ (named_file table text ++ later) → IsStoredAs table (IsTableOfFiles files words t.problem g) stored
   table_between words None t g text earlier later stored r is all = tt
   table_between words (Some name) t g text earlier later stored r is all =
       let bytes = table_text r.names.0 t.problem.withdrawn g in
@@ -217,13 +236,13 @@ module _ (files : Files) where
 
   -- the same, if it is the last
   pub table_stored : (words : ProblemWords) (table : Option (Bor (List ℕ))) (t : Tabled) (g : Grouping) (text : Option (List ℕ)) (earlier stored : List NamedFile)
-      → ReadsTabled words table t → text ≡ table_of t g → stored ≡ earlier ++ named_file table text → IsStoredAs table (IsTableOfFiles files words t.problem g) stored
+      → ReadsTabled words (reads_names words.common table) t → text ≡ table_of t g → stored ≡ earlier ++ named_file table text → IsStoredAs table (IsTableOfFiles files words t.problem g) stored
   table_stored words table t g text earlier stored r is all =
       table_between words table t g text earlier [] stored r is (all ∙ ap (λ l. earlier ++ l) (sym (append-nil (named_file table text))))
 
   -- the table of several groupings is the last of the files that are stored
   pub long_table_stored : (words : ProblemWords) (table : Option (Bor (List ℕ))) (t : Tabled) (groupings : List Grouping) (text : Option (List ℕ)) (earlier stored : List NamedFile)
-      → ReadsTabled words table t → text ≡ table_of_all t groupings → stored ≡ earlier ++ named_file table text → IsStoredAs table (IsLongTableOfFiles files words t.problem groupings) stored
+      → ReadsTabled words (reads_names words.common table) t → text ≡ table_of_all t groupings → stored ≡ earlier ++ named_file table text → IsStoredAs table (IsLongTableOfFiles files words t.problem groupings) stored
   long_table_stored words None t groupings text earlier stored r is all = tt
   long_table_stored words (Some name) t groupings text earlier stored r is all =
       let bytes = groupings_text r.names.0 t.problem.withdrawn groupings in
@@ -238,15 +257,22 @@ read_again read files others None (Some other) list same h = absurd same
 read_again read files others (Some name) None list same h = absurd same
 read_again read files others (Some name) (Some other) list same h = (h.0, sym same ∙ h.1, h.2)
 
+-- the same bytes give the same counties
+counties_again : (files others : Files) (state : ℕ) (words other : CountyWords) (counties : List County) → HasSameCounties files others words other
+    → AreCountiesBy files state words counties → AreCountiesBy others state other counties
+counties_again files others state (Census one) (Census other) counties same h =
+    counties_of_census others state other h.geo h.segment counties (sym same.0 ∙ h.geo_is) (sym same.1 ∙ h.segment_is) h.faultless
+counties_again files others state (Census one) (People other) counties same h = absurd same
+counties_again files others state (People one) (Census other) counties same h = absurd same
+counties_again files others state (People one) (People other) counties same h =
+    record { table = h.table; table_is = sym same ∙ h.table_is; faultless = h.faultless; are = h.are }
+
 -- and the problem is the same
 pub reads_again : (files others : Files) (words other : ProblemWords) (v : ProblemValue) → HasSameProblem files others words other → ReadsProblem files words v → ReadsProblem others other v
 reads_again files others words other v same h = record {
-  geo = h.geo;
-  segment = h.segment;
-  geo_is = sym same.geo ∙ h.geo_is;
-  segment_is = sym same.segment ∙ h.segment_is;
   counties = h.counties;
-  counties_are = subst (λ (state : ℕ). county_list h.geo h.segment state ≡ Ok h.counties) same.state h.counties_are;
+  counties_are = subst (λ (state : ℕ). AreCountiesBy others state other.common.counties h.counties) same.state
+      (counties_again files others words.common.state words.common.counties other.common.counties h.counties same.counties h.counties_are);
   over = record {
     text = h.over.text;
     text_is = sym same.adjacency ∙ h.over.text_is;

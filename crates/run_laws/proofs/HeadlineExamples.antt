@@ -30,6 +30,9 @@ use Rattle.adjacency_reader.specs.Links.{link_list}
 use Rattle.adjacency_reader.specs.WithdrawnSets.{withdrawn_list}
 use Rattle.adjacency_reader.specs.Adjacency.{AreLinked}
 use Rattle.cli_words.specs.declared.words.CommonWords.{CommonWords}
+use Rattle.cli_words.specs.declared.words.CensusWords.{CensusWords}
+use Rattle.cli_words.specs.declared.words.CountyWords.{CountyWords}
+use Rattle.cli_words.specs.declared.words.CountyWords.TheVariants.{Census}
 use Rattle.cli_words.specs.declared.words.ProblemWords.{ProblemWords}
 use Rattle.cli_words.specs.declared.words.ListWords.{ListWords}
 use Rattle.cli_words.specs.declared.words.JudgeWords.{JudgeWords}
@@ -38,11 +41,11 @@ use Rattle.cli_words.specs.declared.words.WorkerWords.{WorkerWords}
 use Rattle.cli_words.specs.declared.words.CommandWords.TheVariants.{List as ListAll}
 use Rattle.cli_file_stores.specs.Files.{NamedFile, Files}
 use Rattle.cli_answers.specs.Answer.{Answered}
-use Rattle.run_laws.specs.FilesProblem.{AreCountiesOfFiles, IsReadAsIfNamed, IsProblemOfFiles, IsGroupingIfNamed}
+use Rattle.run_laws.specs.FilesProblem.{AreCountiesBy, AreCountiesOfFiles, IsReadAsIfNamed, IsProblemOfFiles, IsGroupingIfNamed}
 use Rattle.run_laws.specs.ListSteps.{listing_answer}
 use Rattle.cli_words.specs.Words.{standard_input}
 use Rattle.run_laws.specs.Headline.{TellsNone, TellsFault, JudgeTellsLawful, ListTellsAll, ShareTellsBest, WorkerTells, Tells}
-use Rattle.run_laws.proofs.FilesRead.{counties_of_files}
+use Rattle.run_laws.proofs.FilesRead.{counties_of_census}
 
 -- ---- the counties of files
 
@@ -71,14 +74,16 @@ malformed : county_list (county_line ++ codes "||050||00|||0|||||37||0x3\n") rec
 unfolding geo_fields area_on record_on
 malformed = refl
 
-module _ (files : Files) (words : CommonWords) (state : words.state ≡ 37) (segment : files words.segment.now ≡ Some record_line) where
+module _ (files : Files) (words : CommonWords) (census : CensusWords) (by : words.counties ≡ Census census) (state : words.state ≡ 37) (segment : files census.segment.now ≡ Some record_line) where
   -- one line: its county is that of the files
-  one_is_listed : files words.geo.now ≡ Some county_line → AreCountiesOfFiles files words one_county
-  one_is_listed geo = counties_of_files files words county_line record_line one_county geo segment (subst (λ n. county_list county_line record_line n ≡ Ok one_county) (sym state) listed_one)
+  one_is_listed : files census.geo.now ≡ Some county_line → AreCountiesOfFiles files words one_county
+  one_is_listed geo = subst (λ (named : CountyWords). AreCountiesBy files words.state named one_county) (sym by)
+      (counties_of_census files words.state census county_line record_line one_county geo segment (subst (λ n. county_list county_line record_line n ≡ Ok one_county) (sym state) listed_one))
 
   -- no counties are those of a file with a fault
-  none_of : (text : List ℕ) (fault : Pl94Fault) → files words.geo.now ≡ Some text → county_list text record_line 37 ≡ Err fault → (counties : List County) → ¬ AreCountiesOfFiles files words counties
-  none_of text fault geo at counties are =
+  none_of : (text : List ℕ) (fault : Pl94Fault) → files census.geo.now ≡ Some text → county_list text record_line 37 ≡ Err fault → (counties : List County) → ¬ AreCountiesOfFiles files words counties
+  none_of text fault geo at counties found =
+      let are = subst (λ (named : CountyWords). AreCountiesBy files words.state named counties) by found in
       let one : Some are.geo ≡ Some text = sym are.geo_is ∙ geo in
       let two : Some are.segment ≡ Some record_line = sym are.segment_is ∙ segment in
       let held : are.geo ≡ text = cc one in
@@ -87,10 +92,10 @@ module _ (files : Files) (words : CommonWords) (state : words.state ≡ 37) (seg
       let no : Err fault ≡ Ok counties = sym at ∙ subst (λ (n : ℕ). county_list text record_line n ≡ Ok counties) state same in
       absurd (cc no)
 
-  cut_off_has_none : files words.geo.now ≡ Some (county_line ++ codes "||050||0") → (counties : List County) → ¬ AreCountiesOfFiles files words counties
+  cut_off_has_none : files census.geo.now ≡ Some (county_line ++ codes "||050||0") → (counties : List County) → ¬ AreCountiesOfFiles files words counties
   cut_off_has_none geo = none_of _ _ geo cut_off
 
-  malformed_has_none : files words.geo.now ≡ Some (county_line ++ codes "||050||00|||0|||||37||0x3\n") → (counties : List County) → ¬ AreCountiesOfFiles files words counties
+  malformed_has_none : files census.geo.now ≡ Some (county_line ++ codes "||050||00|||0|||||37||0x3\n") → (counties : List County) → ¬ AreCountiesOfFiles files words counties
   malformed_has_none geo = none_of _ _ geo malformed
 
 -- ---- the problem of files
@@ -136,8 +141,10 @@ built = record {
 
 -- the words name the files, a chamber of two seats, and neither links nor withdrawn sets
 record NamesOne (files : Files) (words : ProblemWords) : Type 0 where
-  geo : files words.common.geo.now ≡ Some county_line
-  segment : files words.common.segment.now ≡ Some record_line
+  census : CensusWords
+  by : words.common.counties ≡ Census census
+  geo : files census.geo.now ≡ Some county_line
+  segment : files census.segment.now ≡ Some record_line
   adjacency : files words.adjacency.now ≡ Some header_line
   links : words.links ≡ None
   withdrawn : words.withdrawn ≡ None
@@ -148,7 +155,7 @@ record NamesOne (files : Files) (words : ProblemWords) : Type 0 where
 one_is_found : (files : Files) (words : ProblemWords) → NamesOne files words → IsProblemOfFiles files words one_problem
 one_is_found files words n = record {
   counties = one_county;
-  counties_are = one_is_listed files words.common n.state n.segment n.geo;
+  counties_are = one_is_listed files words.common n.census n.by n.state n.segment n.geo;
   pairs = [];
   pairs_are = record {
     rows = [];
@@ -209,7 +216,7 @@ module _ (files : Files) (words : ListWords) (stored : List NamedFile) (a : Answ
 
   no_number : (told : ListTellsAll files words stored a) → told.which ≡ None → a.status ≡ 1 → ⊥
   no_number told none one =
-      let zero : a.status ≡ 0 = ap (λ (x : Answered). x.status) (told.answer ∙ ap (listing_answer told.v told.groupings) none) in
+      let zero : a.status ≡ 0 = ap (λ (x : Answered). x.status) (told.answer ∙ ap (listing_answer words.check.problem.common.json told.v told.named told.groupings) none) in
       omega (arith, zero, one)
 
   which_is_none : (name : Option (Bor (List ℕ))) (which : Option Grouping) → name ≡ None → IsGroupingIfNamed files name which → which ≡ None

@@ -1,5 +1,5 @@
 -- Every check of a certificate that `share` stored says that the board's target is best.
-use Rattle.std.proofs.Common.{◌≡◌, ◌≢◌, ◌⊎◌, ℕ, List, [], ◌∷◌, Option, Some, None, inl, inr, refl, ap₂, ◌∙◌, arith}
+use Rattle.std.proofs.Common.{◌≡◌, ◌≢◌, ◌≤◌, ◌⊎◌, ℕ, List, [], ◌∷◌, Option, Some, None, inl, inr, refl, sym, ap₂, subst, ◌∙◌, arith}
 use Rattle.std.specs.Prelude.{Err, option_map}
 use Rattle.std.specs.Borrow.{Bor}
 use Rattle.county_problem.specs.ProblemValue.{problem_of}
@@ -10,12 +10,13 @@ use Rattle.cli_words.specs.declared.words.ShareWords.{ShareWords}
 use Rattle.cli_words.specs.declared.words.CommandWords.TheVariants.{Share}
 use Rattle.cli_file_stores.specs.Files.{NamedFile, Files}
 use Rattle.cli_file_stores.specs.History.{History}
-use Rattle.cli_answers.specs.Answer.{Answered, memory_answer}
+use Rattle.cli_answers.specs.Answer.{Answered}
 use Rattle.run_laws.specs.ShareSteps.{share_answer, share_steps, joined_file}
 use Rattle.run_laws.specs.Storing.{named_file, store_steps, said_after}
-use Rattle.run_laws.specs.Run.{CommandRun}
+use Rattle.run_laws.specs.Run.{CommandEnds, CommandRun}
 use Rattle.run_laws.specs.Agreement.{ChecksAs, best_said, SharesBest}
-use Rattle.run_laws.proofs.Ending.{HasEnded, same_status, not_refused, not_out_of_memory, stopped_or_ended}
+use Rattle.run_laws.proofs.Ending.{HasEnded, same_status, not_refused, stopped_or_ended}
+use Rattle.run_laws.proofs.Shown.{shown_plain, ends_low}
 use Rattle.run_laws.proofs.StoreLemmas.{all_stored}
 use Rattle.run_laws.proofs.FilesRead.{reads_again}
 use Rattle.run_laws.proofs.Checking.{checked_best, check_agrees}
@@ -24,12 +25,11 @@ use Rattle.run_laws.proofs.BoardTells.{StopsAtBudget, HasShared, shared_of, shar
 module _ (files : Files) (words : ShareWords) (s : Shared) (h : HasShared files words s) (text : List ℕ) (j : IsJoinedText (problem_of h.v) h.shared.last text) where
   -- every check of the text says that the target is best
   joined_checks : ChecksAs files words.board.problem text (best_said h.v j.target)
-  joined_checks others check start end none b same certificate (inl memory) = inr (inl (inr (same_status b memory_answer memory.0)))
-  joined_checks others check start end none b same certificate (inr run) =
-      check_agrees others check h.v text (best_said h.v j.target) (reads_again files others words.board.problem check.check.problem h.v same h.reads)
-      certificate
-      (λ t r alike checked. checked_best h.v text check.check.budget t alike r checked j.target
-      (λ verdict. texts.agrees.best (problem_of h.v) text (record { round = h.shared.last.round; tree = j.tree }) j.target check.check.budget verdict j.spells j.certifies j.target_is))
+  joined_checks others check start end none b same certificate run =
+      check_agrees others check h.v text (best_said h.v j.target) (λ json named. omega arith)
+      (reads_again files others words.board.problem check.check.problem h.v same h.reads) certificate
+      (λ budget json t r alike checked. checked_best h.v text budget json t alike r checked j.target
+      (λ verdict. texts.agrees.best (problem_of h.v) text (record { round = h.shared.last.round; tree = j.tree }) j.target budget verdict j.spells j.certifies j.target_is))
       start end none b run
 
 -- one file that is refused
@@ -67,9 +67,14 @@ module _ (files : Files) (words : ShareWords) (stored : List NamedFile) (a : Ans
   refused_before zero (inr told) = let three : a.status ≡ 3 = same_status a _ told.answer in omega (arith, zero)
 
   pub shared : (before after : History) → CommandRun (Some files) (Share words) before after stored a → a.status ≡ 0 → SharesBest files words stored a
-  shared before after (inl none) zero = absurd (not_out_of_memory a (omega (arith, zero)) none.0)
-  shared before after (inr run) zero = by_end (stopped_or_ended (share_steps (Some files) words) (joined_file words) share_answer before after stored a (omega (arith, zero)) run)
+  shared before after run zero = by_end (stopped_or_ended (share_steps (Some files) words) (joined_file words) share_answer before after stored a low ends)
     where
+      low : a.status ≤ 3
+      low = omega (arith, zero)
+
+      ends : CommandEnds (Some files) (Share words) before after stored a
+      ends = ends_low (Some files) (Share words) before after stored a run low
+
       by_end : share_steps (Some files) words before after (Err a) ⊎ HasEnded (share_steps (Some files) words) (joined_file words) share_answer before stored a → SharesBest files words stored a
       by_end (inl stop) = absurd (refused_before zero (share_stops files words before after a stop))
       by_end (inr end) =
@@ -92,5 +97,9 @@ module _ (files : Files) (words : ShareWords) (stored : List NamedFile) (a : Ans
 
   pub unshared : (before after : History) → CommandRun (Some files) (Share words) before after stored a → a.status ≢ 0 → stored ≡ []
   unshared before after (inl none) other = none.1
-  unshared before after (inr (inl stop)) other = stop.1
-  unshared before after (inr (inr run)) other = stored_none run.0 (shared_of files words before run.1 run.0 run.3) run.1 after run.2 run.4 run.5 other
+  unshared before after (inr run) other =
+      by_end (subst (λ (x : Answered). CommandEnds (Some files) (Share words) before after stored x) (sym (shown_plain run.raw a run.shown)) run.ends)
+    where
+      by_end : CommandEnds (Some files) (Share words) before after stored a → stored ≡ []
+      by_end (inl stop) = stop.1
+      by_end (inr s) = stored_none s.0 (shared_of files words before s.1 s.0 s.3) s.1 after s.2 s.4 s.5 other

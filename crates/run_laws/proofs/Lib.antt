@@ -14,6 +14,7 @@ pub mod OfTheirLoads
 pub mod FilesProblemLemmas
 pub mod Telling
 mod Ending
+pub mod Shown
 mod AnswerStatus
 mod SolveTells
 mod CheckTells

@@ -1,6 +1,7 @@
 -- Lists of counties with their names, and the lists without.
 use Rattle.std.proofs.Common.{◌≡◌, ℕ, List, [], ◌∷◌, Option, Some, None, refl, sym, ap, ◌∙◌}
 use Rattle.std.specs.Prelude.{Result, Ok, Err}
+use Rattle.std.specs.Result.{result_map_both}
 use Rattle.county_codes.specs.declared.county.County.{County}
 use Rattle.field_lines.specs.Cut.{Line, cut}
 use Rattle.pl94_counties.specs.declared.fault.Pl94Fault.{Pl94Fault}
@@ -10,6 +11,8 @@ use Rattle.pl94_counties.specs.CodeNames.{CodeName}
 use Rattle.pl94_counties.specs.Counties.{county_list}
 use Rattle.pl94_counties.specs.CountyNames.{CountyName, names_on, bad_name, with_names, unless_bad, named_by_lines}
 use Rattle.pl94_counties.specs.CountyNames.{named_list}
+use Rattle.people_table.specs.Listed.{people_list, named_people_list}
+use Rattle.people_table.specs.declared.fault.PeopleFault.{PeopleFault}
 use Rattle.grouping_table.specs.Table.{unnamed_counties as without_names}
 
 -- names don't change the counties
@@ -45,3 +48,13 @@ counties_named geo segment state named is = by_lines (cut geo).lines state (coun
 pub name_at_fault : (geo segment : List ℕ) (state : ℕ) (counties : List County) (fault : NamedFault) → county_list geo segment state ≡ Ok counties → named_list geo segment state ≡ Err fault
     → (line : ℕ) × (fault ≡ BadName line)
 name_at_fault geo segment state counties fault some is = fault_by_lines (cut geo).lines state (county_list geo segment state) counties fault some is
+
+-- the same of a table of counties
+pub people_named : (table : List ℕ) (state : ℕ) (named : List CountyName) → named_people_list table state ≡ Ok named → people_list table state ≡ Ok (without_names named)
+people_named table state named is = ap (result_map_both without_names (λ (fault : PeopleFault). fault)) is
+
+-- a table of which no line is at fault has no fault where its names are read
+pub people_at_fault : (table : List ℕ) (state : ℕ) (counties : List County) (fault : PeopleFault) → people_list table state ≡ Ok counties → named_people_list table state ≡ Err fault → ⊥
+people_at_fault table state counties fault some is =
+    let no : Ok counties ≡ Err fault = sym some ∙ ap (result_map_both without_names (λ (f : PeopleFault). f)) is in
+    cc no

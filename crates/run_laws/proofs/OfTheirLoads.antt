@@ -1,8 +1,8 @@
 -- Runs over files, whether a file store tells them or not, are runs over any files by which their loads and readers
 -- answered.
-use Rattle.std.proofs.Common.{◌≡◌, ◌⊎◌, ℕ, length, List, [], ◌∷◌, ◌++◌, Contains, Option, Some, None, inl, inr, sym, ap, subst, ◌∙◌, append_assoc}
+use Rattle.std.proofs.Common.{◌≡◌, ◌⊎◌, ℕ, Bool, true, false, length, List, [], ◌∷◌, ◌++◌, Contains, Option, Some, None, inl, inr, sym, ap, subst, ◌∙◌, append_assoc}
 use Rattle.std.specs.Borrow.{Bor}
-use Rattle.std.specs.Prelude.{Ok, Err, true, is_some}
+use Rattle.std.specs.Prelude.{Ok, Err, is_some}
 use Rattle.pl94_counties.proofs.TraceLemmas.{contains_nil, contains_cases}
 use Rattle.pl94_counties.specs.Counties.{county_list, block_list}
 use Rattle.baf_auditor.specs.Assignments.{assignment_list}
@@ -11,8 +11,10 @@ use Rattle.adjacency_reader.specs.Links.{link_list}
 use Rattle.adjacency_reader.specs.WithdrawnSets.{withdrawn_list}
 use Rattle.adjacency_reader.specs.Adjacency.{AreLinked}
 use Rattle.grouping_reader.specs.GroupingLines.{grouping_list}
-use Rattle.grouping_report.specs.SizeTable.{size_text}
 use Rattle.cli_words.specs.declared.words.CommonWords.{CommonWords}
+use Rattle.cli_words.specs.declared.words.CensusWords.{CensusWords}
+use Rattle.cli_words.specs.declared.words.CountyWords.{CountyWords}
+use Rattle.cli_words.specs.declared.words.CountyWords.TheVariants.{Census, People}
 use Rattle.cli_words.specs.declared.words.ProblemWords.{ProblemWords}
 use Rattle.cli_words.specs.declared.words.JudgeWords.{JudgeWords}
 use Rattle.cli_words.specs.declared.words.AuditWords.{AuditWords}
@@ -29,15 +31,17 @@ use Rattle.cli_file_stores.specs.History.{FileStoreEvent, History}
 use Rattle.cli_file_stores.specs.History.FileStoreEvent.{Stored}
 use Rattle.cli_answers.specs.declared.refusal.InputFile.TheVariants as input
 use Rattle.cli_answers.specs.Answer.{Answered, success}
-use Rattle.cli_answers.specs.Refusals.{pl94_answer, named_answer, code_file_answer, problem_answer, assignment_answer, verdict_answer, events_answer, board_answer}
-use Rattle.run_laws.specs.ProblemSteps.{counties_steps, pairs_of, links_of, withdrawn_of, adjacency_of, IsBuilt, problem_over, problem_steps, grouping_of}
-use Rattle.run_laws.specs.TableSteps.{Reported, untabled, tabled_by, named_counties_of, tabled_problem_in}
+use Rattle.cli_answers.specs.Refusals.{pl94_answer, named_answer, people_answer, code_file_answer, problem_answer, assignment_answer, verdict_answer, events_answer, board_answer}
+use Rattle.run_laws.specs.Forms.{line_in, reads_names, size_in}
+use Rattle.run_laws.specs.ProblemSteps.{counties_by, counties_steps, pairs_of, links_of, withdrawn_of, adjacency_of, IsBuilt, problem_over, problem_steps, grouping_of}
+use Rattle.run_laws.specs.TableSteps.{Reported, untabled, tabled_by, named_counties_by, named_counties_of, tabled_problem_in}
 use Rattle.county_codes.specs.declared.county.County.{County}
 use Rattle.grouping_table.specs.Table.{unnamed_counties as without_names}
-use Rattle.pl94_counties.specs.CountyNames.{named_list}
+use Rattle.pl94_counties.specs.CountyNames.{CountyName, named_list}
+use Rattle.people_table.specs.Listed.{people_list, named_people_list}
 use Rattle.run_laws.specs.PlanSteps.{blocks_of, plan_assignments}
 use Rattle.run_laws.specs.JudgeWithCertificate.{certificate_text_of}
-use Rattle.run_laws.specs.JudgeSteps.{size_steps, IsJudgeReport, judge_steps, Audited, IsAudited, audit_steps}
+use Rattle.run_laws.specs.JudgeSteps.{sizes_of, sizes_by, size_steps, IsJudgeReport, judge_steps, Audited, IsAudited, audit_steps}
 use Rattle.run_laws.specs.SolveSteps.{IsSolved, solve_steps, files_to_store}
 use Rattle.run_laws.specs.CheckSteps.{IsChecked, check_steps}
 use Rattle.run_laws.specs.ListSteps.{IsListAnswer, which_of, asked_by, list_steps, listed_files}
@@ -56,7 +60,7 @@ use Rattle.run_laws.specs.Steps.{Steps, StepsEndIn}
 use Rattle.run_laws.specs.Reading.{OfTexts}
 use Rattle.run_laws.specs.Storing.{EndsStoring, named_file, said_after, store_steps}
 use Rattle.run_laws.specs.Recording.{RecordEnds}
-use Rattle.run_laws.specs.Run.{CommandEnds, CommandRun, IsRunAnswer, RunsAsAsked}
+use Rattle.run_laws.specs.Run.{CommandEnds, EndsShown, CommandRun, IsRunAnswer, RunsAsAsked}
 use Rattle.run_laws.specs.Loads.{AnsweredBy, RunsAreOfTheirLoads}
 use Rattle.run_laws.specs.Headline.{IsStoreTaken}
 use Rattle.run_laws.proofs.StoreLemmas.{StoresThenAnswers}
@@ -78,9 +82,13 @@ record_extends words command name before between after last written said a (inr 
 record_extends words command name before between after last written said a (inr (is, inr s)) = stores_extend (record { name = name; bytes = s.text } ∷ []) between after last s.refusal s.steps
 
 module _ (given : Option Files) (files : Files) where
+  counties_by_lift : (state : ℕ) (words : CountyWords) → Lifts given files (counties_by given state words) (counties_by (Some files) state words)
+  counties_by_lift state (Census census) = lifts_bind given files (lifts_given_of_both given files census.geo.now census.segment.now) (λ read.
+      lifts_call given files pl94_answer (λ counties. OfTexts (λ g s. county_list g s state ≡ counties) read.0 read.1))
+  counties_by_lift state (People table) = lifts_bind given files (lifts_load given files table.now) (λ text. lifts_call given files people_answer (λ counties. people_list text state ≡ counties))
+
   counties_lift : (words : CommonWords) → Lifts given files (counties_steps given words) (counties_steps (Some files) words)
-  counties_lift words = lifts_bind given files (lifts_given_of_both given files words.geo.now words.segment.now) (λ read.
-      lifts_call given files pl94_answer (λ counties. OfTexts (λ g s. county_list g s words.state ≡ counties) read.0 read.1))
+  counties_lift words = counties_by_lift words.state words.counties
 
   pairs_lift : (listed name : List ℕ) → Lifts given files (pairs_of given listed name) (pairs_of (Some files) listed name)
   pairs_lift listed name = lifts_bind given files (lifts_load given files name) (λ text. lifts_call given files (code_file_answer input.Adjacency) (IsPairsAnswer text listed))
@@ -102,54 +110,77 @@ module _ (given : Option Files) (files : Files) where
   problem_lifts : (words : ProblemWords) → Lifts given files (problem_steps given words) (problem_steps (Some files) words)
   problem_lifts words = lifts_bind given files (counties_lift words.common) (λ counties. over_lifts words counties)
 
-  named_lift : (words : CommonWords) → Lifts given files (named_counties_of given words) (named_counties_of (Some files) words)
-  named_lift words = lifts_bind given files (lifts_given_of_both given files words.geo.now words.segment.now) (λ read.
-      lifts_call given files named_answer (λ counties. OfTexts (λ g s. named_list g s words.state ≡ counties) read.0 read.1))
+  named_by_lift : (state : ℕ) (words : CountyWords) → Lifts given files (named_counties_by given state words) (named_counties_by (Some files) state words)
+  named_by_lift state (Census census) = lifts_bind given files (lifts_given_of_both given files census.geo.now census.segment.now) (λ read.
+      lifts_call given files named_answer (λ counties. OfTexts (λ g s. named_list g s state ≡ counties) read.0 read.1))
+  named_by_lift state (People table) = lifts_bind given files (lifts_load given files table.now) (λ text. lifts_call given files people_answer (λ counties. named_people_list text state ≡ counties))
 
-  tabled_lifts : (words : ProblemWords) (table : Option (Bor (List ℕ))) → Lifts given files (tabled_problem_in given words table) (tabled_problem_in (Some files) words table)
-  tabled_lifts words None = lifts_bind given files (problem_lifts words) (λ v. lifts_value given files (λ t. t ≡ untabled v))
-  tabled_lifts words (Some table) =
+  named_lift : (words : CommonWords) → Lifts given files (named_counties_of given words) (named_counties_of (Some files) words)
+  named_lift words = named_by_lift words.state words.counties
+
+  tabled_lifts : (words : ProblemWords) (reads : Bool) → Lifts given files (tabled_problem_in given words reads) (tabled_problem_in (Some files) words reads)
+  tabled_lifts words false = lifts_bind given files (problem_lifts words) (λ v. lifts_value given files (λ t. t ≡ untabled v))
+  tabled_lifts words true =
       lifts_bind given files (named_lift words.common) (λ named. lifts_bind given files (over_lifts words (without_names named)) (λ v. lifts_value given files (λ t. t ≡ tabled_by named v)))
 
   grouping_lifts : (name : List ℕ) → Lifts given files (grouping_of given name) (grouping_of (Some files) name)
   grouping_lifts name = lifts_bind given files (lifts_load given files name) (λ text. lifts_call given files (code_file_answer input.Grouping) (λ grouping. grouping_list text ≡ grouping))
 
-  blocks_lift : (words : CommonWords) → Lifts given files (blocks_of given words) (blocks_of (Some files) words)
-  blocks_lift words = lifts_bind given files (lifts_given_of_both given files words.geo.now words.segment.now) (λ read.
-      lifts_call given files pl94_answer (λ blocks. OfTexts (λ g s. block_list g s words.state ≡ blocks) read.0 read.1))
+  blocks_lift : (census : CensusWords) (state : ℕ) → Lifts given files (blocks_of given census state) (blocks_of (Some files) census state)
+  blocks_lift census state = lifts_bind given files (lifts_given_of_both given files census.geo.now census.segment.now) (λ read.
+      lifts_call given files pl94_answer (λ blocks. OfTexts (λ g s. block_list g s state ≡ blocks) read.0 read.1))
 
   assignments_lift : (name : List ℕ) → Lifts given files (plan_assignments given name) (plan_assignments (Some files) name)
   assignments_lift name = lifts_bind given files (lifts_load given files name) (λ text. lifts_call given files assignment_answer (λ lines. assignment_list text ≡ lines))
 
+  of_sizes_lift : (words : CommonWords) (named : Option (List CountyName)) (counties : List County)
+      → Lifts given files (sizes_of words named counties) (sizes_of words named counties)
+  of_sizes_lift words named counties =
+      lifts_bind given files (lifts_call given files problem_answer (IsBuilt counties [] [] words.chamber words.tolerance))
+      (λ v. lifts_value given files (λ a. a ≡ success (size_in words.json v named)))
+
+  sizes_lift : (json : Bool) (words : CommonWords) → Lifts given files (sizes_by json given words) (sizes_by json (Some files) words)
+  sizes_lift false words = lifts_bind given files (counties_lift words) (of_sizes_lift words None)
+  sizes_lift true words = lifts_bind given files (named_lift words) (λ named. of_sizes_lift words (Some named) (without_names named))
+
   size_lifts : (words : CommonWords) → Lifts given files (size_steps given words) (size_steps (Some files) words)
-  size_lifts words = lifts_bind given files (counties_lift words) (λ counties. lifts_bind given files (lifts_call given files problem_answer (IsBuilt counties [] [] words.chamber words.tolerance)) (λ v. lifts_value given files (λ a. a ≡ success (size_text v))))
+  size_lifts words = sizes_lift words.json words
 
   certificate_lifts : (name : Option (Bor (List ℕ))) → Lifts given files (certificate_text_of given name) (certificate_text_of (Some files) name)
   certificate_lifts name = lifts_optional given files None name (λ file. lifts_bind given files (lifts_load given files file) (λ text. lifts_value given files (λ held. held ≡ Some text)))
 
   judge_lifts : (words : JudgeWords) → Lifts given files (judge_steps given words) (judge_steps (Some files) words)
   judge_lifts words =
-      lifts_bind given files (tabled_lifts words.problem words.table) (λ t. lifts_bind given files (grouping_lifts words.grouping.now) (λ g. lifts_bind given files (certificate_lifts words.certificate) (λ text.
-      lifts_call given files verdict_answer (IsJudgeReport t g words.budget text))))
+      lifts_bind given files (tabled_lifts words.problem (reads_names words.problem.common words.table)) (λ t.
+      lifts_bind given files (grouping_lifts words.grouping.now) (λ g. lifts_bind given files (certificate_lifts words.certificate) (λ text.
+      lifts_call given files (λ fault. line_in words.problem.common.json (verdict_answer fault))
+      (IsJudgeReport words.problem.common.json t g words.budget text))))
 
   audit_lifts : (words : AuditWords) → Lifts given files (audit_steps given words) (audit_steps (Some files) words)
   audit_lifts words =
-      lifts_bind given files (problem_lifts words.problem) (λ v. lifts_bind given files (blocks_lift words.problem.common) (λ blocks. lifts_bind given files (grouping_lifts words.grouping.now) (λ g.
-      lifts_bind given files (assignments_lift words.assignments.now) (λ lines. lifts_value given files (IsAudited (is_some words.districts) v g blocks lines)))))
+      lifts_bind given files (problem_lifts words.problem) (λ v. lifts_bind given files (blocks_lift words.census words.problem.common.state) (λ blocks. lifts_bind given files (grouping_lifts words.grouping.now) (λ g.
+      lifts_bind given files (assignments_lift words.assignments.now) (λ lines.
+      lifts_value given files (IsAudited words.problem.common.json (is_some words.districts) v g blocks lines)))))
 
   check_lifts : (words : CheckWords) → Lifts given files (check_steps given words) (check_steps (Some files) words)
-  check_lifts words = lifts_bind given files (tabled_lifts words.check.problem words.table) (λ t. lifts_bind given files (lifts_given_of given files words.check.certificate.now) (λ read. lifts_value given files (IsChecked t words.check.budget read)))
+  check_lifts words =
+      lifts_bind given files (tabled_lifts words.check.problem (reads_names words.check.problem.common words.table)) (λ t.
+      lifts_bind given files (lifts_given_of given files words.check.certificate.now) (λ read.
+      lifts_value given files (IsChecked words.check.problem.common.json t words.check.budget read)))
 
   solve_lifts : (words : SolveWords) → Lifts given files (solve_steps given words) (solve_steps (Some files) words)
-  solve_lifts words = lifts_bind given files (tabled_lifts words.problem words.table) (λ t. lifts_value given files (IsSolved t words.steps))
+  solve_lifts words =
+      lifts_bind given files (tabled_lifts words.problem (reads_names words.problem.common words.table))
+      (λ t. lifts_value given files (IsSolved words.problem.common.json t words.steps))
 
   which_lifts : (name : Option (Bor (List ℕ))) → Lifts given files (which_of given name) (which_of (Some files) name)
   which_lifts name = lifts_optional given files None name (λ file. lifts_bind given files (grouping_lifts file) (λ g. lifts_value given files (λ held. held ≡ Some g)))
 
   list_lifts : (words : ListWords) → Lifts given files (list_steps given words) (list_steps (Some files) words)
   list_lifts words =
-      lifts_bind given files (tabled_lifts words.check.problem words.groupings) (λ t. lifts_bind given files (which_lifts words.which) (λ which.
-      lifts_bind given files (lifts_load given files words.check.certificate.now) (λ text. lifts_value given files (IsListAnswer t words.check.budget (asked_by words which) text))))
+      lifts_bind given files (tabled_lifts words.check.problem (reads_names words.check.problem.common words.groupings)) (λ t.
+      lifts_bind given files (which_lifts words.which) (λ which. lifts_bind given files (lifts_load given files words.check.certificate.now) (λ text.
+      lifts_value given files (IsListAnswer words.check.problem.common.json t words.check.budget (asked_by words which) text))))
 
   events_lift : (format : rounds.Format) (counties : ℕ) (name : List ℕ) → Lifts given files (events_of given format counties name) (events_of (Some files) format counties name)
   events_lift format counties name = lifts_bind given files (lifts_load given files name) (λ text. lifts_call given files events_answer (AreEvents format counties text))
@@ -238,10 +269,15 @@ module _ (given : Option Files) (files : Files) where
   command_extends (Piece words) before after stored a h = quiet_extends _ _ (piece_lifts words) before after a h.0
   command_extends (Worker words) before after stored a h = worker_extends words before after stored a h
 
+  shown_ends : (command : CommandWords) (before after : History) (stored : List NamedFile) (a : Answered) → EndsShown given command before after stored a
+      → AnsweredBy files before after → EndsShown (Some files) command before after stored a
+  shown_ends command before after stored a run by =
+      record { raw = run.raw; ends = command_ends command before after stored run.raw run.ends by; shown = run.shown }
+
   command_run : (command : CommandWords) (before after : History) (stored : List NamedFile) (a : Answered) → CommandRun given command before after stored a → AnsweredBy files before after
       → CommandRun (Some files) command before after stored a
   command_run command before after stored a (inl none) by = inl none
-  command_run command before after stored a (inr ends) by = inr (command_ends command before after stored a ends by)
+  command_run command before after stored a (inr run) by = inr (shown_ends command before after stored a run by)
 
   -- a run with its record
   pub own_run : (words : List (List ℕ)) (command : CommandWords) (name : List ℕ) (before between after : History) (own last : List NamedFile) (written : List ℕ) (said end : Answered)
@@ -250,8 +286,8 @@ module _ (given : Option Files) (files : Files) where
   own_run words command name before between after own last written said end (inl none) ends by = inl none
   own_run words command name before between after own last written said end (inr run) ends by =
       let whole = behind written said in
-      let parts = answered_split given files before between after (command_extends command before between own whole run) (record_extends words command name before between after last written said end ends) by in
-      inr (command_ends command before between own whole run parts.0)
+      let parts = answered_split given files before between after (command_extends command before between own run.raw run.ends) (record_extends words command name before between after last written said end ends) by in
+      inr (shown_ends command before between own whole run parts.0)
 
   pub as_asked : (words : List (List ℕ)) (command : CommandWords) (name : Option (List ℕ)) (before after : History) (stored : List NamedFile) (a : Answered)
       → RunsAsAsked given words command name before after stored a → AnsweredBy files before after → RunsAsAsked (Some files) words command name before after stored a
@@ -321,7 +357,7 @@ module _ (given : Option Files) (files : Files) where
   pub run_taken : (command : CommandWords) (before after : History) (stored : List NamedFile) (a : Answered) → CommandRun given command before after stored a → (f : NamedFile) → Contains stored f
       → IsStoreTaken before after f.name f.bytes
   run_taken command before after stored a (inl none) f there = absurd (none_holds stored f none.1 there)
-  run_taken command before after stored a (inr ends) f there = command_taken command before after stored a ends f there
+  run_taken command before after stored a (inr run) f there = command_taken command before after stored run.raw run.ends f there
 
   run_answer : (words : List (List ℕ)) (before after : History) (stored : List NamedFile) (a : Answered) → IsRunAnswer given words before after stored a → AnsweredBy files before after
       → IsRunAnswer (Some files) words before after stored a

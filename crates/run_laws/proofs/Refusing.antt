@@ -1,5 +1,5 @@
 -- The status in which steps end where they meet a fault.
-use Rattle.std.proofs.Common.{◌≡◌, ◌⊎◌, ℕ, List, [], Option, Some, None, inl, inr, refl, ap, ◌∙◌}
+use Rattle.std.proofs.Common.{◌≡◌, ◌⊎◌, ℕ, Bool, true, false, List, [], Option, Some, None, inl, inr, refl, ap, ◌∙◌}
 use Rattle.std.specs.Prelude.{Result, Err}
 use Rattle.std.specs.Borrow.{Bor}
 use Rattle.cli_file_stores.specs.Files.{Files}
@@ -9,6 +9,10 @@ use Rattle.pl94_counties.specs.declared.fault.Pl94Kind.TheVariants as kinds
 use Rattle.pl94_counties.specs.declared.county_names.NamedFault.{NamedFault}
 use Rattle.pl94_counties.specs.declared.county_names.NamedFault.TheVariants as names
 use Rattle.pl94_counties.specs.CountyNames.{named_list}
+use Rattle.people_table.specs.Listed.{people_list, named_people_list}
+use Rattle.people_table.specs.declared.fault.PeopleFault.{PeopleFault}
+use Rattle.people_table.specs.declared.fault.PeopleKind.{PeopleKind}
+use Rattle.people_table.specs.declared.fault.PeopleKind.TheVariants as people
 use Rattle.grouping_laws.specs.Grouping as groups
 use Rattle.county_codes.specs.declared.county.County.{County}
 use Rattle.grouping_table.specs.Table.{unnamed_counties as without_names}
@@ -33,16 +37,19 @@ use Rattle.baf_auditor.specs.Assignments.{assignment_list}
 use Rattle.cli_answers.specs.declared.refusal.InputFile.{InputFile}
 use Rattle.cli_answers.specs.declared.refusal.InputFile.TheVariants.{Adjacency, Links, Withdrawn, Grouping, Events, Pieces}
 use Rattle.cli_answers.specs.Answer.{Answered}
-use Rattle.cli_answers.specs.Refusals.{file_store_answer, file_answer, pl94_answer, code_line_answer, code_file_answer, problem_answer, named_answer, assignment_line_answer, assignment_answer, text_line_answer, events_answer, pieces_answer}
+use Rattle.cli_answers.specs.Refusals.{file_store_answer, file_answer, pl94_answer, code_line_answer, code_file_answer, problem_answer, named_answer, people_line_answer, people_answer, assignment_line_answer, assignment_answer, text_line_answer, events_answer, pieces_answer}
 use Rattle.cli_words.specs.declared.words.CommonWords.{CommonWords}
+use Rattle.cli_words.specs.declared.words.CensusWords.{CensusWords}
+use Rattle.cli_words.specs.declared.words.CountyWords.{CountyWords}
+use Rattle.cli_words.specs.declared.words.CountyWords.TheVariants.{Census, People}
 use Rattle.cli_words.specs.declared.words.ProblemWords.{ProblemWords}
 use Rattle.run_laws.specs.Steps.{Steps, ◌>>=◌, load_step, call_step, value_step, optional_step}
 use Rattle.run_laws.specs.Reading.{read_one, given_of, given_of_both, OfTexts}
 use Rattle.run_laws.specs.PlanSteps.{blocks_of, plan_assignments}
 use Rattle.run_laws.specs.ListSteps.{which_of}
-use Rattle.run_laws.specs.TableSteps.{untabled, tabled_by, named_counties_of, tabled_problem_in}
+use Rattle.run_laws.specs.TableSteps.{untabled, tabled_by, named_counties_by, named_counties_of, named_people_in, tabled_problem_in}
 use Rattle.run_laws.proofs.Texts.{file_store_status, read_one_cuts, given_of_cuts, given_of_both_cuts}
-use Rattle.run_laws.specs.ProblemSteps.{counties_steps, pairs_of, pairs_in, links_of, links_in, withdrawn_of, withdrawn_in, adjacency_of, IsBuilt, problem_over, problem_steps, grouping_in, grouping_of}
+use Rattle.run_laws.specs.ProblemSteps.{counties_by, counties_steps, people_in, pairs_of, pairs_in, links_of, links_in, withdrawn_of, withdrawn_in, adjacency_of, IsBuilt, problem_over, problem_steps, grouping_in, grouping_of}
 
 -- the status of a refusal: 4 for a file, a problem or a board, and 5 for a file store or for memory
 abbrev pub IsRefusal : Answered → Type 0
@@ -61,6 +68,19 @@ file_status file kinds.NoBlocks line = inl refl
 file_status file kinds.TooMany line = inl refl
 file_status file (kinds.Lower fault) line = inl refl
 file_status file kinds.Memory line = inr refl
+
+people_status : (kind : PeopleKind) (line : ℕ) → IsRefusal (people_line_answer kind line)
+people_status people.BadLine line = inl refl
+people_status people.BadCode line = inl refl
+people_status people.BadNumber line = inl refl
+people_status people.BadName line = inl refl
+people_status people.DoubleCounty line = inl refl
+people_status people.NoCounties line = inl refl
+people_status (people.Lower fault) line = inl refl
+people_status people.Memory line = inr refl
+
+people_refused : (fault : PeopleFault) → IsRefusal (people_answer fault)
+people_refused fault = people_status fault.kind fault.line
 
 code_line_status : (file : InputFile) (kind : CodeLineKind) (line : ℕ) → IsRefusal (code_line_answer file kind line)
 code_line_status file lines.TooFewFields line = inl refl
@@ -146,10 +166,17 @@ given_refuses files name before after a h = inr (given_of_cuts files name before
 both_refuse : (files : Option Files) (first second : List ℕ) → Refuses (given_of_both files first second)
 both_refuse files first second before after a h = inr (given_of_both_cuts files first second before after a h)
 
+-- counties that aren't had
+counties_by_refuse : (files : Option Files) (state : ℕ) (words : CountyWords) → Refuses (counties_by files state words)
+counties_by_refuse files state (Census census) =
+    bind_refuses (given_of_both files census.geo.now census.segment.now) _ (both_refuse files census.geo.now census.segment.now) (λ given.
+    call_refuses pl94_answer (λ counties. OfTexts (λ g s. county_list g s state ≡ counties) given.0 given.1) (λ fault. file_status _ fault.kind fault.line))
+counties_by_refuse files state (People table) =
+    bind_refuses (load_step files table.now) (people_in state) (load_refuses files table.now) (λ text.
+    call_refuses people_answer (λ counties. people_list text state ≡ counties) people_refused)
+
 pub counties_refuse : (files : Option Files) (words : CommonWords) → Refuses (counties_steps files words)
-counties_refuse files words =
-    bind_refuses (given_of_both files words.geo.now words.segment.now) _ (both_refuse files words.geo.now words.segment.now) (λ given.
-    call_refuses pl94_answer (λ counties. OfTexts (λ g s. county_list g s words.state ≡ counties) given.0 given.1) (λ fault. file_status _ fault.kind fault.line))
+counties_refuse files words = counties_by_refuse files words.state words.counties
 
 code_file_refuses : {X : Type 0} (file : InputFile) (R : Result X CodeLineFault → Type 0) → Refuses (call_step (code_file_answer file) R)
 code_file_refuses file R = call_refuses (code_file_answer file) R (λ fault. code_line_status file fault.kind fault.line)
@@ -189,22 +216,28 @@ named_status : (fault : NamedFault) → IsRefusal (named_answer fault)
 named_status (names.Files fault) = file_status _ fault.kind fault.line
 named_status (names.BadName line) = inl refl
 
-named_refuse : (files : Option Files) (words : CommonWords) → Refuses (named_counties_of files words)
-named_refuse files words =
-    bind_refuses (given_of_both files words.geo.now words.segment.now) _ (both_refuse files words.geo.now words.segment.now) (λ given.
-    call_refuses named_answer (λ counties. OfTexts (λ g s. named_list g s words.state ≡ counties) given.0 given.1) named_status)
+named_by_refuse : (files : Option Files) (state : ℕ) (words : CountyWords) → Refuses (named_counties_by files state words)
+named_by_refuse files state (Census census) =
+    bind_refuses (given_of_both files census.geo.now census.segment.now) _ (both_refuse files census.geo.now census.segment.now) (λ given.
+    call_refuses named_answer (λ counties. OfTexts (λ g s. named_list g s state ≡ counties) given.0 given.1) named_status)
+named_by_refuse files state (People table) =
+    bind_refuses (load_step files table.now) (named_people_in state) (load_refuses files table.now) (λ text.
+    call_refuses people_answer (λ counties. named_people_list text state ≡ counties) people_refused)
 
-pub tabled_refuses : (files : Option Files) (words : ProblemWords) (table : Option (Bor (List ℕ))) → Refuses (tabled_problem_in files words table)
-tabled_refuses files words None = bind_refuses _ _ (problem_refuses files words) (λ v. value_refuses (λ t. t ≡ untabled v))
-tabled_refuses files words (Some table) =
+pub named_refuse : (files : Option Files) (words : CommonWords) → Refuses (named_counties_of files words)
+named_refuse files words = named_by_refuse files words.state words.counties
+
+pub tabled_refuses : (files : Option Files) (words : ProblemWords) (reads : Bool) → Refuses (tabled_problem_in files words reads)
+tabled_refuses files words false = bind_refuses _ _ (problem_refuses files words) (λ v. value_refuses (λ t. t ≡ untabled v))
+tabled_refuses files words true =
     bind_refuses _ _ (named_refuse files words.common) (λ named.
     bind_refuses _ _ (over_refuses files words (without_names named)) (λ v. value_refuses (λ t. t ≡ tabled_by named v)))
 
 -- census blocks that aren't had
-pub blocks_refuse : (files : Option Files) (words : CommonWords) → Refuses (blocks_of files words)
-blocks_refuse files words =
-    bind_refuses (given_of_both files words.geo.now words.segment.now) _ (both_refuse files words.geo.now words.segment.now) (λ given.
-    call_refuses pl94_answer (λ blocks. OfTexts (λ g s. block_list g s words.state ≡ blocks) given.0 given.1) (λ fault. file_status _ fault.kind fault.line))
+pub blocks_refuse : (files : Option Files) (census : CensusWords) (state : ℕ) → Refuses (blocks_of files census state)
+blocks_refuse files census state =
+    bind_refuses (given_of_both files census.geo.now census.segment.now) _ (both_refuse files census.geo.now census.segment.now) (λ given.
+    call_refuses pl94_answer (λ blocks. OfTexts (λ g s. block_list g s state ≡ blocks) given.0 given.1) (λ fault. file_status _ fault.kind fault.line))
 
 -- assignments that aren't had
 pub assignments_refuse : (files : Option Files) (name : List ℕ) → Refuses (plan_assignments files name)

@@ -1,5 +1,5 @@
 -- Steps over files that tell a problem give it, unless one of the files is refused.
-use Rattle.std.proofs.Common.{◌≡◌, ℕ, ◌+◌, List, Option, Some, None, filter, sym, ap, subst, ◌∙◌, arith, refl}
+use Rattle.std.proofs.Common.{◌≡◌, ℕ, ◌+◌, Bool, true, false, List, Option, Some, None, filter, sym, ap, subst, ◌∙◌, arith, refl}
 use Rattle.std.specs.Prelude.{Result, Ok, Err}
 use Rattle.std.specs.Borrow.{Bor}
 use Rattle.std.proofs.lemmas.List.Sorted.{Contains-permutation, IsPermutation-sym}
@@ -9,11 +9,11 @@ use Rattle.county_codes.specs.declared.withdrawn.Withdrawn.{Withdrawn}
 use Rattle.county_problem.specs.declared.fault.ProblemFault.{ProblemFault}
 use Rattle.county_problem.specs.ProblemValue.{ProblemValue, codes_of}
 use Rattle.county_problem.specs.Building.{IsProblemOf, problem_fault, is_left, joins, seats_in}
-use Rattle.pl94_counties.specs.declared.fault.Pl94Fault.{Pl94Fault}
 use Rattle.pl94_counties.specs.declared.county_names.NamedFault.{NamedFault}
 use Rattle.pl94_counties.specs.declared.county_names.NamedFault.TheVariants.{BadName}
 use Rattle.pl94_counties.specs.Counties.{county_list}
 use Rattle.pl94_counties.specs.CountyNames.{CountyName, named_list}
+use Rattle.people_table.specs.Listed.{people_list, named_people_list}
 use Rattle.adjacency_reader.specs.declared.links.Link.{Link}
 use Rattle.adjacency_reader.specs.Rows.{row_list}
 use Rattle.adjacency_reader.specs.Pairs.{ArePairs, IsPairsAnswer}
@@ -23,21 +23,23 @@ use Rattle.adjacency_reader.specs.Adjacency.{AreLinked}
 use Rattle.grouping_table.specs.Table.{unnamed_counties as without_names}
 use Rattle.grouping_laws.specs.Grouping.{Grouping}
 use Rattle.grouping_reader.specs.GroupingLines.{grouping_list}
+use Rattle.cli_words.specs.declared.words.CountyWords.{CountyWords}
+use Rattle.cli_words.specs.declared.words.CountyWords.TheVariants.{Census, People}
 use Rattle.cli_words.specs.declared.words.ProblemWords.{ProblemWords}
 use Rattle.cli_file_stores.specs.Files.{Files}
 use Rattle.cli_answers.specs.declared.refusal.InputFile.TheVariants as input
 use Rattle.cli_answers.specs.Answer.{Answered}
-use Rattle.cli_answers.specs.Refusals.{pl94_answer, named_answer, code_file_answer, problem_answer}
+use Rattle.cli_answers.specs.Refusals.{pl94_answer, named_answer, people_answer, code_file_answer, problem_answer}
 use Rattle.run_laws.specs.Steps.{◌>>=◌, load_step, value_step}
-use Rattle.run_laws.specs.ProblemSteps.{counties_steps, counties_in, pairs_of, pairs_in, links_of, links_in, withdrawn_of, withdrawn_in, adjacency_of, IsBuilt, build_step, problem_over, problem_steps, grouping_in, grouping_of}
+use Rattle.run_laws.specs.ProblemSteps.{counties_by, counties_steps, counties_in, people_in, pairs_of, pairs_in, links_of, links_in, withdrawn_of, withdrawn_in, adjacency_of, IsBuilt, build_step, problem_over, problem_steps, grouping_in, grouping_of}
 use Rattle.run_laws.specs.ListSteps.{which_of}
-use Rattle.run_laws.specs.FilesProblem.{IsGroupingOfFile, IsGroupingIfNamed}
-use Rattle.run_laws.specs.TableSteps.{Tabled, untabled, tabled_by, named_counties_in, named_counties_of, named_problem_over, tabled_problem_in}
+use Rattle.run_laws.specs.FilesProblem.{AreNamesIf, AreNamedBy, AreCountiesBy, IsGroupingOfFile, IsGroupingIfNamed}
+use Rattle.run_laws.specs.TableSteps.{Tabled, untabled, tabled_by, named_counties_in, named_counties_by, named_counties_of, named_people_in, named_problem_over, tabled_problem_in}
 use Rattle.field_lines.specs.Source.{Given}
 use Rattle.field_lines.specs.HeldBytes.{Foresees}
 use Rattle.run_laws.specs.Reading.{given_of_both, OfTexts}
 use Rattle.run_laws.proofs.OneList.{one_list_of_pairs, one_list_of_counties}
-use Rattle.run_laws.proofs.NamedLists.{counties_named, name_at_fault}
+use Rattle.run_laws.proofs.NamedLists.{counties_named, name_at_fault, people_named, people_at_fault}
 use Rattle.run_laws.proofs.FilesRead.{ReadsOver, ReadsProblem}
 use Rattle.run_laws.proofs.Repeating.{EndsBy, Gives, bind_ends, bind_gives, call_ends, value_ends, function_gives, load_gives, both_begin, optional_gives}
 
@@ -116,6 +118,53 @@ module _ (E : Answered → Type 0) (five : (a : Answered) → a.status ≡ 5 →
       bind_gives E is.0 (λ (x : Option Grouping). x ≡ which) (grouping_of (Some files) name.now) (λ g. value_step (λ held. held ≡ Some g)) (grouping_again name.now is.0 is.2)
       (value_ends E (λ (x : Option Grouping). x ≡ which) (λ held. held ≡ Some is.0) (λ x e. e ∙ sym is.1))
 
+-- counties with the names that the files give
+abbrev AreNamed : Files → ℕ → CountyWords → List County → List CountyName → Type 0
+AreNamed files state words counties named = (without_names named ≡ counties) × AreNamedBy files state words named
+
+-- a problem, with the names that the files give if they are read
+abbrev pub IsTabled : Files → ProblemWords → ProblemValue → Bool → Tabled → Type 0
+IsTabled files words v reads t = (t.problem ≡ v) × AreNamesIf reads files words.common t.named
+
+-- the counties are had again
+module _ (E : Answered → Type 0) (five : (a : Answered) → a.status ≡ 5 → E a) (files : Files) (state : ℕ) (counties : List County) where
+  counties_again : (words : CountyWords) → AreCountiesBy files state words counties → Gives counties E (counties_by (Some files) state words)
+  counties_again (Census census) h =
+      bind_ends E (λ (given : Given × Given). Foresees given.0 h.geo × Foresees given.1 h.segment) (λ (found : List County). found ≡ counties) (given_of_both (Some files) census.geo.now census.segment.now)
+      (λ given. counties_in state given.0 given.1)
+      (both_begin E five files census.geo.now census.segment.now h.geo h.segment h.geo_is h.segment_is) (λ given begun.
+      call_ends E (λ (found : List County). found ≡ counties) pl94_answer (λ found. OfTexts (λ g s. county_list g s state ≡ found) given.0 given.1)
+      (λ found k. one_ok (county_list h.geo h.segment state) counties found h.faultless (k h.geo h.segment begun.0 begun.1))
+      (λ fault k. absurd (ok_or_err (county_list h.geo h.segment state) counties fault h.faultless (k h.geo h.segment begun.0 begun.1))))
+  counties_again (People table) h =
+      bind_gives E h.table (λ (found : List County). found ≡ counties) (load_step (Some files) table.now) (people_in state) (load_gives E five files table.now h.table h.table_is)
+      (function_gives E people_answer (people_list h.table state) counties h.faultless)
+
+  -- counties with their names are the same counties
+  named_again : (words : CountyWords) → AreCountiesBy files state words counties → ((line : ℕ) → E (named_answer (BadName line)))
+      → EndsBy (AreNamed files state words counties) E (named_counties_by (Some files) state words)
+  named_again (Census census) h unnamed =
+      bind_ends E (λ (given : Given × Given). Foresees given.0 h.geo × Foresees given.1 h.segment) (AreNamed files state (Census census) counties) (given_of_both (Some files) census.geo.now census.segment.now)
+      (λ given. named_counties_in state given.0 given.1)
+      (both_begin E five files census.geo.now census.segment.now h.geo h.segment h.geo_is h.segment_is) (λ given begun.
+      call_ends E (AreNamed files state (Census census) counties) named_answer (λ found. OfTexts (λ g s. named_list g s state ≡ found) given.0 given.1)
+      (λ named k.
+      let read = k h.geo h.segment begun.0 begun.1 in (
+        one_ok (county_list h.geo h.segment state) counties (without_names named) h.faultless (counties_named h.geo h.segment state named read),
+        record { geo = h.geo; segment = h.segment; geo_is = h.geo_is; segment_is = h.segment_is; are = read },
+      ))
+      (λ fault k.
+      let bad = name_at_fault h.geo h.segment state counties fault h.faultless (k h.geo h.segment begun.0 begun.1) in
+      subst (λ (f : NamedFault). E (named_answer f)) (sym bad.1) (unnamed bad.0)))
+  named_again (People table) h unnamed =
+      bind_gives E h.table (AreNamed files state (People table) counties) (load_step (Some files) table.now) (named_people_in state) (load_gives E five files table.now h.table h.table_is)
+      (call_ends E (AreNamed files state (People table) counties) people_answer (λ found. named_people_list h.table state ≡ found)
+      (λ named k. (
+        one_ok (people_list h.table state) counties (without_names named) h.faultless (people_named h.table state named k),
+        record { table = h.table; table_is = h.table_is; are = k },
+      ))
+      (λ fault k. absurd (people_at_fault h.table state counties fault h.faultless k)))
+
 module _ (E : Answered → Type 0) (five : (a : Answered) → a.status ≡ 5 → E a) (files : Files) (words : ProblemWords) (v : ProblemValue) where
   -- the problem of counties is had again
   module _ (counties : List County) (h : ReadsOver files words counties v) where
@@ -155,47 +204,24 @@ module _ (E : Answered → Type 0) (five : (a : Answered) → a.status ≡ 5 →
         (bind_gives E h.withdrawn (λ (w : ProblemValue). w ≡ v) (withdrawn_of (Some files) words.withdrawn) (build_step words.common.chamber words.common.tolerance counties h.pairs) withdrawn_again built_again)
 
   module _ (h : ReadsProblem files words v) where
-    -- what was read of both census files begins their texts
-    abbrev AreBegun : Given × Given → Type 0
-    AreBegun given = Foresees given.0 h.geo × Foresees given.1 h.segment
-
-    counties_again : Gives h.counties E (counties_steps (Some files) words.common)
-    counties_again =
-        bind_ends E AreBegun (λ (counties : List County). counties ≡ h.counties) (given_of_both (Some files) words.common.geo.now words.common.segment.now)
-        (λ given. counties_in words.common.state given.0 given.1)
-        (both_begin E five files words.common.geo.now words.common.segment.now h.geo h.segment h.geo_is h.segment_is) (λ given begun.
-        call_ends E (λ (counties : List County). counties ≡ h.counties) pl94_answer (λ counties. OfTexts (λ g s. county_list g s words.common.state ≡ counties) given.0 given.1)
-        (λ counties k. one_ok (county_list h.geo h.segment words.common.state) h.counties counties h.counties_are (k h.geo h.segment begun.0 begun.1))
-        (λ fault k. absurd (ok_or_err (county_list h.geo h.segment words.common.state) h.counties fault h.counties_are (k h.geo h.segment begun.0 begun.1))))
+    counties_too : Gives h.counties E (counties_steps (Some files) words.common)
+    counties_too = counties_again E five files words.common.state h.counties words.common.counties h.counties_are
 
     -- the problem is had again
     pub problem_again : Gives v E (problem_steps (Some files) words)
-    problem_again = bind_gives E h.counties (λ (w : ProblemValue). w ≡ v) (counties_steps (Some files) words.common) (problem_over (Some files) words) counties_again (over_again h.counties h.over)
-
-    -- counties with their names are the same counties
-    named_again : ((line : ℕ) → E (named_answer (BadName line))) → EndsBy (λ (named : List CountyName). without_names named ≡ h.counties) E (named_counties_of (Some files) words.common)
-    named_again unnamed =
-        bind_ends E AreBegun (λ (named : List CountyName). without_names named ≡ h.counties) (given_of_both (Some files) words.common.geo.now words.common.segment.now)
-        (λ given. named_counties_in words.common.state given.0 given.1)
-        (both_begin E five files words.common.geo.now words.common.segment.now h.geo h.segment h.geo_is h.segment_is) (λ given begun.
-        call_ends E (λ (named : List CountyName). without_names named ≡ h.counties) named_answer (λ counties. OfTexts (λ g s. named_list g s words.common.state ≡ counties) given.0 given.1)
-        (λ named k. same_ok (county_list h.geo h.segment words.common.state) (without_names named) (counties_named h.geo h.segment words.common.state named (k h.geo h.segment begun.0 begun.1)) h.counties_are)
-        (λ fault k.
-        let bad = name_at_fault h.geo h.segment words.common.state h.counties fault h.counties_are (k h.geo h.segment begun.0 begun.1) in
-        subst (λ (f : NamedFault). E (named_answer f)) (sym bad.1) (unnamed bad.0)))
-      where
-        same_ok : (listed : Result (List County) Pl94Fault) (counties : List County) → listed ≡ Ok counties → listed ≡ Ok h.counties → counties ≡ h.counties
-        same_ok listed counties e f = cc
+    problem_again = bind_gives E h.counties (λ (w : ProblemValue). w ≡ v) (counties_steps (Some files) words.common) (problem_over (Some files) words) counties_too (over_again h.counties h.over)
 
     -- the problem is had again, whether names are read or not
-    pub tabled_again : (table : Option (Bor (List ℕ))) → ((name : Bor (List ℕ)) → table ≡ Some name → (line : ℕ) → E (named_answer (BadName line)))
-        → EndsBy (λ (t : Tabled). t.problem ≡ v) E (tabled_problem_in (Some files) words table)
-    tabled_again None unnamed =
-        bind_gives E v (λ (t : Tabled). t.problem ≡ v) (problem_steps (Some files) words) (λ w. value_step (λ t. t ≡ untabled w)) problem_again
-        (value_ends E (λ (t : Tabled). t.problem ≡ v) (λ t. t ≡ untabled v) (λ t same. ap (λ (x : Tabled). x.problem) same))
-    tabled_again (Some name) unnamed =
-        bind_ends E (λ (named : List CountyName). without_names named ≡ h.counties) (λ (t : Tabled). t.problem ≡ v) (named_counties_of (Some files) words.common) (named_problem_over (Some files) words)
-        (named_again (unnamed name refl)) (λ named same.
-        bind_gives E v (λ (t : Tabled). t.problem ≡ v) (problem_over (Some files) words (without_names named)) (λ w. value_step (λ t. t ≡ tabled_by named w))
-        (subst (λ (counties : List County). Gives v E (problem_over (Some files) words counties)) (sym same) (over_again h.counties h.over))
-        (value_ends E (λ (t : Tabled). t.problem ≡ v) (λ t. t ≡ tabled_by named v) (λ t is. ap (λ (x : Tabled). x.problem) is)))
+    pub tabled_again : (reads : Bool) → (reads ≡ true → (line : ℕ) → E (named_answer (BadName line)))
+        → EndsBy (IsTabled files words v reads) E (tabled_problem_in (Some files) words reads)
+    tabled_again false unnamed =
+        bind_gives E v (IsTabled files words v false) (problem_steps (Some files) words) (λ w. value_step (λ t. t ≡ untabled w)) problem_again
+        (value_ends E (IsTabled files words v false) (λ t. t ≡ untabled v) (λ t same. (ap (λ (x : Tabled). x.problem) same, tt)))
+    tabled_again true unnamed =
+        bind_ends E (AreNamed files words.common.state words.common.counties h.counties) (IsTabled files words v true)
+        (named_counties_of (Some files) words.common) (named_problem_over (Some files) words)
+        (named_again E five files words.common.state h.counties words.common.counties h.counties_are (unnamed refl)) (λ named these.
+        bind_gives E v (IsTabled files words v true) (problem_over (Some files) words (without_names named)) (λ w. value_step (λ t. t ≡ tabled_by named w))
+        (subst (λ (counties : List County). Gives v E (problem_over (Some files) words counties)) (sym these.0) (over_again h.counties h.over))
+        (value_ends E (IsTabled files words v true) (λ t. t ≡ tabled_by named v)
+        (λ t is. (ap (λ (x : Tabled). x.problem) is, (named, ap (λ (x : Tabled). x.named) is, these.1)))))

@@ -1,9 +1,9 @@
 -- What a run of `solve` tells.
-use Rattle.std.proofs.Common.{◌≡◌, ◌≤◌, ℕ, List, [], ◌++◌, append-nil, Some, None, inl, inr, refl, sym, ap, subst, ◌∙◌, append_assoc}
+use Rattle.std.proofs.Common.{◌≡◌, ◌≤◌, ℕ, List, [], ◌++◌, append-nil, Option, Some, None, inl, inr, refl, sym, ap, ◌∙◌, append_assoc}
 use Rattle.county_problem.specs.ProblemValue.{problem_of}
 use Rattle.grouping_laws.specs.Grouping.{Grouping}
+use Rattle.county_codes.specs.declared.group.Grouping as held
 use Rattle.grouping_report.specs.GroupingText.{grouping_text}
-use Rattle.grouping_report.specs.Outcomes.{outcome_text}
 use Rattle.grouping_report.specs.declared.outcome.Outcome.TheVariants as outcome
 use Rattle.board_report.specs.EventSpelling.{text_of_events}
 use Rattle.board_report.specs.Resuming.{resuming_events}
@@ -15,15 +15,16 @@ use Rattle.cli_words.specs.declared.words.CommandWords.TheVariants.{Solve}
 use Rattle.cli_file_stores.specs.Files.{NamedFile, Files}
 use Rattle.cli_file_stores.specs.History.{History}
 use Rattle.cli_answers.specs.Answer.{Answered}
+use Rattle.run_laws.specs.Forms.{outcome_in}
 use Rattle.run_laws.specs.TableSteps.{table_of}
-use Rattle.run_laws.specs.FilesProblem.{IsProblemOfFiles, IsTableOfFiles}
+use Rattle.run_laws.specs.FilesProblem.{AreNamesIf, IsProblemOfFiles, IsTableOfFiles}
 use Rattle.run_laws.specs.SolveSteps.{Solved, SaysSolved}
 use Rattle.run_laws.specs.Storing.{IsStoredAs, named_file}
 use Rattle.run_laws.specs.Run.{CommandRun}
 use Rattle.run_laws.specs.Headline.{Tells}
 use Rattle.run_laws.proofs.Ending.{same_status}
 use Rattle.run_laws.proofs.FilesRead.{problem_of_files, stored_between, table_between}
-use Rattle.run_laws.proofs.Agrees.{HasSaid, has_said}
+use Rattle.run_laws.proofs.Agrees.{HasSaid, has_said, object_names}
 
 module _ (files : Files) (words : SolveWords) (stored : List NamedFile) (a : Answered) (h : HasSaid files words stored a) where
   problem : IsProblemOfFiles files words.problem h.t.problem
@@ -54,8 +55,19 @@ module _ (files : Files) (words : SolveWords) (stored : List NamedFile) (a : Ans
       stored_between words.events (λ t. t ≡ text) text h.s.events (before_table ++ table) [] stored refl is
       (all_behind ∙ sym (append_assoc before_table table events) ∙ ap (λ l. (before_table ++ table) ++ l) (sym (append-nil events)))
 
-  found_tells : (found : search.Answer) → IsSolveAnswer (problem_of h.t.problem) words.steps found → SolveIsRight (problem_of h.t.problem) found → SaysWhether (problem_of h.t.problem) words.steps found
-      → SaysSolved h.t found h.s → Tells files (Solve words) stored a
+  -- the names of the counties, if the answer is an object
+  named_are : AreNamesIf words.problem.common.json files words.problem.common h.t.named
+  named_are = object_names files words stored a h
+
+  -- an answer that is open, with the steps that were allowed
+  open_answer : (found : Option held.Grouping) (steps : ℕ) → steps ≡ words.steps
+      → a ≡ record { text = outcome_in words.problem.common.json h.t.problem h.t.named (outcome.Open found steps); status = 3 }
+      → a ≡ record { text = outcome_in words.problem.common.json h.t.problem h.t.named (outcome.Open found words.steps); status = 3 }
+  open_answer found steps is said =
+      said ∙ ap (λ n. record { text = outcome_in words.problem.common.json h.t.problem h.t.named (outcome.Open found n); status = 3 }) is
+
+  found_tells : (found : search.Answer) → IsSolveAnswer (problem_of h.t.problem) words.steps found → SolveIsRight (problem_of h.t.problem) found
+      → SaysWhether (problem_of h.t.problem) words.steps found → SaysSolved words.problem.common.json h.t found h.s → Tells files (Solve words) stored a
   found_tells (Best g c) is best whether said = inl (
     same_status a _ (answer_is _ said.2),
     record {
@@ -63,6 +75,8 @@ module _ (files : Files) (words : SolveWords) (stored : List NamedFile) (a : Ans
       problem = problem;
       grouping = g;
       best = best;
+      named = h.t.named;
+      named_are = named_are;
       answer = answer_is _ said.2;
       lines = lines_between g.groups.items (ap (λ (x : Solved). x.grouping) said.2);
       table = table_behind g.groups.items (ap (λ (x : Solved). x.table) said.2);
@@ -70,7 +84,7 @@ module _ (files : Files) (words : SolveWords) (stored : List NamedFile) (a : Ans
   )
   found_tells (Impossible c) is best whether said = inr (inl (
     same_status a _ (answer_is _ said.2),
-    record { v = h.t.problem; problem = problem; none = whether; answer = answer_is _ said.2 },
+    record { v = h.t.problem; problem = problem; none = whether; named = h.t.named; named_are = named_are; answer = answer_is _ said.2 },
   ))
   found_tells (Open None part steps) is best whether said = inr (inr (
     same_status a _ (answer_is _ said),
@@ -80,7 +94,9 @@ module _ (files : Files) (words : SolveWords) (stored : List NamedFile) (a : Ans
       found = None;
       part = part;
       is = is.1.0;
-      answer = subst (λ n. a ≡ record { text = outcome_text h.t.problem (outcome.Open None n); status = 3 }) is.0 (answer_is _ said);
+      named = h.t.named;
+      named_are = named_are;
+      answer = open_answer None steps is.0 (answer_is _ said);
       stored_are = tt;
     },
   ))
@@ -92,7 +108,9 @@ module _ (files : Files) (words : SolveWords) (stored : List NamedFile) (a : Ans
       found = Some g;
       part = part;
       is = (is.1.0, is.1.2);
-      answer = subst (λ n. a ≡ record { text = outcome_text h.t.problem (outcome.Open (Some g) n); status = 3 }) is.0 (answer_is _ said);
+      named = h.t.named;
+      named_are = named_are;
+      answer = open_answer (Some g) steps is.0 (answer_is _ said);
       stored_are = (
         lines_between g.groups.items (ap (λ (x : Solved). x.grouping) said),
         table_behind g.groups.items (ap (λ (x : Solved). x.table) said),

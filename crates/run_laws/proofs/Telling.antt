@@ -1,5 +1,5 @@
 -- What an answer with status 0, 1 or 3 tells of the files that a run read.
-use Rattle.std.proofs.Common.{◌≡◌, ◌≤◌, ℕ, List, [], ◌∷◌, ◌++◌, append_assoc, Option, Some, None, inl, inr, sym, ap, subst, ◌∙◌, arith}
+use Rattle.std.proofs.Common.{◌≡◌, ◌≤◌, ℕ, Bool, List, [], ◌∷◌, ◌++◌, append_assoc, Option, Some, None, inl, inr, sym, ap, subst, ◌∙◌, arith}
 use Rattle.std.specs.Prelude.{true}
 use Rattle.cli_words.specs.declared.words.CommandWords.{CommandWords}
 use Rattle.cli_words.specs.declared.words.CommandWords.TheVariants.{Size, Judge, Solve, Check, Audit, List as ListAll, Share, Piece, Worker}
@@ -12,8 +12,9 @@ use Rattle.cli_file_stores.specs.History.FileStoreEvent.{Stored}
 use Rattle.cli_answers.specs.Answer.{Answered}
 use Rattle.cli_record.specs.RecordFiles.{record_name_of}
 use Rattle.run_laws.specs.Spoken.{behind}
-use Rattle.run_laws.specs.Storing.{said_after, store_steps}
-use Rattle.run_laws.specs.Recording.{is_recorded, RecordEnds}
+use Rattle.run_laws.specs.Storing.{store_steps}
+use Rattle.run_laws.specs.Forms.{is_json}
+use Rattle.run_laws.specs.Recording.{is_recorded, IsSaidAfter, RecordEnds}
 use Rattle.run_laws.specs.Loads.{AnsweredBy}
 use Rattle.run_laws.specs.Run.{CommandRun, IsEndAnswer, IsRunAnswer, RunsAsAsked}
 use Rattle.run_laws.specs.Headline.{IsStoreTaken, AreTaken, Tells, RunsTell, RunTells}
@@ -28,6 +29,7 @@ use Rattle.run_laws.proofs.WorkerTells.{worker_tells}
 use Rattle.run_laws.proofs.Ending.{same_status, not_refused, not_out_of_memory}
 use Rattle.run_laws.proofs.OfTheirLoads.{as_asked, own_run, record_extends, run_taken}
 use Rattle.run_laws.proofs.Lifting.{Extends}
+use Rattle.run_laws.proofs.Shown.{shown_low}
 use Rattle.run_laws.proofs.StoreLemmas.{refusal_status}
 
 -- ---- a command
@@ -59,18 +61,19 @@ taken_on before between after name bytes k more =
     )
 
 -- the answer of a run with its record is that of the command, if it has a status of an answer
-unrefused : (list : List NamedFile) (between after : History) (last : List NamedFile) (said a : Answered) (refusal : Option Answered) → store_steps list between after last refusal → a ≡ said_after refusal said
-    → a.status ≤ 3 → a ≡ said
-unrefused list between after last said a None steps is low = is
-unrefused list between after last said a (Some refused) steps is low =
-    absurd (not_refused a low (inr (same_status a refused is ∙ refusal_status list between after last refused steps)))
+unrefused : (json : Bool) (list : List NamedFile) (between after : History) (last : List NamedFile) (said a : Answered) (refusal : Option Answered)
+    → store_steps list between after last refusal → IsSaidAfter json refusal said a → a.status ≤ 3 → a ≡ said
+unrefused json list between after last said a None steps is low = is
+unrefused json list between after last said a (Some refused) steps is low =
+    let same = same_status a refused (shown_low json refused a is low) in
+    absurd (not_refused a low (inr (same ∙ refusal_status list between after last refused steps)))
 
 own_answer : (words : List (List ℕ)) (command : CommandWords) (name : List ℕ) (before between after : History) (last : List NamedFile) (written : List ℕ) (said end : Answered)
     → RecordEnds words command name before between after last written said end → end.status ≤ 3 → end ≡ said
 own_answer words command name before between after last written said end (inl h) low = h.1.answer
 own_answer words command name before between after last written said end (inr (asked, inl none)) low = absurd (not_out_of_memory end low none.answer)
 own_answer words command name before between after last written said end (inr (asked, inr s)) low =
-    unrefused (record { name = name; bytes = s.text } ∷ []) between after last said end s.refusal s.steps s.answer low
+    unrefused (is_json command) (record { name = name; bytes = s.text } ∷ []) between after last said end s.refusal s.steps s.answer low
 
 -- the files that the command itself stored
 abbrev own_files : (given : Option Files) (words : List (List ℕ)) (command : CommandWords) (name : Option (List ℕ)) (before after : History) (stored : List NamedFile) (a : Answered)

@@ -16,12 +16,13 @@ use Rattle.run_laws.specs.Reading.{GivenBack}
 use Rattle.run_laws.specs.FilesProblem.{IsProblemOfFiles}
 use Rattle.run_laws.specs.Spoken.{behind}
 use Rattle.cli_words.specs.Words.{standard_input}
-use Rattle.run_laws.specs.WorkerSteps.{WorkerRun, HasProved, WorkerStops, IsWorkerRun, worker_steps}
+use Rattle.run_laws.specs.WorkerSteps.{WorkerRun, HasProved, WorkerStops, IsWorkerRun, worker_steps, WorkerEnds}
 use Rattle.run_laws.specs.Run.{CommandRun}
 use Rattle.run_laws.specs.Headline.{Tells}
 use Rattle.run_laws.proofs.Texts.{file_store_status, one_found}
 use Rattle.run_laws.proofs.Refusing.{IsRefusal, Refuses, as_refused, bind_refuses, value_refuses, problem_refuses, read_one_refuses, pieces_status}
-use Rattle.run_laws.proofs.Ending.{same_status, not_refused, not_out_of_memory}
+use Rattle.run_laws.proofs.Ending.{same_status, not_refused}
+use Rattle.run_laws.proofs.Shown.{ends_low}
 use Rattle.run_laws.proofs.FilesRead.{went, problem_reads, problem_of_files}
 
 module _ (files : Files) where
@@ -69,6 +70,8 @@ module _ (files : Files) where
         r.value (one_found files standard_input p.between r.between r.value r.given) run.0 run.1 run.2
 
     pub worker_tells : (before after : History) (stored : List NamedFile) (a : Answered) → CommandRun (Some files) (Worker words) before after stored a → a.status ≤ 3 → Tells files (Worker words) stored a
-    worker_tells before after stored a (inl none) low = absurd (not_out_of_memory a low none.0)
-    worker_tells before after stored a (inr (inl stop, none)) low = absurd (not_refused a low (worker_refuses before after a stop))
-    worker_tells before after stored a (inr (inr (s, ended, said), none)) low = worker_ended before after stored a low s ended said
+    worker_tells before after stored a run low = by_end (ends_low (Some files) (Worker words) before after stored a run low)
+      where
+        by_end : WorkerEnds (Some files) words before after stored a → Tells files (Worker words) stored a
+        by_end (inl stop, none) = absurd (not_refused a low (worker_refuses before after a stop))
+        by_end (inr (s, ended, said), none) = worker_ended before after stored a low s ended said

@@ -1,5 +1,5 @@
 -- The problem that the bytes of files tell, none of which is at fault.
-use Rattle.std.specs.Prelude.{◌≡◌, ℕ, List, [], Option, Some, None, Result, Ok}
+use Rattle.std.specs.Prelude.{◌≡◌, ℕ, Bool, true, false, List, [], Option, Some, None, Result, Ok}
 use Rattle.std.specs.Borrow.{Bor}
 use Rattle.county_codes.specs.declared.county.County.{County}
 use Rattle.county_codes.specs.declared.withdrawn.Withdrawn as county
@@ -12,6 +12,8 @@ use Rattle.grouping_table.specs.GroupingsTable.{groupings_text}
 use Rattle.pl94_counties.specs.declared.blocks.Block.{Block}
 use Rattle.pl94_counties.specs.Counties.{county_list, block_list}
 use Rattle.pl94_counties.specs.ListedAreas.{AreCounties, AreBlocks}
+use Rattle.people_table.specs.Listed.{people_list, named_people_list}
+use Rattle.people_table.specs.CountiesOfTable.{AreCountiesOfTable}
 use Rattle.adjacency_reader.specs.declared.links.Link.{Link}
 use Rattle.adjacency_reader.specs.Rows.{row_list}
 use Rattle.adjacency_reader.specs.Pairs.{ArePairs}
@@ -22,6 +24,9 @@ use Rattle.baf_auditor.specs.declared.assignments.Assignment.{Assignment}
 use Rattle.baf_auditor.specs.Assignments.{assignment_list}
 use Rattle.grouping_reader.specs.GroupingLines.{grouping_list}
 use Rattle.cli_words.specs.declared.words.CommonWords.{CommonWords}
+use Rattle.cli_words.specs.declared.words.CensusWords.{CensusWords}
+use Rattle.cli_words.specs.declared.words.CountyWords.{CountyWords}
+use Rattle.cli_words.specs.declared.words.CountyWords.TheVariants.{Census, People}
 use Rattle.cli_words.specs.declared.words.ProblemWords.{ProblemWords}
 use Rattle.cli_file_stores.specs.Files.{Files}
 
@@ -35,31 +40,68 @@ abbrev pub IsReadAsIfNamed : {X F : Type 0} → (List ℕ → Result (List X) F)
 IsReadAsIfNamed read files None list = list ≡ []
 IsReadAsIfNamed read files (Some name) list = IsReadAs read files name.now list
 
--- The counties of the state by the bytes of the geographic header and of segment 1, of which no line is at fault.
-pub record AreCountiesOfFiles (files : Files) (words : CommonWords) (counties : List County) : Type 0 where
+-- The counties of a state by the bytes of the geographic header and of segment 1, of which no line is at fault.
+pub record AreCountiesOfCensus (files : Files) (state : ℕ) (census : CensusWords) (counties : List County) : Type 0 where
   pub geo : List ℕ
   pub segment : List ℕ
-  pub geo_is : files words.geo.now ≡ Some geo
-  pub segment_is : files words.segment.now ≡ Some segment
-  pub faultless : county_list geo segment words.state ≡ Ok counties
-  pub are : AreCounties geo segment words.state counties
+  pub geo_is : files census.geo.now ≡ Some geo
+  pub segment_is : files census.segment.now ≡ Some segment
+  pub faultless : county_list geo segment state ≡ Ok counties
+  pub are : AreCounties geo segment state counties
 
--- the counties of the state with their names by the bytes of the geographic header and of segment 1
-pub record AreNamedByFiles (files : Files) (words : CommonWords) (named : List CountyName) : Type 0 where
-  pub geo : List ℕ
-  pub segment : List ℕ
-  pub geo_is : files words.geo.now ≡ Some geo
-  pub segment_is : files words.segment.now ≡ Some segment
-  pub are : named_list geo segment words.state ≡ Ok named
+-- The counties of a state by the bytes of a table of counties, of which no line is at fault.
+pub record AreCountiesOfPeople (files : Files) (state : ℕ) (name : List ℕ) (counties : List County) : Type 0 where
+  pub table : List ℕ
+  pub table_is : files name ≡ Some table
+  pub faultless : people_list table state ≡ Ok counties
+  pub are : AreCountiesOfTable table state counties
 
--- The census blocks of the state by the bytes of the geographic header and of segment 1, of which no line is at fault.
-pub record AreBlocksOfFiles (files : Files) (words : CommonWords) (blocks : List Block) : Type 0 where
+-- the counties of a state by the files that the words name
+abbrev pub AreCountiesBy : Files → ℕ → CountyWords → List County → Type 0
+AreCountiesBy files state (Census census) counties = AreCountiesOfCensus files state census counties
+AreCountiesBy files state (People name) counties = AreCountiesOfPeople files state name.now counties
+
+-- the counties of the state
+abbrev pub AreCountiesOfFiles : Files → CommonWords → List County → Type 0
+AreCountiesOfFiles files words counties = AreCountiesBy files words.state words.counties counties
+
+-- the counties of a state with their names by the bytes of the geographic header and of segment 1
+pub record AreNamedByCensus (files : Files) (state : ℕ) (census : CensusWords) (named : List CountyName) : Type 0 where
   pub geo : List ℕ
   pub segment : List ℕ
-  pub geo_is : files words.geo.now ≡ Some geo
-  pub segment_is : files words.segment.now ≡ Some segment
-  pub faultless : block_list geo segment words.state ≡ Ok blocks
-  pub are : AreBlocks geo segment words.state blocks
+  pub geo_is : files census.geo.now ≡ Some geo
+  pub segment_is : files census.segment.now ≡ Some segment
+  pub are : named_list geo segment state ≡ Ok named
+
+-- the counties of a state with their names by the bytes of a table of counties
+pub record AreNamedByPeople (files : Files) (state : ℕ) (name : List ℕ) (named : List CountyName) : Type 0 where
+  pub table : List ℕ
+  pub table_is : files name ≡ Some table
+  pub are : named_people_list table state ≡ Ok named
+
+-- the counties of a state with their names by the files that the words name
+abbrev pub AreNamedBy : Files → ℕ → CountyWords → List CountyName → Type 0
+AreNamedBy files state (Census census) named = AreNamedByCensus files state census named
+AreNamedBy files state (People name) named = AreNamedByPeople files state name.now named
+
+-- the counties of the state with their names
+abbrev pub AreNamedByFiles : Files → CommonWords → List CountyName → Type 0
+AreNamedByFiles files words named = AreNamedBy files words.state words.counties named
+
+-- the counties of the state with their names, if their names are read
+abbrev pub AreNamesIf : Bool → Files → CommonWords → Option (List CountyName) → Type 0
+AreNamesIf false files words named = Unit {0}
+AreNamesIf true files words named =
+    (list : List CountyName) × (named ≡ Some list) × AreNamedByFiles files words list
+
+-- The census blocks of a state by the bytes of the geographic header and of segment 1, of which no line is at fault.
+pub record AreBlocksOfFiles (files : Files) (state : ℕ) (census : CensusWords) (blocks : List Block) : Type 0 where
+  pub geo : List ℕ
+  pub segment : List ℕ
+  pub geo_is : files census.geo.now ≡ Some geo
+  pub segment_is : files census.segment.now ≡ Some segment
+  pub faultless : block_list geo segment state ≡ Ok blocks
+  pub are : AreBlocks geo segment state blocks
 
 -- The adjacent pairs: those of the rows of the adjacency file between listed counties, and then the links over them.
 pub record AreAdjacentByFiles (files : Files) (words : ProblemWords) (listed : List ℕ)

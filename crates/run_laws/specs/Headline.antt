@@ -10,11 +10,10 @@ use Rattle.county_problem.specs.ProblemValue.{ProblemValue, problem_of}
 use Rattle.county_problem.specs.Building.{IsProblemOf, problem_fault}
 use Rattle.county_problem.specs.Judging.{IsFault}
 use Rattle.county_problem.specs.declared.grouping_fault.GroupingFault.{GroupingFault}
-use Rattle.grouping_laws.specs.Grouping.{Grouping, Lawful, IsBest, IsImpossible}
-use Rattle.grouping_report.specs.SizeTable.{size_text}
-use Rattle.grouping_report.specs.Outcomes.{outcome_text}
+use Rattle.grouping_laws.specs.Grouping.{Grouping, Lawful, IsBest, IsImpossible, IsGreater, counts, sets_of}
 use Rattle.grouping_report.specs.GroupingText.{grouping_text}
 use Rattle.grouping_report.specs.declared.outcome.Outcome.TheVariants as outcome
+use Rattle.pl94_counties.specs.CountyNames.{CountyName}
 use Rattle.pl94_counties.specs.declared.blocks.Block.{Block}
 use Rattle.baf_auditor.specs.declared.assignments.Assignment.{Assignment}
 use Rattle.baf_auditor.specs.declared.finding.Finding.{Finding}
@@ -67,10 +66,11 @@ use Rattle.cli_file_stores.specs.History.FileStoreEvent.{Stored}
 use Rattle.cli_answers.specs.Answer.{Answered, success, budget_answer}
 use Rattle.cli_answers.specs.CheckLines.{no_answer}
 use Rattle.cli_answers.specs.Refusals.{verdict_answer}
-use Rattle.run_laws.specs.FilesProblem.{AreCountiesOfFiles, IsProblemOfFiles, IsTableOfFiles, AreBlocksOfFiles}
+use Rattle.run_laws.specs.Forms.{line_in, outcome_in, size_in}
+use Rattle.run_laws.specs.FilesProblem.{AreNamesIf, AreCountiesOfFiles, IsProblemOfFiles, IsTableOfFiles, AreBlocksOfFiles}
 use Rattle.run_laws.specs.FilesProblem.{IsGroupingOfFile, IsGroupingIfNamed, IsLongTableOfFiles, AreAssignmentsOfFile}
 use Rattle.run_laws.specs.Storing.{IsStoredAs}
-use Rattle.run_laws.specs.JudgeWithCertificate.{lawful_answer, best_answer}
+use Rattle.run_laws.specs.JudgeWithCertificate.{lawful_answer, best_answer, greater_answer}
 use Rattle.run_laws.specs.JudgeSteps.{IsDistrictsTable, findings_answer}
 use Rattle.run_laws.specs.ListSteps.{listing_answer, open_answer, grouping_numbered}
 use Rattle.run_laws.specs.BoardSteps.{format_of, depth_of, limit_of_words}
@@ -89,7 +89,9 @@ pub record SolveTellsBest (files : Files) (words : SolveWords) (stored : List Na
   pub problem : IsProblemOfFiles files words.problem v
   pub grouping : held.Grouping
   pub best : IsBest (problem_of v) grouping.groups.items
-  pub answer : a ≡ success (outcome_text v (outcome.Best grouping))
+  pub named : Option (List CountyName)
+  pub named_are : AreNamesIf words.problem.common.json files words.problem.common named
+  pub answer : a ≡ success (outcome_in words.problem.common.json v named (outcome.Best grouping))
   pub lines : IsStoredAs words.out (λ text. text ≡ grouping_text grouping.groups.items) stored
   pub table : IsStoredAs words.table (IsTableOfFiles files words.problem v grouping.groups.items) stored
 
@@ -99,7 +101,9 @@ pub record TellsNone (files : Files) (words : ProblemWords) (a : Answered) : Typ
   pub v : ProblemValue
   pub problem : IsProblemOfFiles files words v
   pub none : IsImpossible (problem_of v)
-  pub answer : a ≡ record { text = outcome_text v outcome.Impossible; status = 1 }
+  pub named : Option (List CountyName)
+  pub named_are : AreNamesIf words.common.json files words.common named
+  pub answer : a ≡ record { text = outcome_in words.common.json v named outcome.Impossible; status = 1 }
 
 -- What is known of a grouping that `solve` found before its steps ran out: it is lawful, and a part that is given is
 -- one of the proof that it is best. None was found only if no step was allowed.
@@ -126,7 +130,12 @@ pub record SolveTellsOpen (files : Files) (words : SolveWords) (stored : List Na
   pub found : Option held.Grouping
   pub part : Option PartialTree
   pub is : IsFound v words.steps found part
-  pub answer : a ≡ record { text = outcome_text v (outcome.Open found words.steps); status = 3 }
+  pub named : Option (List CountyName)
+  pub named_are : AreNamesIf words.problem.common.json files words.problem.common named
+  pub answer : a ≡ record {
+    text = outcome_in words.problem.common.json v named (outcome.Open found words.steps);
+    status = 3;
+  }
   pub stored_are : AreFoundStored files words v found part stored
 
 -- ---- check
@@ -138,7 +147,9 @@ pub record CheckTellsBest (files : Files) (words : CheckWords) (stored : List Na
   pub problem : IsProblemOfFiles files words.check.problem v
   pub grouping : held.Grouping
   pub best : IsBest (problem_of v) grouping.groups.items
-  pub answer : a ≡ success (outcome_text v (outcome.Best grouping))
+  pub named : Option (List CountyName)
+  pub named_are : AreNamesIf words.check.problem.common.json files words.check.problem.common named
+  pub answer : a ≡ success (outcome_in words.check.problem.common.json v named (outcome.Best grouping))
   pub table : IsStoredAs words.table (IsTableOfFiles files words.check.problem v grouping.groups.items) stored
 
 -- `check` or `list` ends with status 1: this is the first fault of the certificate's file, and its line.
@@ -150,7 +161,7 @@ pub record TellsFault (files : Files) (words : CertificateWords) (a : Answered) 
   pub fault : CheckFault
   pub line : ℕ
   pub first : IsCheckAnswer (problem_of v) certificate words.budget (verdict.No fault line)
-  pub answer : a ≡ no_answer fault line
+  pub answer : a ≡ line_in words.problem.common.json (no_answer fault line)
 
 -- `check` or `list` ends with status 3: the budget is below the cost of the certificate.
 pub record TellsBudget (files : Files) (words : CertificateWords) (a : Answered) : Type 0 where
@@ -159,7 +170,7 @@ pub record TellsBudget (files : Files) (words : CertificateWords) (a : Answered)
   pub certificate : List ℕ
   pub certificate_is : files words.certificate.now ≡ Some certificate
   pub above : IsCheckAnswer (problem_of v) certificate words.budget verdict.Budget
-  pub answer : a ≡ budget_answer
+  pub answer : a ≡ line_in words.problem.common.json budget_answer
 
 -- ---- judge
 
@@ -171,10 +182,30 @@ pub record JudgeTellsLawful (files : Files) (words : JudgeWords) (stored : List 
   pub grouping : Grouping
   pub grouping_is : IsGroupingOfFile files words.grouping.now grouping
   pub lawful : Lawful (problem_of v) grouping
-  pub answer : (a ≡ lawful_answer v grouping) ⊎ ((a ≡ best_answer v grouping) × IsBest (problem_of v) grouping)
+  pub named : Option (List CountyName)
+  pub named_are : AreNamesIf words.problem.common.json files words.problem.common named
+  pub answer : (a ≡ lawful_answer words.problem.common.json v named grouping)
+      ⊎ ((a ≡ best_answer words.problem.common.json v named grouping) × IsBest (problem_of v) grouping)
   pub table : IsStoredAs words.table (IsTableOfFiles files words.problem v grouping) stored
 
--- `judge` ends with status 1: the grouping of its file isn't lawful, and this is its first fault.
+-- `judge` ends with status 1, since another grouping has greater counts: the grouping of its file is lawful for the
+-- problem of the files, but the target of the certificate is best, and has greater counts. Where it is named, the table
+-- of the judged grouping was stored.
+pub record JudgeTellsGreater (files : Files) (words : JudgeWords) (stored : List NamedFile) (a : Answered) : Type 0 where
+  pub v : ProblemValue
+  pub problem : IsProblemOfFiles files words.problem v
+  pub grouping : Grouping
+  pub grouping_is : IsGroupingOfFile files words.grouping.now grouping
+  pub lawful : Lawful (problem_of v) grouping
+  pub target : Grouping
+  pub best : IsBest (problem_of v) target
+  pub greater : IsGreater (counts (sets_of target)) (counts (sets_of grouping))
+  pub named : Option (List CountyName)
+  pub named_are : AreNamesIf words.problem.common.json files words.problem.common named
+  pub answer : a ≡ greater_answer words.problem.common.json v named grouping target
+  pub table : IsStoredAs words.table (IsTableOfFiles files words.problem v grouping) stored
+
+-- `judge` ends with status 1, since the grouping of its file isn't lawful: this is its first fault.
 pub record JudgeTellsFault (files : Files) (words : JudgeWords) (a : Answered) : Type 0 where
   pub v : ProblemValue
   pub problem : IsProblemOfFiles files words.problem v
@@ -182,7 +213,7 @@ pub record JudgeTellsFault (files : Files) (words : JudgeWords) (a : Answered) :
   pub grouping_is : IsGroupingOfFile files words.grouping.now grouping
   pub fault : GroupingFault
   pub first : IsFault (problem_of v) grouping fault
-  pub answer : a ≡ verdict_answer fault
+  pub answer : a ≡ line_in words.problem.common.json (verdict_answer fault)
 
 -- ---- list
 
@@ -204,7 +235,9 @@ pub record ListTellsAll (files : Files) (words : ListWords) (stored : List Named
   pub in_order : AreInOrder groupings
   pub which : Option Grouping
   pub which_is : IsGroupingIfNamed files words.which which
-  pub answer : a ≡ listing_answer v groupings which
+  pub named : Option (List CountyName)
+  pub named_are : AreNamesIf words.check.problem.common.json files words.check.problem.common named
+  pub answer : a ≡ listing_answer words.check.problem.common.json v named groupings which
   pub lines : IsNumberedStored groupings words.stored stored
   pub table : IsStoredAs words.groupings (IsLongTableOfFiles files words.check.problem v groupings) stored
 
@@ -218,7 +251,7 @@ pub record ListTellsOpen (files : Files) (words : ListWords) (a : Answered) : Ty
   pub gap : Gap
   pub line : ℕ
   pub first : IsListing (problem_of v) certificate words.check.budget (listing.Open gap line)
-  pub answer : a ≡ open_answer gap line
+  pub answer : a ≡ line_in words.check.problem.common.json (open_answer gap line)
 
 -- ---- audit
 
@@ -230,12 +263,12 @@ pub record AuditTells (files : Files) (words : AuditWords) (stored : List NamedF
   pub grouping : Grouping
   pub grouping_is : IsGroupingOfFile files words.grouping.now grouping
   pub blocks : List Block
-  pub blocks_are : AreBlocksOfFiles files words.problem.common blocks
+  pub blocks_are : AreBlocksOfFiles files words.problem.common.state words.census blocks
   pub assignments : List Assignment
   pub assignments_are : AreAssignmentsOfFile files words.assignments.now assignments
   pub findings : List Finding
   pub findings_are : AreFindings v grouping blocks assignments findings
-  pub answer : a ≡ findings_answer findings
+  pub answer : a ≡ findings_answer words.problem.common.json findings
   pub table : IsStoredAs words.districts (IsDistrictsTable v grouping blocks assignments) stored
 
 -- ---- size
@@ -248,7 +281,9 @@ pub record SizeTells (files : Files) (words : CommonWords) (a : Answered) : Type
   pub v : ProblemValue
   pub faultless : problem_fault counties [] [] words.chamber words.tolerance ≡ None
   pub problem : IsProblemOf counties [] [] words.chamber words.tolerance v
-  pub answer : a ≡ success (size_text v)
+  pub named : Option (List CountyName)
+  pub named_are : AreNamesIf words.json files words named
+  pub answer : a ≡ success (size_in words.json v named)
 
 -- ---- share and piece
 
@@ -347,7 +382,10 @@ ByStatus status Yes No Open = ((status ≡ 0) × Yes) ⊎ (((status ≡ 1) × No
 abbrev pub Tells : Files → CommandWords → List NamedFile → Answered → Type 0
 Tells files (Size words) stored a = ByStatus a.status (SizeTells files words a) ⊥ ⊥
 Tells files (Judge words) stored a =
-    ByStatus a.status (JudgeTellsLawful files words stored a) (JudgeTellsFault files words a) ⊥
+    ByStatus a.status
+    (JudgeTellsLawful files words stored a)
+    (JudgeTellsGreater files words stored a ⊎ JudgeTellsFault files words a)
+    ⊥
 Tells files (Solve words) stored a =
     ByStatus a.status
     (SolveTellsBest files words stored a)

@@ -4,8 +4,9 @@ use Rattle.county_problem.specs.declared.grouping_fault.GroupingFault.{GroupingF
 use Rattle.county_problem.specs.ProblemValue.{ProblemValue, problem_of}
 use Rattle.grouping_laws.specs.Grouping.{Grouping, Lawful}
 use Rattle.county_problem.specs.Judging.{IsFault}
-use Rattle.grouping_report.specs.SizeTable.{size_text}
-use Rattle.grouping_report.specs.FindingsText.{findings_text}
+use Rattle.county_codes.specs.declared.county.County.{County}
+use Rattle.grouping_table.specs.Table.{unnamed_counties as without_names}
+use Rattle.pl94_counties.specs.CountyNames.{CountyName}
 use Rattle.pl94_counties.specs.declared.blocks.Block.{Block}
 use Rattle.baf_auditor.specs.declared.assignments.Assignment.{Assignment}
 use Rattle.baf_auditor.specs.Findings.{AreFindings, plan_of}
@@ -20,42 +21,55 @@ use Rattle.cli_file_stores.specs.Files.{NamedFile, Files}
 use Rattle.cli_file_stores.specs.History.{History}
 use Rattle.cli_answers.specs.Answer.{Answered, success}
 use Rattle.cli_answers.specs.Refusals.{verdict_answer}
+use Rattle.run_laws.specs.Forms.{findings_in, line_in, reads_names, size_in}
 use Rattle.run_laws.specs.Steps.{Steps, ◌>>=◌, call_step, value_step}
 use Rattle.run_laws.specs.ProblemSteps.{counties_steps, build_step, problem_steps, grouping_of}
 use Rattle.run_laws.specs.JudgeWithCertificate.{IsSaidOf, certificate_text_of}
 use Rattle.run_laws.specs.PlanSteps.{blocks_of, plan_assignments}
 use Rattle.run_laws.specs.Storing.{EndsStoring, named_file}
-use Rattle.run_laws.specs.TableSteps.{Tabled, Reported, tabled_problem_in, table_of}
+use Rattle.run_laws.specs.TableSteps.{Tabled, Reported, named_counties_of, tabled_problem_in, table_of}
 
--- `size`: the size table of the counties, without pairs and withdrawn sets
+-- the size table of counties that may have names, without pairs and withdrawn sets
+abbrev pub sizes_of : CommonWords → Option (List CountyName) → List County → Steps Answered
+sizes_of words named counties =
+    build_step words.chamber words.tolerance counties [] []
+    >>= λ v. value_step (λ a. a ≡ success (size_in words.json v named))
+
+-- the counties are read with their names if the words ask for an object
+abbrev pub sizes_by : Bool → Option Files → CommonWords → Steps Answered
+sizes_by false files words = counties_steps files words >>= sizes_of words None
+sizes_by true files words =
+    named_counties_of files words >>= λ named. sizes_of words (Some named) (without_names named)
+
+-- `size`: the size table of the counties
 abbrev pub size_steps : Option Files → CommonWords → Steps Answered
-size_steps files words =
-    counties_steps files words >>= λ counties. build_step words.chamber words.tolerance counties [] []
-    >>= λ v. value_step (λ a. a ≡ success (size_text v))
+size_steps files words = sizes_by words.json files words
 
 -- the table is that of the grouping
 abbrev pub HasTable : Tabled → Grouping → Reported → Type 0
 HasTable t g r = r.table ≡ table_of t g
 
 -- what is said of a lawful grouping, with the text of a certificate or without one, and the grouping's table
-abbrev pub IsReported : Tabled → Grouping → ℕ → Option (List ℕ) → Reported → Type 0
-IsReported t g budget text r = IsSaidOf t.problem g budget text r.answer × HasTable t g r
+abbrev pub IsReported : Bool → Tabled → Grouping → ℕ → Option (List ℕ) → Reported → Type 0
+IsReported json t g budget text r = IsSaidOf json t g budget text r.answer × HasTable t g r
 
 -- what is reported of a lawful grouping, or the fault of a grouping that isn't lawful
-abbrev pub IsJudgeReport : Tabled → Grouping → ℕ → Option (List ℕ) → Result Reported GroupingFault → Type 0
-IsJudgeReport t g budget text (Ok r) = Lawful (problem_of t.problem) g × IsReported t g budget text r
-IsJudgeReport t g budget text (Err fault) = IsFault (problem_of t.problem) g fault
+abbrev pub IsJudgeReport : Bool → Tabled → Grouping → ℕ → Option (List ℕ) → Result Reported GroupingFault → Type 0
+IsJudgeReport json t g budget text (Ok r) = Lawful (problem_of t.problem) g × IsReported json t g budget text r
+IsJudgeReport json t g budget text (Err fault) = IsFault (problem_of t.problem) g fault
 
 -- the step that judges a grouping
-abbrev pub judge_step : Tabled → Grouping → ℕ → Option (List ℕ) → Steps Reported
-judge_step t g budget text = call_step verdict_answer (IsJudgeReport t g budget text)
+abbrev pub judge_step : Bool → Tabled → Grouping → ℕ → Option (List ℕ) → Steps Reported
+judge_step json t g budget text =
+    call_step (λ fault. line_in json (verdict_answer fault)) (IsJudgeReport json t g budget text)
 
 -- `judge`: the problem is built before the grouping is loaded and read, and then the certificate is loaded, where one
 -- is named
 abbrev pub judge_steps : Option Files → JudgeWords → Steps Reported
 judge_steps files words =
-    tabled_problem_in files words.problem words.table >>= λ t. grouping_of files words.grouping.now
-    >>= λ g. certificate_text_of files words.certificate >>= judge_step t g words.budget
+    tabled_problem_in files words.problem (reads_names words.problem.common words.table)
+    >>= λ t. grouping_of files words.grouping.now >>= λ g. certificate_text_of files words.certificate
+    >>= judge_step words.problem.common.json t g words.budget
 
 -- `judge` ends: at a fault that it met before anything was stored, or with its table stored and its answer, unless the
 -- table was refused
@@ -67,9 +81,9 @@ abbrev pub findings_status : List Finding → ℕ
 findings_status [] = 0
 findings_status (f ∷ fs) = 1
 
--- the text of findings, with their status
-abbrev pub findings_answer : List Finding → Answered
-findings_answer list = record { text = findings_text list; status = findings_status list }
+-- the findings, with their status
+abbrev pub findings_answer : Bool → List Finding → Answered
+findings_answer json list = record { text = findings_in json list; status = findings_status list }
 
 -- what `audit` says, and the text of the table of the districts
 pub record Audited : Type 0 where
@@ -91,23 +105,23 @@ IsTableIfAsked true v g blocks lines table =
 
 -- The answer shows all findings of blocks and assignments against a grouping. The table of the districts is beside it
 -- if it is asked for.
-pub record IsAudited (asked : Bool) (v : ProblemValue) (g : Grouping) (blocks : List Block) (lines : List Assignment)
-    (s : Audited) : Type 0 where
+pub record IsAudited (json asked : Bool) (v : ProblemValue) (g : Grouping) (blocks : List Block)
+    (lines : List Assignment) (s : Audited) : Type 0 where
   pub findings : List Finding
   pub are : AreFindings v g blocks lines findings
-  pub said : s.answer ≡ findings_answer findings
+  pub said : s.answer ≡ findings_answer json findings
   pub districts : IsTableIfAsked asked v g blocks lines s.districts
 
 -- the step that audits the assignments
-abbrev pub audit_step : Bool → ProblemValue → Grouping → List Block → List Assignment → Steps Audited
-audit_step asked v g blocks lines = value_step (IsAudited asked v g blocks lines)
+abbrev pub audit_step : Bool → Bool → ProblemValue → Grouping → List Block → List Assignment → Steps Audited
+audit_step json asked v g blocks lines = value_step (IsAudited json asked v g blocks lines)
 
 -- `audit`: the problem is built, then the census blocks are read, then the grouping, then the assignments
 abbrev pub audit_steps : Option Files → AuditWords → Steps Audited
 audit_steps files words =
-    problem_steps files words.problem >>= λ v. blocks_of files words.problem.common
+    problem_steps files words.problem >>= λ v. blocks_of files words.census words.problem.common.state
     >>= λ blocks. grouping_of files words.grouping.now >>= λ g. plan_assignments files words.assignments.now
-    >>= audit_step (is_some words.districts) v g blocks
+    >>= audit_step words.problem.common.json (is_some words.districts) v g blocks
 
 -- `audit` ends: at a fault that it met before anything was stored, or with the table of the districts stored and its
 -- answer, unless the table was refused

@@ -1,50 +1,69 @@
--- What `judge` says of a lawful grouping: that it is lawful, or by a certificate that it is best.
-use Rattle.std.specs.Prelude.{◌≡◌, ◌⊎◌, ℕ, List, Option, Some, None, codes}
+-- What `judge` says of a lawful grouping: that it is lawful, or by a certificate that it is best, or that another
+-- lawful grouping has greater counts.
+use Rattle.std.specs.Prelude.{◌≡◌, ◌⊎◌, ◌++◌, ℕ, Bool, true, false, List, Option, Some, None, codes}
 use Rattle.std.specs.Borrow.{Bor}
 use Rattle.county_problem.specs.ProblemValue.{ProblemValue, problem_of}
-use Rattle.grouping_laws.specs.Grouping.{Grouping, IsBest, counts, sets_of}
-use Rattle.grouping_report.specs.Report.{report_text}
+use Rattle.grouping_laws.specs.Grouping.{Grouping, IsGreater, counts, sets_of}
+use Rattle.grouping_report.specs.Report.{report_text, counts_line}
+use Rattle.json_report.specs.ReportObject.{greater_json}
+use Rattle.pl94_counties.specs.CountyNames.{CountyName}
 use Rattle.certificate_checker.specs.declared.verdict.Verdict.{Verdict}
 use Rattle.certificate_checker.specs.declared.verdict.Verdict.TheVariants.{Best}
-use Rattle.certificate_checker.specs.Answers.{IsCheckAnswer}
+use Rattle.certificate_checker.specs.Answers.{IsCheckAnswer, CheckIsRight}
 use Rattle.cli_file_stores.specs.Files.{Files}
 use Rattle.cli_answers.specs.Answer.{Answered, success}
+use Rattle.run_laws.specs.Forms.{report_in}
+use Rattle.run_laws.specs.TableSteps.{Tabled}
 use Rattle.run_laws.specs.Steps.{Steps, ◌>>=◌, load_step, optional_step, value_step}
 
 -- two groupings have as many groups of each size
 abbrev pub HasSameCounts : Grouping → Grouping → Type 0
 HasSameCounts g h = (size : ℕ) → counts (sets_of g) size ≡ counts (sets_of h) size
 
--- a verdict names a best grouping, and it has the same counts
-abbrev pub NamesSameCounts : Grouping → Verdict → Type 0
-NamesSameCounts g (Best target) = HasSameCounts g target.groups.items
-NamesSameCounts g _ = ⊥
-
 -- the report in which a grouping is called lawful, and the one in which it is called best
-abbrev pub lawful_answer : ProblemValue → Grouping → Answered
-lawful_answer v g = success (report_text v (codes "lawful") g)
+abbrev pub lawful_answer : Bool → ProblemValue → Option (List CountyName) → Grouping → Answered
+lawful_answer json v named g = success (report_in json v named (codes "lawful") g)
 
-abbrev pub best_answer : ProblemValue → Grouping → Answered
-best_answer v g = success (report_text v (codes "best") g)
+abbrev pub best_answer : Bool → ProblemValue → Option (List CountyName) → Grouping → Answered
+best_answer json v named g = success (report_in json v named (codes "best") g)
 
--- what is said of a lawful grouping beside a verdict: that it is best exactly where the verdict names a best grouping
--- with the same counts
-abbrev pub SaysBeside : ProblemValue → Grouping → Verdict → Answered → Type 0
-SaysBeside v g verdict a =
-    (NamesSameCounts g verdict × (a ≡ best_answer v g)) ⊎ ((¬ NamesSameCounts g verdict) × (a ≡ lawful_answer v g))
+-- the last line of a report where another lawful grouping has greater counts: the counts of that grouping
+abbrev pub greater_line : Grouping → List ℕ
+greater_line target = codes "greater " ++ counts_line (sets_of target)
 
--- What is said of a lawful grouping by a text: what a checker's verdict with such a budget makes of it. If the grouping
--- is called best, it is.
-pub record IsSaidBy (v : ProblemValue) (g : Grouping) (budget : ℕ) (text : List ℕ) (a : Answered) : Type 0 where
+-- the report in which a grouping is called lawful, and behind it that this target has greater counts
+abbrev pub greater_in : Bool → ProblemValue → Option (List CountyName) → Grouping → Grouping → List ℕ
+greater_in false v named g target = report_text v (codes "lawful") g ++ greater_line target
+greater_in true v named g target = greater_json v named g target
+
+abbrev pub greater_answer : Bool → ProblemValue → Option (List CountyName) → Grouping → Grouping → Answered
+greater_answer json v named g target = record { text = greater_in json v named g target; status = 1 }
+
+-- what is said of a lawful grouping beside the verdict that a target is best: that the grouping is best if it has the
+-- same counts, and that the target has greater counts if it has
+abbrev pub SaysBesideBest : Bool → Tabled → Grouping → Grouping → Answered → Type 0
+SaysBesideBest json t g target a =
+    (HasSameCounts g target × (a ≡ best_answer json t.problem t.named g))
+    ⊎ (IsGreater (counts (sets_of target)) (counts (sets_of g)) × (a ≡ greater_answer json t.problem t.named g target))
+
+-- what is said of a lawful grouping beside a verdict; beside another verdict than `Best` it is that the grouping is
+-- lawful
+abbrev pub SaysBeside : Bool → Tabled → Grouping → Verdict → Answered → Type 0
+SaysBeside json t g (Best target) a = SaysBesideBest json t g target.groups.items a
+SaysBeside json t g _ a = a ≡ lawful_answer json t.problem t.named g
+
+-- What is said of a lawful grouping by a text: what a checker's verdict with such a budget makes of it. If the verdict
+-- is that a target is best, it is.
+pub record IsSaidBy (json : Bool) (t : Tabled) (g : Grouping) (budget : ℕ) (text : List ℕ) (a : Answered) : Type 0 where
   pub verdict : Verdict
-  pub is : IsCheckAnswer (problem_of v) text budget verdict
-  pub said : SaysBeside v g verdict a
-  pub best : a ≡ best_answer v g → IsBest (problem_of v) g
+  pub is : IsCheckAnswer (problem_of t.problem) text budget verdict
+  pub said : SaysBeside json t g verdict a
+  pub right : CheckIsRight (problem_of t.problem) verdict
 
 -- what is said of a lawful grouping, where the text of a certificate may be given: without one, that it is lawful
-abbrev pub IsSaidOf : ProblemValue → Grouping → ℕ → Option (List ℕ) → Answered → Type 0
-IsSaidOf v g budget None a = a ≡ lawful_answer v g
-IsSaidOf v g budget (Some text) a = IsSaidBy v g budget text a
+abbrev pub IsSaidOf : Bool → Tabled → Grouping → ℕ → Option (List ℕ) → Answered → Type 0
+IsSaidOf json t g budget None a = a ≡ lawful_answer json t.problem t.named g
+IsSaidOf json t g budget (Some text) a = IsSaidBy json t g budget text a
 
 -- the text of a certificate whose file is named, else none
 abbrev pub certificate_text_of : Option Files → Option (Bor (List ℕ)) → Steps (Option (List ℕ))

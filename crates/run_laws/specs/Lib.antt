@@ -1,3 +1,4 @@
+pub mod Forms
 pub mod Steps
 pub mod Reading
 pub mod ProblemSteps

@@ -4,7 +4,7 @@ use Rattle.pl94_counties.specs.declared.blocks.Block.{Block}
 use Rattle.pl94_counties.specs.Counties.{block_list}
 use Rattle.baf_auditor.specs.declared.assignments.Assignment.{Assignment}
 use Rattle.baf_auditor.specs.Assignments.{assignment_list}
-use Rattle.cli_words.specs.declared.words.CommonWords.{CommonWords}
+use Rattle.cli_words.specs.declared.words.CensusWords.{CensusWords}
 use Rattle.cli_file_stores.specs.Files.{Files}
 use Rattle.cli_answers.specs.Refusals.{pl94_answer, assignment_answer}
 use Rattle.field_lines.specs.Source.{Given}
@@ -17,9 +17,9 @@ blocks_in state geo segment =
     call_step pl94_answer (λ blocks. OfTexts (λ g s. block_list g s state ≡ blocks) geo segment)
 
 -- The census blocks of the state: the geographic header and segment 1 are opened anew, and each is read once.
-abbrev pub blocks_of : Option Files → CommonWords → Steps (List Block)
-blocks_of files words =
-    given_of_both files words.geo.now words.segment.now >>= λ given. blocks_in words.state given.0 given.1
+abbrev pub blocks_of : Option Files → CensusWords → ℕ → Steps (List Block)
+blocks_of files census state =
+    given_of_both files census.geo.now census.segment.now >>= λ given. blocks_in state given.0 given.1
 
 -- the assignments that a file gives
 abbrev pub assignments_in : List ℕ → Steps (List Assignment)

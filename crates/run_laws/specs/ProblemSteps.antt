@@ -9,6 +9,7 @@ use Rattle.county_problem.specs.ProblemValue.{ProblemValue, codes_of}
 use Rattle.county_problem.specs.Building.{IsProblemOf, problem_fault}
 use Rattle.grouping_laws.specs.Grouping as groups
 use Rattle.pl94_counties.specs.Counties.{county_list}
+use Rattle.people_table.specs.Listed.{people_list}
 use Rattle.adjacency_reader.specs.declared.links.Link.{Link}
 use Rattle.adjacency_reader.specs.Pairs.{IsPairsAnswer}
 use Rattle.adjacency_reader.specs.Links.{link_list}
@@ -16,10 +17,13 @@ use Rattle.adjacency_reader.specs.WithdrawnSets.{withdrawn_list}
 use Rattle.adjacency_reader.specs.Adjacency.{AreLinked}
 use Rattle.grouping_reader.specs.GroupingLines.{grouping_list}
 use Rattle.cli_words.specs.declared.words.CommonWords.{CommonWords}
+use Rattle.cli_words.specs.declared.words.CensusWords.{CensusWords}
+use Rattle.cli_words.specs.declared.words.CountyWords.{CountyWords}
+use Rattle.cli_words.specs.declared.words.CountyWords.TheVariants.{Census, People}
 use Rattle.cli_words.specs.declared.words.ProblemWords.{ProblemWords}
 use Rattle.cli_file_stores.specs.Files.{Files}
 use Rattle.cli_answers.specs.declared.refusal.InputFile.TheVariants.{Adjacency, Links, Withdrawn, Grouping}
-use Rattle.cli_answers.specs.Refusals.{pl94_answer, code_file_answer, problem_answer}
+use Rattle.cli_answers.specs.Refusals.{pl94_answer, people_answer, code_file_answer, problem_answer}
 use Rattle.field_lines.specs.Source.{Given}
 use Rattle.run_laws.specs.Reading.{given_of_both, OfTexts}
 use Rattle.run_laws.specs.Steps.{Steps, ◌>>=◌, load_step, call_step, value_step, optional_step}
@@ -29,10 +33,27 @@ abbrev pub counties_in : ℕ → Given → Given → Steps (List County)
 counties_in state geo segment =
     call_step pl94_answer (λ counties. OfTexts (λ g s. county_list g s state ≡ counties) geo segment)
 
--- The counties of the state: the geographic header and segment 1 are read once.
+-- the counties of a state that a table of counties gives, or its first fault
+abbrev pub people_in : ℕ → List ℕ → Steps (List County)
+people_in state table = call_step people_answer (λ counties. people_list table state ≡ counties)
+
+-- The counties of a state by the census files: the geographic header and segment 1 are read once.
+abbrev pub counties_of_census : Option Files → ℕ → CensusWords → Steps (List County)
+counties_of_census files state census =
+    given_of_both files census.geo.now census.segment.now >>= λ given. counties_in state given.0 given.1
+
+-- the counties of a state by a table of counties
+abbrev pub counties_of_table : Option Files → ℕ → List ℕ → Steps (List County)
+counties_of_table files state name = load_step files name >>= people_in state
+
+-- the counties of a state by the files that the words name
+abbrev pub counties_by : Option Files → ℕ → CountyWords → Steps (List County)
+counties_by files state (Census census) = counties_of_census files state census
+counties_by files state (People table) = counties_of_table files state table.now
+
+-- the counties of the state
 abbrev pub counties_steps : Option Files → CommonWords → Steps (List County)
-counties_steps files words =
-    given_of_both files words.geo.now words.segment.now >>= λ given. counties_in words.state given.0 given.1
+counties_steps files words = counties_by files words.state words.counties
 
 -- the pairs of listed counties that an adjacency file gives
 abbrev pub pairs_in : List ℕ → List ℕ → Steps (List (ℕ × ℕ))

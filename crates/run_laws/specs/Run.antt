@@ -9,6 +9,7 @@ use Rattle.cli_words.specs.declared.end.WordsEnd.TheVariants.{Help, Version, Usa
 use Rattle.cli_file_stores.specs.Files.{NamedFile, Files}
 use Rattle.cli_file_stores.specs.History.{History}
 use Rattle.cli_answers.specs.Answer.{Answered, memory_answer}
+use Rattle.run_laws.specs.Forms.{IsShown, is_json}
 use Rattle.run_laws.specs.Steps.{StepsEndIn}
 use Rattle.run_laws.specs.JudgeSteps.{size_steps, JudgeEnds, AuditEnds}
 use Rattle.run_laws.specs.SolveSteps.{SolveEnds}
@@ -40,10 +41,22 @@ CommandEnds files (Worker words) before after stored a = WorkerEnds files words 
 abbrev pub IsOutOfMemory : List NamedFile → Answered → Type 0
 IsOutOfMemory stored a = (a ≡ memory_answer) × (stored ≡ [])
 
+-- what a command answers, before its answer is shown; a growth may be refused in any
+abbrev pub CommandAnswers : Option Files → CommandWords → History → History → List NamedFile → Answered → Type 0
+CommandAnswers files command before after stored a =
+    IsOutOfMemory stored a ⊎ CommandEnds files command before after stored a
+
+-- a command ends, and its answer is shown in its form
+pub record EndsShown (files : Option Files) (command : CommandWords) (before after : History) (stored : List NamedFile)
+    (a : Answered) : Type 0 where
+  pub raw : Answered
+  pub ends : CommandEnds files command before after stored raw
+  pub shown : IsShown (is_json command) raw a
+
 -- a run of a command; a growth may be refused in any
 abbrev pub CommandRun : Option Files → CommandWords → History → History → List NamedFile → Answered → Type 0
 CommandRun files command before after stored a =
-    IsOutOfMemory stored a ⊎ CommandEnds files command before after stored a
+    IsOutOfMemory stored a ⊎ EndsShown files command before after stored a
 
 -- a run of a command whose words name a file for its record: the command's own files are stored first, and the record
 -- is the last; what the command wrote before its answer stands in front of it

@@ -4,11 +4,12 @@ ghost use Rattle.std.specs.Prelude.{◌≡◌, ℕ, ◌+◌, ◌≤◌, length, 
 ghost use Rattle.board_laws.specs.Content.{Content, split_piece as split_of, part_piece as part_of};
 ghost use Rattle.board_laws.specs.{PartialTrees.{IsPart, open_leaves}, Standing.StandsAt};
 ghost use Rattle.certificate_laws.specs.State.{State as StateValue, empty_state};
+ghost use Rattle.connected_sets.specs.Graphs.{IsGraph};
 ghost use Rattle.county_problem.specs.ProblemValue.{problem_of};
 ghost use Rattle.partial_trees.specs.PartialValue.{partial_of};
 ghost use Rattle.share_board.specs.{declared.piece.Fate.TheVariants.Waits, HeldSkeleton.IsFateAt};
 ghost use Rattle.share_board.specs.Replies.{IsReply, most_pieces};
-ghost use Rattle.share_board.specs.BoardValue.{IsOf, Follows, Keeps, reply_of, AreBoardLists};
+ghost use Rattle.share_board.specs.BoardValue.{IsOf, Follows, Keeps, reply_of, IsBoardGraph, AreBoardLists};
 ghost use Rattle.share_board.specs.Dividing.{refusal_of, part_refusal_of, IsSplitRefusal, IsRefusedPart, MaySplit, HasSplit, MayPart, HasParted};
 
 use crate::board::Board;
@@ -19,7 +20,7 @@ use crate::splitting::{Pieces, pieces_of};
 use certificate_data::Format;
 use connected_sets::CountyGraph;
 use county_codes::CountyCode;
-use county_problem::{Ordered, Steps};
+use county_problem::Steps;
 use partial_trees::{PartStop, PartialTree, check_part};
 use place_sets::CountySet;
 use search_groups::PartLists;
@@ -115,14 +116,15 @@ impl<C: CountySet> Board<C> {
     /// can't be split.
     fn pieces_at(
         &self,
-        alloc: Global,
+        graph: &CountyGraph<C>,
         at: usize,
         county: CountyCode,
         limit: u16,
     ) -> Result<Pieces<C>, Reply<C>>
         requires board { (b : Content) × IsOf C.test self.now b }
         requires waits { IsFateAt self.now.fates.items at Waits }
-        requires fits { length self.now.round.order ≤ C.PLACES }
+        requires graph { IsGraph C.test C.PLACES graph.now }
+        requires ordered { IsBoardGraph self.now graph.now }
         ensures count { IfOk result (λ pieces. length pieces.states.items ≡ length pieces.groups.items + 1) }
         ensures pieces { IfOk
             result
@@ -144,17 +146,11 @@ impl<C: CountySet> Board<C> {
             Format::Plain => return Err(Reply::CantSplit),
             Format::Wide => {}
         }
-        let Ok(ordered) = Ordered::build(alloc, &self.problem, self.round.order.as_slice()) else {
-            return Err(Reply::Memory);
-        };
-        let Ok(graph) = CountyGraph::<C>::build(alloc, &ordered) else {
-            return Err(Reply::Memory);
-        };
         let state = &self.states[at];
         let mut steps = Steps::new(self.budget);
-        match judge_branch(&graph, &self.round, state, county, Some(limit), &mut steps) {
+        match judge_branch(graph, &self.round, state, county, Some(limit), &mut steps) {
             Ok(branching) => {
-                match pieces_of(&graph, state, branching.place, limit, &branching.groups) {
+                match pieces_of(graph, state, branching.place, limit, &branching.groups) {
                     Ok(pieces) => Ok(pieces),
                     Err(_) => Err(Reply::Memory),
                 }
@@ -166,17 +162,19 @@ impl<C: CountySet> Board<C> {
     /// Splits a piece that waits in a wide round at `county`.
     ///
     /// There is one new piece for each group that fits, has the county and has at most `limit` counties. Another one is
-    /// for the case that the county's group is larger.
+    /// for the case that the county's group is larger. The `graph` is that of the board's problem, by the order of its
+    /// rounds.
     pub fn split(
         &mut self,
-        alloc: Global,
+        graph: &CountyGraph<C>,
         number: u32,
         piece: u32,
         county: CountyCode,
         limit: u16,
     ) -> Reply<C>
         requires board { (b : Content) × IsOf C.test self.old b }
-        requires fits { length self.old.round.order ≤ C.PLACES }
+        requires graph { IsGraph C.test C.PLACES graph.now }
+        requires ordered { IsBoardGraph self.old graph.now }
         ensures leads { (depth : ℕ) (b : Content) → IsOf C.test self.old b
             → Follows C.test depth self.old.problem b (split_of number piece county limit) (reply_of self.old.round.order C.test result) self.new }
         ensures says { (depth : ℕ) (b : Content)
@@ -188,7 +186,7 @@ impl<C: CountySet> Board<C> {
             Ok(at) => at,
             Err(reply) => return reply,
         };
-        let pieces = match self.pieces_at(alloc, at, county, limit) {
+        let pieces = match self.pieces_at(graph, at, county, limit) {
             Ok(pieces) => pieces,
             Err(reply) => return reply,
         };
@@ -198,7 +196,7 @@ impl<C: CountySet> Board<C> {
         }
         let first = held as u32 + 1;
         let count = pieces.groups.len() as u32 + 1;
-        match self.put_pieces(alloc, at, county, limit, pieces) {
+        match self.put_pieces(graph.alloc, at, county, limit, pieces) {
             Ok(()) => Reply::Split(first, count),
             Err(_) => Reply::Memory,
         }
@@ -208,14 +206,15 @@ impl<C: CountySet> Board<C> {
     /// why the part isn't taken.
     fn states_of(
         &self,
-        alloc: Global,
+        graph: &CountyGraph<C>,
         lists: &mut PartLists<C>,
         at: usize,
         tree: &PartialTree,
     ) -> Result<Vec<State<C>>, Reply<C>>
         requires board { (b : Content) × IsOf C.test self.now b }
         requires waits { IsFateAt self.now.fates.items at Waits }
-        requires fits { length self.now.round.order ≤ C.PLACES }
+        requires graph { IsGraph C.test C.PLACES graph.now }
+        requires ordered { IsBoardGraph self.now graph.now }
         requires lists { AreBoardLists C.test self.now lists.old }
         ensures lists { AreBoardLists C.test self.now lists.new }
         ensures leaves { IfOk result (λ states. length states.items ≡ open_leaves (partial_of tree.now)) }
@@ -233,14 +232,8 @@ impl<C: CountySet> Board<C> {
             → StandsAt b.skeleton b.round (empty_state (problem_of self.now.problem)) (at + 1) s
             → IsRefusedPart (problem_of self.now.problem) self.now.budget b.round s (partial_of tree.now) (reply_of self.now.round.order C.test reply)) }
     {
-        let Ok(ordered) = Ordered::build(alloc, &self.problem, self.round.order.as_slice()) else {
-            return Err(Reply::Memory);
-        };
-        let Ok(graph) = CountyGraph::<C>::build(alloc, &ordered) else {
-            return Err(Reply::Memory);
-        };
         match check_part(
-            &graph,
+            graph,
             &self.round,
             &self.states[at],
             true,
@@ -255,17 +248,18 @@ impl<C: CountySet> Board<C> {
 
     /// Takes a part of the proof of a piece, which is then split: there is a new piece for each open leaf of `tree`, in
     /// their order. The part is taken if the piece waits and the part proves the piece's state but for its open leaves.
-    /// The `lists` are kept from event to event.
+    /// The `graph` and the `lists` are kept from event to event.
     pub fn part(
         &mut self,
-        alloc: Global,
+        graph: &CountyGraph<C>,
         lists: &mut PartLists<C>,
         number: u32,
         piece: u32,
         tree: PartialTree,
     ) -> Reply<C>
         requires board { (b : Content) × IsOf C.test self.old b }
-        requires fits { length self.old.round.order ≤ C.PLACES }
+        requires graph { IsGraph C.test C.PLACES graph.now }
+        requires ordered { IsBoardGraph self.old graph.now }
         requires lists { AreBoardLists C.test self.old lists.old }
         ensures lists { AreBoardLists C.test self.new lists.new }
         ensures leads { (depth : ℕ) (b : Content) → IsOf C.test self.old b
@@ -282,7 +276,7 @@ impl<C: CountySet> Board<C> {
         if !tree.is_part() {
             return Reply::NotAPart;
         }
-        let states = match self.states_of(alloc, lists, at, &tree) {
+        let states = match self.states_of(graph, lists, at, &tree) {
             Ok(states) => states,
             Err(reply) => return reply,
         };
@@ -292,7 +286,7 @@ impl<C: CountySet> Board<C> {
         }
         let first = self.fates.len() as u32 + 1;
         let count = states.len() as u32;
-        match self.put_part(alloc, at, tree, states) {
+        match self.put_part(graph.alloc, at, tree, states) {
             Ok(()) => Reply::Split(first, count),
             Err(_) => Reply::Memory,
         }

@@ -2,9 +2,8 @@
 
 ghost use Rattle.std.specs.Prelude.{◌≡◌, ◌-◌, ◌≤◌, All, length, IfOk, IfErr};
 ghost use Rattle.county_codes.specs.Limits.{most_counties};
-ghost use Rattle.connected_sets.specs.Graphs.{graph_order, graph_places};
+ghost use Rattle.connected_sets.specs.Graphs.{graph_order, graph_places, graph_problem, IsGraph};
 ghost use Rattle.partial_trees.specs.PartialValue.{partial_of, list_of_begun};
-ghost use Rattle.county_problem.specs.ProblemValue.{problem_of};
 ghost use Rattle.state_groups.specs.PlacedValues.{codes_of_sets, IsPlaced, IsClosable};
 ghost use Rattle.certificate_data.specs.{declared.format.Format.TheVariants.Plain, RoundValue.round_of};
 ghost use Rattle.certificate_laws.specs.State.{empty_state};
@@ -18,12 +17,10 @@ use crate::steps::{branched, next_branch, place_piece, put_take, share_of};
 use crate::stop::OpeningStop;
 use certificate_data::Round;
 use connected_sets::CountyGraph;
-use county_problem::Ordered;
 use partial_trees::{PartialTake, PartialTree};
 use place_sets::CountySet;
 use state_groups::{State, closed_state, first_state, raise_place};
 use state_judge::Branching;
-use std::alloc::Global;
 
 /// What a round begins with: the branches above its pieces, the pieces, which all wait, and the states where they
 /// stand.
@@ -147,44 +144,42 @@ fn open_tree<C: CountySet>(
 }
 
 /// Returns how `round` begins: with the states after `depth` branchings from the empty state, or earlier where no
-/// county is open.
+/// county is open. The `graph` is by the order of `round`.
 ///
 /// # Errors
 ///
 /// Returns `TooManyPieces` if there would be more than 4,096 pieces, `Budget` if a branch costs more than its share of
 /// `budget`, and `Memory` if memory was refused.
 pub(crate) fn opened<C: CountySet>(
-    alloc: Global,
-    ordered: &Ordered,
+    graph: &CountyGraph<C>,
     round: &Round,
     depth: u8,
     budget: u64,
 ) -> Result<Opening<C>, OpeningStop>
-    requires fits { length ordered.now.order ≤ C.PLACES }
-    requires order { ordered.now.order ≡ round.now.order }
+    requires graph { IsGraph C.test C.PLACES graph.now }
+    requires order { graph_order graph.now ≡ round.now.order }
     requires small { round.now.limit ≤ most_counties }
     requires plain { 1 ≤ depth → round.now.format ≡ Plain }
     ensures opened { IfOk
         result
-        (λ opening. IsOpened C.test (problem_of ordered.now.problem) (round_of round.now) depth (empty_state (problem_of ordered.now.problem)) (partial_of opening.above) 0 (length opening.states.items) opening.states.items) }
+        (λ opening. IsOpened C.test (graph_problem graph.now) (round_of round.now) depth (empty_state (graph_problem graph.now)) (partial_of opening.above) 0 (length opening.states.items) opening.states.items) }
     ensures few { IfOk result (λ opening. length opening.states.items ≤ most_opening) }
     ensures count { IfOk result (λ opening. length opening.fates.items ≡ length opening.states.items) }
     ensures wait { IfOk result (λ opening. AllWait opening.fates.items 0 (length opening.states.items)) }
-    ensures stopped { IfErr result (IsOpeningStop (problem_of ordered.now.problem) depth budget (round_of round.now)) }
+    ensures stopped { IfErr result (IsOpeningStop (graph_problem graph.now) depth budget (round_of round.now)) }
 {
-    let graph = CountyGraph::build(alloc, ordered)?;
-    let state = first_state(alloc, ordered)?;
+    let state = first_state(graph.alloc, graph.ordered)?;
     let input = OpeningInput {
-        graph: &graph,
+        graph,
         round,
         share: share_of(budget, depth),
     };
-    let mut states = Vec::new(alloc);
+    let mut states = Vec::new(graph.alloc);
     let above = match open_tree(&input, depth, state, &mut states) {
         Ok(tree) => tree,
         Err(stop) => return Err(stop),
     };
-    let fates = waiting(alloc, states.len())?;
+    let fates = waiting(graph.alloc, states.len())?;
     Ok(Opening {
         above,
         fates,

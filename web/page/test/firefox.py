@@ -15,7 +15,16 @@ from typing import Any
 from installed import program_there
 
 SECONDS = 120.0
-KEYS = {"Tab": "\ue004", "Enter": "\ue007", "ArrowRight": "\ue014", "Escape": "\ue00c"}
+KEYS = {
+    "Tab": "\ue004",
+    "Enter": "\ue007",
+    "ArrowRight": "\ue014",
+    "ArrowDown": "\ue015",
+    "ArrowUp": "\ue013",
+    "Escape": "\ue00c",
+}
+# What the protocol calls an element in its messages.
+ELEMENT = "element-6066-11e4-a52e-4f735466cecf"
 # Firefox stores what it downloads in one folder, and asks nobody.
 PREFERENCES = {
     "datareporting.policy.dataSubmissionEnabled": "false",
@@ -127,11 +136,23 @@ class Firefox:
 
     def press(self, key: str) -> None:
         """Presses a key once."""
-        self.act("key", *({"type": kind, "value": KEYS[key]} for kind in ("keyDown", "keyUp")))
+        value = KEYS.get(key, key)
+        self.act("key", *({"type": kind, "value": value} for kind in ("keyDown", "keyUp")))
 
     def point(self, x: float, y: float) -> None:
         """Moves the pointer to a place of the window."""
         self.act("pointer", {"type": "pointerMove", "x": round(x), "y": round(y), "duration": 0})
+
+    def click(self, x: float, y: float) -> None:
+        """Clicks at a place of the window."""
+        move = {"type": "pointerMove", "x": round(x), "y": round(y), "duration": 0}
+        self.act("pointer", move, *({"type": f"pointer{it}", "button": 0} for it in ("Down", "Up")))
+
+    def give_files(self, selector: str, paths: list[str]) -> None:
+        """Has a reader choose files of the disk in the input of a selector."""
+        found = self.ask("WebDriver:FindElement", using="css selector", value=selector)
+        element = found["value"][ELEMENT]
+        self.ask("WebDriver:ElementSendKeys", id=element, text="\n".join(paths))
 
     def told(self, path: str) -> list[str]:
         """Returns the lines of Firefox's console that name a file of the disk.

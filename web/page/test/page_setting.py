@@ -18,6 +18,8 @@ CENSUS = {"geo": "nc2020geo.pl", "segment": "nc000012020.pl", "adjacency": "coun
 PROBLEM = [part for word, name in CENSUS.items() for part in (f"--{word}", str(DATA / name))]
 CHAMBERS = {"senate": 50, "house": 120}
 SECONDS = 60.0
+OWN_PAGE = TOP / "docs" / "page.html"
+SHOWN = re.compile(r'(<script type="application/json" id="data">)(.*?)(</script>)', re.S)
 CARRIED = re.compile(r'(<script type="application/json" id="carried">)(.*?)(</script>)', re.S)
 
 sys.path.insert(0, str(TOP / "tools"))
@@ -94,11 +96,38 @@ IS_SEEN = """
 """
 
 
+# A fixed piece of work of the page's main thread, which no part of the page takes part in: building
+# a table of 1,500 cells in a tree of its own, its style and its layout, three times. It gives the
+# milliseconds that it took. FIXED_MILLISECONDS is the least that it took on the machine on which
+# the bars of time were written down.
+FIXED_WORK = """
+(() => {
+  const host = document.createElement("div");
+  host.style.cssText = "position: fixed; width: 900px; height: 500px; contain: strict";
+  const root = host.attachShadow({ mode: "open" });
+  document.body.append(host);
+  const begin = performance.now();
+  for (let round = 0; round < 3; round += 1) {
+    const table = document.createElement("table");
+    for (let row = 0; row < 300; row += 1) {
+      const line = table.insertRow();
+      for (let cell = 0; cell < 5; cell += 1) line.insertCell().textContent = `${row} by ${cell}`;
+    }
+    root.replaceChildren(table);
+    table.getBoundingClientRect();
+  }
+  host.remove();
+  return performance.now() - begin;
+})()
+"""
+FIXED_MILLISECONDS = 40.0
+
+
 @dataclass
 class Setting:
     """What a run of the tests was asked for."""
 
-    page: Path = TOP / "docs" / "page.html"
+    page: Path = OWN_PAGE
     program: Path | None = None
     wasm: Path = TOP / "dist" / "countygroups.wasm"
     pictures: Path | None = None
@@ -125,9 +154,33 @@ def page() -> Path:
     program_there("node")
     made = Path(ROOM.name) / "page.html"
     words = [sys.executable, str(TOP / "tools" / "make_page.py"), "--program", native()]
-    subprocess.run([*words, "--wasm", str(SETTING.wasm), "--out", str(made)], check=True)
+    words += ["--wasm", str(SETTING.wasm), "--out", str(made), *tables_of_the_release()]
+    subprocess.run(words, check=True)
     SETTING.page = made
     return made
+
+
+def tables_of_the_release() -> list[str]:
+    """Returns the words by which a page has the tables of closeness and of deciding borders that
+    docs/page.html has, since making them takes half an hour. If it has none, there are no words."""
+    if not OWN_PAGE.is_file():
+        return []
+    shown = SHOWN.search(OWN_PAGE.read_text(encoding="utf-8"))
+    assert shown
+    data = json.loads(shown[2])
+    folder = Path(ROOM.name) / "tables"
+    folder.mkdir(exist_ok=True)
+    for census in (data, *data["further"]):
+        before = "" if census is data else f"{census['year']}."
+        for chamber in census["chambers"]:
+            tables = {f"{before}{chamber['key']}.csv": chamber["close"]}
+            if census is data:
+                tables[f"{chamber['key']}_borders.csv"] = chamber["deciding"]
+            for name, table in tables.items():
+                if not table:
+                    return []
+                (folder / name).write_text(table, encoding="utf-8")
+    return ["--tables", str(folder)]
 
 
 def run(*words: str) -> str:
@@ -204,6 +257,20 @@ class InPage(InBrowser):
             raise AssertionError(f"the Tab key never comes to {selector}")
         self.assertTrue(self.value(IS_SEEN), f"{selector} has the focus, and isn't seen")
 
+    def press(self, key: str) -> None:
+        """Presses a key once: one that `browser` names, or a letter."""
+        if len(key) != 1 or not key.isalpha():
+            self.browser.press(key)
+            return
+        for kind in ("keyDown", "keyUp"):
+            text = {"text": key} if kind == "keyDown" else {}
+            code = f"Key{key.upper()}"
+            self.browser.ask("Input.dispatchKeyEvent", type=kind, key=key, code=code, **text)
+
+    def type_text(self, text: str) -> None:
+        """Types a text into what has the focus."""
+        self.browser.ask("Input.insertText", text=text)
+
     def press_button(self, selector: str) -> None:
         """Presses a button or another control."""
         self.value(f"document.querySelector({json.dumps(selector)}).click(); null")
@@ -237,6 +304,18 @@ class InPage(InBrowser):
         script = f"document.querySelector('[data-download={kind}]').click(); null"
         with tempfile.TemporaryDirectory(dir=self.room) as folder:
             return Path(self.browser.download(script, folder)).read_bytes()
+
+    def thread_time(self, script: str) -> float:
+        """Returns how long the main thread works on a script, in milliseconds."""
+        self.browser.ask("Performance.enable", timeDomain="threadTicks")
+        before = self.thread_total()
+        self.value(script)
+        return self.thread_total() - before
+
+    def thread_total(self) -> float:
+        """Returns how long the main thread has worked, in milliseconds."""
+        metrics = self.browser.ask("Performance.getMetrics")["metrics"]
+        return float(next(it["value"] for it in metrics if it["name"] == "TaskDuration") * 1000)
 
     def check_quiet(self) -> None:
         """Wants nothing on the console, and that the page asked for nothing but itself."""

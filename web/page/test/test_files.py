@@ -172,7 +172,7 @@ class Wrong(Files):
         for name, (content, words) in WRONG.items():
             with self.subTest(name):
                 self.give(ANY, self.write(name, content))
-                told = self.wait_words("#dropped", words, 10)
+                told = self.wait_words("#dropped", words)
                 self.assertTrue(told.startswith(f"{name}: "), told)
         self.assertFalse(self.value("document.querySelector('.drop-zone.has-file') !== null"))
         self.check_quiet()

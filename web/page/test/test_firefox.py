@@ -9,6 +9,7 @@ from typing import Any
 from page_setting import CONTRAST, SIDEWAYS, TINTED, page
 from firefox import Firefox
 from printed_page import LEAST_LINES, lines_drawn
+from installed import NotThere
 from native_texts import COUNTS, GROUP_OF, OPTIONS, option_texts, pairs_of_one_tint
 
 WIDTHS = (360, 390, 768, 1024, 1400)
@@ -141,6 +142,26 @@ class InFirefox(unittest.TestCase):
             return
         self.wait("#whatif-progress", "Solved in")
         self.assertIn("Eight of the 16 best groupings are left.", self.text("#whatif-result"))
+
+    def test_a_border_that_decides(self) -> None:
+        self.open("#whatif/senate")
+        if self.value("return document.querySelector('#deciding').hidden"):
+            raise NotThere("this page was made without the tables of borders (--tables)")
+        self.assertIn("52 of them change the list", self.text("#deciding-borders p"))
+        if not self.can_run():
+            return
+        self.value("document.querySelector('#deciding a[data-cut=\"37023 37109\"]').click()")
+        self.wait("#whatif-result", "Eight of the 16 best groupings are left.")
+
+    def test_a_pair_by_keys(self) -> None:
+        self.open("#whatif/senate")
+        self.value("document.querySelector('#other-pair').open = true")
+        self.value("document.querySelector('#other-pair label + label select').focus()")
+        self.firefox.press("ArrowDown")
+        self.wait("#pair-note", "Alamance and Alexander don’t count as neighbors here.")
+        self.value("document.querySelector('#change-pair').focus()")
+        self.firefox.press("Enter")
+        self.wait("#changed-pairs", "Alamance–Alexander counted")
 
     def test_the_files_of_the_page(self) -> None:
         self.open("#files")

@@ -7,6 +7,8 @@ from pathlib import Path
 
 from page_setting import DATA, InPage
 
+from installed import NotThere
+
 LETTER = "document.activeElement.matches('#map .letter')"
 OTHER = "alternative "
 TURNS = ["ArrowUp"] * 8 + ["ArrowRight"] * 12 + ["ArrowUp"] * 4 + ["ArrowRight"] * 12
@@ -114,6 +116,29 @@ class Keyboard(InPage):
         self.wait_words("#whatif-progress", "Solved in")
         self.assertEqual(self.text("#whatif-table tbody tr td:nth-child(3)"), "8")
         self.assertEqual(self.value("location.hash"), "#whatif/senate/cut=37041-37187")
+        self.check_quiet()
+
+    def test_another_pair(self) -> None:
+        self.press_on("nav [data-view=whatif]")
+        self.press_on("#other-pair summary")
+        # (Alamance with Alexander, the next one, which lies far from it)
+        self.press_on("#other-pair label + label select", "ArrowDown")
+        self.assertIn("Alamance and Alexander don’t count", self.text("#pair-note"))
+        self.press_on("#change-pair")
+        self.assertIn("Alamance–Alexander counted", self.text("#changed-pairs"))
+        self.press_on("#changed-pairs [data-undo]")
+        self.assertEqual(self.text("#changed-pairs"), "")
+        self.check_quiet()
+
+    def test_a_border_that_decides(self) -> None:
+        self.press_on("nav [data-view=whatif]")
+        if self.value("document.querySelector('#deciding').hidden"):
+            raise NotThere("this page was made without the tables of borders (--tables)")
+        self.press_on("#deciding details:last-of-type summary")
+        self.press_on("#deciding details:last-of-type a")
+        told = self.wait_words("#whatif-result", "of the 16 best groupings are left.")
+        self.assertIn("The groups of 2023 are among the best here.", told)
+        self.assertTrue(self.value("location.hash").startswith("#whatif/senate/cut=37"))
         self.check_quiet()
 
     def test_the_files(self) -> None:

@@ -32,9 +32,7 @@ class Counties(InPage):
         self.open()
         self.tab_to("#finder")
         # (Pamlico is the first county with this letter)
-        for kind in ("keyDown", "keyUp"):
-            text = {"text": "p"} if kind == "keyDown" else {}
-            self.browser.ask("Input.dispatchKeyEvent", type=kind, key="p", code="KeyP", **text)
+        self.press("p")
         self.wait("location.hash === '#county/37137'")
         self.assertEqual(self.value(TITLE), "Pamlico County")
         self.go("#senate/6")
@@ -52,6 +50,12 @@ class OtherGroups(InPage):
         self.open("#county/37063/senate/37135")
         told = self.wait_words("#why-answer", "Not in a best grouping.")
         self.assertIn("473,529 people, 2.27 ideal districts", told)
+        self.assertIn("No best grouping has them in one group.", told)
+
+    def test_a_part_of_larger_groups(self) -> None:
+        self.open("#county/37137/senate/37031")
+        told = self.wait_words("#why-answer", "Not in a best grouping.")
+        self.assertIn("The best groupings have them in a larger group: with", told)
 
     def test_counties_that_do_not_touch(self) -> None:
         self.open("#county/37063/senate/37119")
@@ -83,14 +87,32 @@ class Closeness(InPage):
         self.open("#senate/6")
         told = self.text("#close")
         if "Each county was tried alone" not in told:
-            raise NotThere("this page was made without the tables of closeness (--closeness)")
+            raise NotThere("this page was made without the tables of closeness (--tables)")
         return told
 
     def test_the_least_changes(self) -> None:
         told = self.rows()
         for words in ("+37", "24 best groupings in place of 16", "−84", "+86", "−352"):
             self.assertIn(words, told)
-        self.assertIn("The groups of 2023 aren’t lawful then.", told)
+        self.assertIn("The groups of 2023 then no longer meet the conditions.", told)
+
+    def test_the_other_censuses(self) -> None:
+        self.rows()
+        years = "[...document.querySelectorAll('#close .years a')].map((one) => one.innerText)"
+        self.assertEqual(self.value(years), ["2010", "2000"])
+        self.press_button("#close .years a")
+        self.wait_words("#option", "Option 1 of 4")
+        self.assertEqual(self.value(years), ["2020", "2000"])
+        # (the least change of 2020, as above)
+        self.assertIn("2020: 37 more", self.text("#close .years"))
+        self.check_quiet()
+
+    def test_lawful_and_not_best(self) -> None:
+        # (a better list: the groups of 2023 have one group of three counties less)
+        self.open("#whatif/house/people=37005:-209")
+        told = self.wait_words(RESULT, "The groups of 2023 are lawful here, and not best.")
+        self.assertIn("six groups of three counties; a best grouping has seven.", told)
+        self.check_quiet()
 
     def test_exact_to_the_person(self) -> None:
         self.open("#whatif/senate/people=37147:+85")
@@ -149,6 +171,10 @@ class OtherCounts(InPage):
         self.assertIn("2 lines of no county of North Carolina were left out.", told)
         # (4,757 more than 170,243 in Pitt)
         self.assertIn("10,444,145 people then", told)
+        # (10,444,145 people for 120 seats are 87,034.54 each: 0.95 and 1.05 of that)
+        self.assertIn("82,683 to 91,386", self.text("#percent-window"))
+        self.press_button("#solve-counts")
+        self.wait_words("#whatif-progress", "Solved in")
 
 
 class Plans(InPage):
@@ -159,6 +185,14 @@ class Plans(InPage):
         self.give("#plan-file", write_plan(make_sample(), Path(self.room) / "plan.csv"))
         told = self.wait_words("#quick", "This plan follows option 6, the groups of 2023.")
         self.assertIn("50 districts", told)
+        self.check_quiet()
+
+    def test_its_verdict_comes_into_view(self) -> None:
+        self.open("#files")
+        self.drop("#drop-zones", write_plan(make_sample(), Path(self.room) / "plan.csv"))
+        self.wait_words("#quick", "This plan follows option 6, the groups of 2023.")
+        top = "document.querySelector('#quick').getBoundingClientRect().top"
+        self.wait(f"{top} >= 0 && {top} < innerHeight - 100")
         self.check_quiet()
 
 

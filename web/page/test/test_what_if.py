@@ -4,6 +4,8 @@ from __future__ import annotations
 from page_file import carried_file
 from page_setting import CHAMBERS, DATA, PROBLEM, InPage, run
 
+from installed import NotThere
+
 RESULT = "#whatif-result"
 
 
@@ -123,6 +125,15 @@ class WhatIf(InPage):
         self.assertIn("83,516 to 90,474", self.text("#percent-window"))
         self.check_quiet()
 
+    def test_the_verdict_comes_into_view(self) -> None:
+        self.solved("#whatif/senate/people=37055:+37")
+        top = f"document.querySelector('{RESULT}').getBoundingClientRect().top"
+        self.value("scrollTo({ top: document.body.scrollHeight, behavior: 'instant' })")
+        self.assertLess(self.value(top), 0)
+        self.press_button("#solve-again")
+        self.wait(f"{top} >= 0 && {top} < innerHeight / 2")
+        self.check_quiet()
+
     def test_no_lawful_grouping(self) -> None:
         # (49 seats stay for people who suit some 45)
         told = self.solved("#whatif/senate/out=37119:1")
@@ -138,12 +149,20 @@ class WhatIf(InPage):
 
     def test_another_pair(self) -> None:
         self.open("#whatif/senate")
-        self.value(
-            "document.querySelector('#other-pair').open = true; "
-            "[...document.querySelectorAll('#other-pair select')].forEach((one, at) => "
-            "{ one.value = ['11', '54'][at]; }); null"
-        )
+        self.value("document.querySelector('#other-pair').open = true; null")
+        self.assertEqual(self.text("#pair-note"), "Choose two different counties.")
         self.press_button("#change-pair")
+        self.assertEqual(self.text("#changed-pairs"), "")
+        self.value(
+            "[...document.querySelectorAll('#other-pair select')].forEach((one, at) => "
+            "{ one.value = ['11', '54'][at]; "
+            "one.dispatchEvent(new Event('change', { bubbles: true })); }); null"
+        )
+        self.assertEqual(self.text("#pair-note"), "Burke and Lincoln count as neighbors here.")
+        self.assertEqual(self.text("#change-pair"), "Leave it out")
+        self.press_button("#change-pair")
+        self.assertIn("Burke and Lincoln don’t count", self.text("#pair-note"))
+        self.assertEqual(self.text("#change-pair"), "Count it")
         self.assertIn("Burke–Lincoln left out", self.text("#changed-pairs"))
         self.press_button("#solve-again")
         self.wait_words(RESULT, "Eight of the 16")
@@ -183,7 +202,7 @@ class WhatIf(InPage):
         self.open("#whatif/senate")
         self.press_button("#solve-again")
         self.go("#senate/3")
-        self.wait("!document.querySelector('#solve-again').disabled")
+        self.wait("!document.querySelector('#solve-again').ariaDisabled")
         self.assertEqual(self.value("location.hash"), "#senate/3")
         self.go("#whatif/senate")
         self.assertIn("Click a county", self.text(RESULT))
@@ -195,7 +214,7 @@ class WhatIf(InPage):
         told = self.wait_words(RESULT, "This link can’t be read.")
         self.assertIn("Nothing was answered.", told)
         self.assertEqual(self.text("#changed-pairs"), "")
-        self.assertEqual(self.value("document.querySelectorAll('#whatif-form h2').length"), 4)
+        self.assertEqual(self.value("document.querySelectorAll('#whatif-form h2').length"), 5)
         self.assertEqual(self.value(f"document.querySelectorAll('{RESULT} h2').length"), 0)
         self.check_quiet()
 
@@ -331,3 +350,66 @@ class Borders(InPage):
         listed = {" ".join(sorted(line.split("|")[1:])) for line in lines}
         self.assertLessEqual(listed, set(points))
         self.assertEqual(len(points), 15)
+
+
+class Deciding(InPage):
+    """The borders that decide, each a click that leaves it out."""
+
+    def told(self, key: str) -> str:
+        """Returns what is told of a chamber. A page without the tables tells nothing."""
+        self.open(f"#whatif/{key}")
+        if self.value("document.querySelector('#deciding').hidden"):
+            raise NotThere("this page was made without the tables of borders (--tables)")
+        return self.text("#deciding-borders p")
+
+    def test_how_many(self) -> None:
+        # (as they were found before the page had them: 52 and 43 of 244 borders change the list,
+        # and without 38 and 35 of them the groups of 2023 aren't connected)
+        for key, all_of_them, unlawful in (("senate", 52, 38), ("house", 43, 35)):
+            told = self.told(key)
+            self.assertIn("Each of the 244 borders was left out alone", told)
+            self.assertIn(f"{all_of_them} of them change the list of best groupings.", told)
+            self.assertIn(f"Without any one of {unlawful} the groups of 2023 aren’t lawful", told)
+            links = self.value("document.querySelectorAll('#deciding a').length")
+            self.assertEqual(links, all_of_them)
+            heads = self.value(
+                "[...document.querySelectorAll('#deciding summary b')].map((one) => "
+                "Number(one.innerText))"
+            )
+            self.assertEqual(sum(heads), all_of_them)
+        self.check_quiet()
+
+    def test_each_as_the_program_says(self) -> None:
+        self.told("senate")
+        rows = dict(
+            self.value(
+                "[...document.querySelectorAll('#deciding a')].map((one) => "
+                "[one.dataset.cut, one.parentElement.querySelector('.note').textContent])"
+            )
+        )
+        # (docs/explanation/borders.md has these three)
+        self.assertEqual(rows["37041 37187"], "8 best in place of 16, over water")
+        self.assertEqual(rows["37023 37109"], "8 best in place of 16")
+        self.assertNotIn("37053 37177", rows)
+
+    def test_one_click(self) -> None:
+        self.told("senate")
+        self.value("document.querySelector('#people-text').value = ''; null")
+        link = "#deciding a[data-cut='37023 37109']"
+        self.value(f"document.querySelector(\"{link}\").closest('details').open = true; null")
+        self.click(link)
+        self.wait_words(RESULT, "Eight of the 16 best groupings are left.")
+        self.assertEqual(self.value("location.hash"), "#whatif/senate/cut=37023-37109")
+        links = "document.querySelectorAll('#deciding [aria-current]')"
+        marked = f"[...{links}].map((one) => one.dataset.cut)"
+        self.assertEqual(self.value(marked), ["37023 37109"])
+        self.assertIn("The groups of 2023 are among the best here.", self.text(RESULT))
+        self.press_button("#start-over")
+        self.assertEqual(self.value(marked), [])
+        self.check_quiet()
+
+    def test_the_enacted_groups_without_one(self) -> None:
+        self.told("senate")
+        self.go("#whatif/senate/cut=37041-37187")
+        told = self.wait_words(RESULT, "The groups of 2023 aren’t lawful here.")
+        self.assertIn("Chowan touches none of the others", told)

@@ -9,7 +9,18 @@ import threading
 import unittest
 import urllib.request
 
-from page_setting import CONTRAST, SETTING, SIDEWAYS, TINTED, TOP, InPage, page
+from page_setting import (
+    CONTRAST,
+    FIXED_MILLISECONDS,
+    FIXED_WORK,
+    SETTING,
+    SIDEWAYS,
+    TINTED,
+    TOP,
+    InPage,
+    page,
+)
+from machine_pace import allowed
 from printed_page import LEAST_LINES, lines_drawn
 
 WIDTHS = (320, 360, 390, 768, 1024, 1400)
@@ -92,14 +103,16 @@ class Page(InPage):
     def test_size_and_first_paint(self) -> None:
         size = page().stat().st_size
         times = []
-        for _ in range(3):
+        for _ in range(5):
             self.open()
             self.wait("performance.getEntriesByName('first-contentful-paint').length > 0")
             script = "performance.getEntriesByName('first-contentful-paint')[0].startTime"
-            times.append(self.value(script))
-        print(f"the page: {size:,} bytes, first paint {min(times):.0f} ms", flush=True)
+            times.append((self.value(script), self.value(FIXED_WORK)))
+        took, fixed = (min(some) for some in zip(*times))
+        told = f"first paint {took:.0f} ms (the fixed work {fixed:.0f} ms)"
+        print(f"the page: {size:,} bytes, {told}", flush=True)
         self.assertLess(size, MOST_BYTES)
-        self.assertLess(min(times), 1000)
+        self.assertLess(took, allowed(1000, fixed, FIXED_MILLISECONDS))
 
     def test_no_path_of_a_machine(self) -> None:
         text = page().read_text(encoding="utf-8")
@@ -151,6 +164,34 @@ class Page(InPage):
                 with self.subTest(f"{width} {mark}"):
                     self.assertEqual(self.value(script), [])
 
+    def test_each_control_has_a_name(self) -> None:
+        controls = {"button", "link", "textbox", "combobox", "checkbox", "radio", "spinbutton"}
+        for mark in ("#senate/6", "#county/37137", "#whatif/senate", "#files", "#proof/senate"):
+            self.open(mark)
+            self.value("document.querySelectorAll('details').forEach((one) => one.open = true)")
+            found = set()
+            for node in self.browser.ask("Accessibility.getFullAXTree")["nodes"]:
+                role = node.get("role", {}).get("value")
+                if role in controls and not node["ignored"]:
+                    found.add(role)
+                    self.assertTrue(node.get("name", {}).get("value", "").strip(), (mark, node))
+            self.assertLessEqual({"button", "link"}, found)
+        self.check_quiet()
+
+    def test_switches_of_long_names(self) -> None:
+        # (by the counts of 2010 an area is called "Around Gaston")
+        outside = """(() => {
+          const place = document.querySelector("#switches");
+          const edge = place.getBoundingClientRect().right + 1;
+          return [...place.querySelectorAll("button")]
+            .filter((one) => one.getBoundingClientRect().right > edge).length;
+        })()"""
+        for width in (320, 360, 390, 430):
+            for mark in ("#2010/senate", "#2000/house", "#senate/6"):
+                with self.subTest(f"{width} {mark}"):
+                    self.open(mark, width=width)
+                    self.assertEqual(self.value(outside), 0)
+
     def test_contrast(self) -> None:
         for dark in (False, True):
             self.open(dark=dark)
@@ -177,7 +218,9 @@ class Page(InPage):
         self.assertNotEqual(self.text("#option"), "Option 6 of 16")
         script = (
             "(() => "
-            "{ const one = document.querySelector('#map .badge').getBoundingClientRect(); "
+            "{ const badge = document.querySelector('#map .badge'); "
+            "badge.scrollIntoView({ block: 'center', behavior: 'instant' }); "
+            "const one = badge.getBoundingClientRect(); "
             "return [one.x + one.width / 2, one.y + one.height / 2]; })()"
         )
         self.browser.tap(*self.value(script))

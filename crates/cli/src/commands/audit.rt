@@ -3,7 +3,7 @@
 ghost use Rattle.std.specs.{Prelude.{◌≡◌, ◌≤◌, ◌<◌, All, List, length, map}, List.Sorted.IsStrictlyIncreasing};
 ghost use Rattle.cli_file_stores.specs.{Files.NamedFile, History.History};
 ghost use Rattle.cli_answers.specs.Answers.{Comes, said_by};
-ghost use Rattle.run_laws.specs.{JudgeSteps.{audit_step, audit_steps}, Run.CommandRun, Storing.HasStored};
+ghost use Rattle.run_laws.specs.{JudgeSteps.{audit_step, audit_steps}, Run.CommandAnswers, Storing.HasStored};
 ghost use Rattle.cli_reports.specs.Texts.{audited_of};
 
 use crate::input::census_files::load_blocks;
@@ -30,9 +30,10 @@ struct AuditedPlan {
     grouping: Grouping,
 }
 
-/// Returns all findings. The table of the districts is beside them if `asked` is true.
+/// Returns all findings, as an object if `json` is true. The table of the districts is beside them if `asked` is true.
 fn audit_plan(
     alloc: Global,
+    json: bool,
     problem: Problem,
     grouping: Grouping,
     blocks: &[Block],
@@ -43,9 +44,9 @@ fn audit_plan(
     requires ascending { IsStrictlyIncreasing (map (λ block. block.code) blocks.now) }
     requires few { length lines.now ≤ 4000000 }
     ensures { (history : History)
-        → Comes (λ p. audited_of p.audited) result (audit_step asked problem grouping.groups.items blocks.now lines.now history history) }
+        → Comes (λ p. audited_of p.audited) result (audit_step json asked problem grouping.groups.items blocks.now lines.now history history) }
 {
-    let audited = audit_and_report(alloc, &problem, &grouping, blocks, lines, asked)?;
+    let audited = audit_and_report(alloc, json, &problem, &grouping, blocks, lines, asked)?;
     Ok(AuditedPlan {
         audited,
         problem,
@@ -66,11 +67,18 @@ fn audit_files<H: FileStore>(
     ensures kept { H.stored file_store.new ≡ H.stored file_store.old }
 {
     let problem = load_problem(alloc, words.problem, file_store, notes)?;
-    let blocks = load_blocks(alloc, words.problem.common, file_store, notes)?;
+    let blocks = load_blocks(
+        alloc,
+        words.census,
+        words.problem.common.state,
+        file_store,
+        notes,
+    )?;
     let grouping = load_grouping(alloc, FileOption::Grouping, words.grouping, file_store)?;
     let lines = load_assignments(alloc, words.assignments, file_store)?;
     let asked = words.districts.is_some();
-    audit_plan(alloc, problem, grouping, &blocks, &lines, asked)
+    let json = words.problem.common.json;
+    audit_plan(alloc, json, problem, grouping, &blocks, &lines, asked)
 }
 
 /// Returns all that is wrong with the assignments of a plan. The problem is built first. Then the census blocks, the
@@ -85,7 +93,7 @@ pub(crate) fn audit<H: FileStore>(
     requires { words.problem.common.state ≤ 99 }
     ensures { (stored : List NamedFile)
         × HasStored (H.contents file_store.old) (H.contents file_store.new) (H.stored file_store.old) (H.stored file_store.new) stored
-        × CommandRun (H.contents file_store.old) (CommandWords.Audit words.entry) (H.history file_store.old) (H.history file_store.new) stored (said_by result) }
+        × CommandAnswers (H.contents file_store.old) (CommandWords.Audit words.entry) (H.history file_store.old) (H.history file_store.new) stored (said_by result) }
 {
     let plan = audit_files(alloc, words, file_store, notes)?;
     let AuditedPlan {

@@ -3,7 +3,7 @@
 ghost use Rattle.std.specs.Prelude.{◌≡◌, ◌≤◌, List, MatchResult, IsOkAnd};
 ghost use Rattle.cli_file_stores.specs.Files.{NamedFile};
 ghost use Rattle.cli_answers.specs.Answers.{Comes, said_by};
-ghost use Rattle.run_laws.specs.{CheckSteps.check_steps, Storing.HasStored, Run.CommandRun};
+ghost use Rattle.run_laws.specs.{CheckSteps.check_steps, Storing.HasStored, Run.CommandAnswers};
 ghost use Rattle.cli_reports.specs.Texts.{reported_of, tabled_of};
 ghost use Rattle.cli.specs.Streams.{checked_file};
 
@@ -57,7 +57,8 @@ fn check_file<H: FileStore>(
     let reader = open(alloc, option, name, file_store)?;
     let mut source = HeadReader::new(alloc, reader);
     let mut line = Vec::new(alloc);
-    let checked = check_from_and_report(alloc, &tabled, &mut source, words.budget, &mut line);
+    let json = words.problem.common.json;
+    let checked = check_from_and_report(alloc, json, &tabled, &mut source, words.budget, &mut line);
     let (reader, head) = source.into_parts();
     give_one_back(alloc, option, name, reader, file_store)?;
     said(checked, FaultText::Read { head, line }, tabled.problem)
@@ -90,7 +91,7 @@ pub(crate) fn check<H: FileStore>(
     requires { words.check.problem.common.state ≤ 99 }
     ensures { (stored : List NamedFile)
         × HasStored (H.contents file_store.old) (H.contents file_store.new) (H.stored file_store.old) (H.stored file_store.new) stored
-        × CommandRun (H.contents file_store.old) (CommandWords.Check words.entry) (H.history file_store.old) (H.history file_store.new) stored (said_by result) }
+        × CommandAnswers (H.contents file_store.old) (CommandWords.Check words.entry) (H.history file_store.old) (H.history file_store.new) stored (said_by result) }
 {
     let reported = check_files(alloc, words, file_store, notes)?;
     store_reported(alloc, words.table, reported, file_store, notes)

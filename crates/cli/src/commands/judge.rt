@@ -4,7 +4,7 @@ ghost use Rattle.std.specs.Prelude.{◌≡◌, ◌≤◌, List, option_map};
 ghost use Rattle.cli_file_stores.specs.{Files.NamedFile, History.History};
 ghost use Rattle.cli_answers.specs.Answers.{Comes, said_by};
 ghost use Rattle.run_laws.specs.{JudgeWithCertificate.certificate_text_of, JudgeSteps.{judge_step, judge_steps}};
-ghost use Rattle.run_laws.specs.{Storing.HasStored, Run.CommandRun};
+ghost use Rattle.run_laws.specs.{Storing.HasStored, Run.CommandAnswers};
 ghost use Rattle.cli_reports.specs.Texts.{reported_of, tabled_of};
 
 use crate::input::files::{load, load_grouping};
@@ -13,7 +13,7 @@ use crate::notes::Notes;
 use crate::storing::store_reported;
 use cli_answers::{FaultText, FileOption, Refusal, RunAnswer, Subject, refuse_verdict};
 use cli_file_stores::FileStore;
-use cli_reports::{Reported, Tabled, judge_and_report};
+use cli_reports::{Reported, Tabled, judge_and_report, refusal_in};
 use cli_words::{CommandWords, JudgeWords};
 use county_codes::Grouping;
 use county_problem::{Problem, judge as judge_grouping};
@@ -55,18 +55,19 @@ fn subject_of(problem: Problem, certificate: Option<Vec<u8>>) -> Subject {
 /// lawful, returns the answer to its fault.
 fn verdict(
     alloc: Global,
+    json: bool,
     tabled: Tabled,
     grouping: Grouping,
     certificate: Option<Vec<u8>>,
     budget: u64,
 ) -> Result<Reported, Refusal>
     ensures { (history : History)
-        → Comes reported_of result (judge_step (tabled_of tabled) grouping.groups.items budget (option_map (λ t. t.items) certificate) history history) }
+        → Comes reported_of result (judge_step json (tabled_of tabled) grouping.groups.items budget (option_map (λ t. t.items) certificate) history history) }
 {
     match judge_grouping(alloc, &tabled.problem, &grouping) {
         Ok(own) => {
             let text = certificate.as_ref();
-            let mut reported = judge_and_report(alloc, &tabled, grouping, own, text, budget)?;
+            let mut reported = judge_and_report(alloc, json, &tabled, grouping, own, text, budget)?;
             reported.answer.subject = Some(subject_of(tabled.problem, certificate));
             Ok(reported)
         }
@@ -76,7 +77,7 @@ fn verdict(
                 grouping: Some(grouping),
                 certificate: None,
             };
-            Err(refuse_verdict(alloc, fault, subject))
+            Err(refusal_in(alloc, json, refuse_verdict(alloc, fault, subject)))
         }
     }
 }
@@ -93,10 +94,11 @@ fn judge_files<H: FileStore>(
     ensures same { H.contents file_store.new ≡ H.contents file_store.old }
     ensures kept { H.stored file_store.new ≡ H.stored file_store.old }
 {
+    let json = words.problem.common.json;
     let tabled = load_tabled_problem(alloc, words.problem, words.table, file_store, notes)?;
     let grouping = load_grouping(alloc, FileOption::Grouping, words.grouping, file_store)?;
     let certificate = load_certificate(alloc, words.certificate, file_store)?;
-    verdict(alloc, tabled, grouping, certificate, words.budget)
+    verdict(alloc, json, tabled, grouping, certificate, words.budget)
 }
 
 /// Judges whether the grouping whose file `words` name is lawful, and with a certificate whether it is best. The
@@ -111,7 +113,7 @@ pub(crate) fn judge<H: FileStore>(
     requires { words.problem.common.state ≤ 99 }
     ensures { (stored : List NamedFile)
         × HasStored (H.contents file_store.old) (H.contents file_store.new) (H.stored file_store.old) (H.stored file_store.new) stored
-        × CommandRun (H.contents file_store.old) (CommandWords.Judge words.entry) (H.history file_store.old) (H.history file_store.new) stored (said_by result) }
+        × CommandAnswers (H.contents file_store.old) (CommandWords.Judge words.entry) (H.history file_store.old) (H.history file_store.new) stored (said_by result) }
 {
     let reported = judge_files(alloc, words, file_store, notes)?;
     store_reported(alloc, words.table, reported, file_store, notes)

@@ -4,7 +4,7 @@ ghost use Rattle.std.specs.Prelude.{◌≡◌, ◌≤◌, List, option_map};
 ghost use Rattle.cli_file_stores.specs.Files.{NamedFile};
 ghost use Rattle.cli_answers.specs.Answers.{Comes, said_by};
 ghost use Rattle.run_laws.specs.{Storing.{HasStored, store_steps}, ListSteps.{list_steps, listed_files, which_of}};
-ghost use Rattle.run_laws.specs.Run.{CommandRun};
+ghost use Rattle.run_laws.specs.Run.{CommandAnswers};
 ghost use Rattle.cli_reports.specs.Texts.{listed_of};
 ghost use Rattle.cli.specs.Ends.{refusal_by};
 
@@ -70,6 +70,7 @@ fn list_files<H: FileStore>(
     ensures same { H.contents file_store.new ≡ H.contents file_store.old }
     ensures kept { H.stored file_store.new ≡ H.stored file_store.old }
 {
+    let json = words.check.problem.common.json;
     let tabled = load_tabled_problem(
         alloc,
         words.check.problem,
@@ -86,7 +87,7 @@ fn list_files<H: FileStore>(
     )?;
     let number = number_in(words.stored);
     let asked = Asked { number, which };
-    let mut listed = list_and_report(alloc, &tabled, &text, words.check.budget, &asked)?;
+    let mut listed = list_and_report(alloc, json, &tabled, &text, words.check.budget, &asked)?;
     listed.answer.subject = Some(Subject {
         problem: tabled.problem,
         grouping: None,
@@ -139,7 +140,7 @@ pub(crate) fn list<H: FileStore>(
     requires { words.check.problem.common.state ≤ 99 }
     ensures { (stored : List NamedFile)
         × HasStored (H.contents file_store.old) (H.contents file_store.new) (H.stored file_store.old) (H.stored file_store.new) stored
-        × CommandRun (H.contents file_store.old) (CommandWords.List words.entry) (H.history file_store.old) (H.history file_store.new) stored (said_by result) }
+        × CommandAnswers (H.contents file_store.old) (CommandWords.List words.entry) (H.history file_store.old) (H.history file_store.new) stored (said_by result) }
 {
     let listed = list_files(alloc, words, file_store, notes)?;
     match store_listed(alloc, words, &listed, file_store, notes) {

@@ -5,7 +5,7 @@ ghost use Rattle.cli_file_stores.specs.{Files.NamedFile, History.History};
 ghost use Rattle.share_board.specs.Events.{event_of};
 ghost use Rattle.cli_answers.specs.Answers.{answer_of, Comes, said_by};
 ghost use Rattle.run_laws.specs.{Storing.HasStored, ShareSteps.{share_answer, share_step, share_steps}};
-ghost use Rattle.run_laws.specs.Run.{CommandRun};
+ghost use Rattle.run_laws.specs.Run.{CommandAnswers};
 
 use crate::input::board_files::load_events;
 use crate::input::files::load_grouping;
@@ -101,7 +101,7 @@ pub(crate) fn share<H: FileStore>(
     requires { words.board.problem.common.state ≤ 99 }
     ensures { (stored : List NamedFile)
         × HasStored (H.contents file_store.old) (H.contents file_store.new) (H.stored file_store.old) (H.stored file_store.new) stored
-        × CommandRun (H.contents file_store.old) (CommandWords.Share words.entry) (H.history file_store.old) (H.history file_store.new) stored (said_by result) }
+        × CommandAnswers (H.contents file_store.old) (CommandWords.Share words.entry) (H.history file_store.old) (H.history file_store.new) stored (said_by result) }
 {
     let shared = share_files(alloc, words, file_store, notes)?;
     match store_named(

@@ -4,7 +4,7 @@ ghost use Rattle.std.specs.Prelude.{◌≡◌, ◌≤◌, ◌++◌, List};
 ghost use Rattle.cli_file_stores.specs.Files.{NamedFile};
 ghost use Rattle.cli_answers.specs.Answers.{Comes, said_by};
 ghost use Rattle.run_laws.specs.Storing.{HasStored, named_file, store_steps};
-ghost use Rattle.run_laws.specs.{SolveSteps.{solve_steps, files_to_store}, Run.CommandRun};
+ghost use Rattle.run_laws.specs.{SolveSteps.{solve_steps, files_to_store}, Run.CommandAnswers};
 ghost use Rattle.cli_reports.specs.Texts.{solved_of};
 ghost use Rattle.cli.specs.Ends.{refusal_by};
 
@@ -31,8 +31,9 @@ fn solve_files<H: FileStore, V: Watcher>(
     ensures same { H.contents file_store.new ≡ H.contents file_store.old }
     ensures kept { H.stored file_store.new ≡ H.stored file_store.old }
 {
+    let json = words.problem.common.json;
     let tabled = load_tabled_problem(alloc, words.problem, words.table, file_store, notes)?;
-    let solved = solve_and_report(alloc, &tabled, words.steps, watcher)?;
+    let solved = solve_and_report(alloc, json, &tabled, words.steps, watcher)?;
     Ok(solved)
 }
 
@@ -112,7 +113,7 @@ pub(crate) fn solve<H: FileStore, V: Watcher>(
     requires { words.problem.common.state ≤ 99 }
     ensures { (stored : List NamedFile)
         × HasStored (H.contents file_store.old) (H.contents file_store.new) (H.stored file_store.old) (H.stored file_store.new) stored
-        × CommandRun (H.contents file_store.old) (CommandWords.Solve words.entry) (H.history file_store.old) (H.history file_store.new) stored (said_by result) }
+        × CommandAnswers (H.contents file_store.old) (CommandWords.Solve words.entry) (H.history file_store.old) (H.history file_store.new) stored (said_by result) }
 {
     let solved = solve_files(alloc, words, file_store, notes, watcher)?;
     match store_solved(alloc, words, &solved, file_store, notes) {

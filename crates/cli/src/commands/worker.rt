@@ -4,7 +4,7 @@ ghost use Rattle.std.specs.Prelude.{◌≡◌, ◌≤◌, ◌≢◌, ℕ, List, 
 ghost use Rattle.certificate_lines.specs.declared.fault.TextKind.TheVariants as text;
 ghost use Rattle.cli_file_stores.specs.Files.{NamedFile};
 ghost use Rattle.cli_answers.specs.{Answers.{said_by, RefusalShows, IsShown}, Refusals.pieces_answer};
-ghost use Rattle.run_laws.specs.{Spoken.behind, WorkerSteps.{worker_steps, texts_steps}, Run.CommandRun};
+ghost use Rattle.run_laws.specs.{Spoken.behind, WorkerSteps.{worker_steps, texts_steps}, Run.CommandAnswers};
 ghost use Rattle.run_laws.specs.Storing.{HasStored};
 ghost use Rattle.written_output.specs.Writing.{HasWritten};
 ghost use Rattle.cli.specs.GoingOn.{ProvesBy};
@@ -110,7 +110,7 @@ pub(crate) fn worker<H: FileStore, W: Sink>(
     ensures { (stored : List NamedFile) × (text : List ℕ)
         × HasStored (H.contents file_store.old) (H.contents file_store.new) (H.stored file_store.old) (H.stored file_store.new) stored
         × HasWritten W.contents W.is_failed out.old written.old out.new written.new text
-        × CommandRun (H.contents file_store.old) (CommandWords.Worker words.entry) (H.history file_store.old) (H.history file_store.new) stored (behind text (said_by result)) }
+        × CommandAnswers (H.contents file_store.old) (CommandWords.Worker words.entry) (H.history file_store.old) (H.history file_store.new) stored (behind text (said_by result)) }
 {
     prove_files(alloc, words, file_store, out, written, notes)
 }

@@ -7,8 +7,8 @@ ghost use Rattle.cli_file_stores.specs.History.{History};
 ghost use Rattle.cli_answers.specs.Answers.{Comes};
 ghost use Rattle.pl94_counties.specs.{PeopleByCode.IsPl94Memory, Counties.{county_list, block_list}};
 ghost use Rattle.pl94_counties.specs.CountyNames.{IsNoMemory, county_name, named_list};
-ghost use Rattle.run_laws.specs.{Reading.OfTexts, ProblemSteps.{counties_in, counties_steps}};
-ghost use Rattle.run_laws.specs.{TableSteps.{named_counties_in, named_counties_of}, PlanSteps.{blocks_in, blocks_of}};
+ghost use Rattle.run_laws.specs.{Reading.OfTexts, ProblemSteps.{counties_in, counties_of_census}};
+ghost use Rattle.run_laws.specs.{TableSteps.{named_counties_in, named_of_census}, PlanSteps.{blocks_in, blocks_of}};
 
 use crate::input::head_reader::HeadReader;
 use crate::input::readers::{give_both_back, open_both};
@@ -17,13 +17,13 @@ use cli_answers::{
     FaultText, FileOption, Refusal, RefusedFile, refuse_file, refuse_named_counties,
 };
 use cli_file_stores::FileStore;
-use cli_words::CommonWords;
+use cli_words::CensusWords;
 use county_codes::County;
 use pl94_counties::{
     Block, CensusNotes, File, NamedCounty, NamedFault, Pl94Fault, read_blocks_from,
     read_counties_from, read_named_counties_from,
 };
-use std::alloc::{AllocError, Global};
+use std::alloc::Global;
 
 /// What was kept of both census files, for whoever explains a fault of one of them. No clause speaks of it.
 #[derive(Drop)]
@@ -79,7 +79,7 @@ fn counties_read(
     match read {
         Ok(counties) => {
             notes.note_counties(&counties, &texts.notes);
-            notes.note_geo_head(texts.geo);
+            notes.note_names(texts.geo);
             Ok(counties)
         }
         Err(fault) => {
@@ -89,44 +89,34 @@ fn counties_read(
     }
 }
 
-/// Reads the counties of the state from the census files that `words` name. The geographic header is opened first, but
+/// Reads the counties of `state` from the files that `census` names. The geographic header is opened first, but
 /// segment 1 is read before it. The first fault of the two files is refused.
-pub(crate) fn load_counties<H: FileStore>(
+pub(crate) fn load_census_counties<H: FileStore>(
     alloc: Global,
-    words: CommonWords<'_>,
+    census: CensusWords<'_>,
+    state: u8,
     file_store: &mut H,
     notes: &mut Notes,
 ) -> Result<Vec<County>, Refusal>
-    requires { words.state ≤ 99 }
-    ensures steps { Comes (λ v. v.items) result (counties_steps (H.contents file_store.old) words.entry (H.history file_store.old) (H.history file_store.new)) }
+    requires { state ≤ 99 }
+    ensures steps { Comes (λ v. v.items) result (counties_of_census (H.contents file_store.old) state census.entry (H.history file_store.old) (H.history file_store.new)) }
     ensures same { H.contents file_store.new ≡ H.contents file_store.old }
     ensures kept { H.stored file_store.new ≡ H.stored file_store.old }
 {
-    let (geo, segment) = open_both(alloc, words, file_store)?;
+    let (geo, segment) = open_both(alloc, census, file_store)?;
     let mut geo = HeadReader::new(alloc, geo);
     let mut segment = HeadReader::new(alloc, segment);
     let mut read_notes = CensusNotes::new(alloc);
-    let read = read_counties_from(alloc, &mut geo, &mut segment, words.state, &mut read_notes);
+    let read = read_counties_from(alloc, &mut geo, &mut segment, state, &mut read_notes);
     let (geo_reader, geo) = geo.into_parts();
     let (segment_reader, segment) = segment.into_parts();
-    give_both_back(alloc, words, (geo_reader, segment_reader), file_store)?;
+    give_both_back(alloc, census, (geo_reader, segment_reader), file_store)?;
     let texts = CensusTexts {
         geo,
         segment,
         notes: read_notes,
     };
     counties_read(alloc, read, texts, notes)
-}
-
-/// Returns the counties of `named` without their names, in the same order.
-pub(crate) fn without_names(alloc: Global, named: &[NamedCounty]) -> Result<Vec<County>, AllocError>
-    ensures { IfOk result (λ v. v.items ≡ map (λ k. k.county) named.now) }
-{
-    let mut counties = Vec::new(alloc);
-    for listed in named {
-        counties.push(listed.county)?;
-    }
-    Ok(counties)
 }
 
 /// Returns the counties that were read with their names, or the refusal of the first fault. `texts` is what was kept of
@@ -144,7 +134,7 @@ fn named_read(
     match read {
         Ok(named) => {
             notes.note_census(&texts.notes);
-            notes.note_geo_head(texts.geo);
+            notes.note_names(texts.geo);
             Ok(named)
         }
         Err(fault) => {
@@ -154,32 +144,27 @@ fn named_read(
     }
 }
 
-/// Reads the counties of the state that `words` name, with their names, as `load_counties` reads them without.
-pub(crate) fn load_named_counties<H: FileStore>(
+/// Reads the counties of `state` with their names, as `load_census_counties` reads them without.
+pub(crate) fn load_named_census<H: FileStore>(
     alloc: Global,
-    words: CommonWords<'_>,
+    census: CensusWords<'_>,
+    state: u8,
     file_store: &mut H,
     notes: &mut Notes,
 ) -> Result<Vec<NamedCounty>, Refusal>
-    requires { words.state ≤ 99 }
-    ensures steps { Comes (λ v. map county_name v.items) result (named_counties_of (H.contents file_store.old) words.entry (H.history file_store.old) (H.history file_store.new)) }
+    requires { state ≤ 99 }
+    ensures steps { Comes (λ v. map county_name v.items) result (named_of_census (H.contents file_store.old) state census.entry (H.history file_store.old) (H.history file_store.new)) }
     ensures same { H.contents file_store.new ≡ H.contents file_store.old }
     ensures kept { H.stored file_store.new ≡ H.stored file_store.old }
 {
-    let (geo, segment) = open_both(alloc, words, file_store)?;
+    let (geo, segment) = open_both(alloc, census, file_store)?;
     let mut geo = HeadReader::new(alloc, geo);
     let mut segment = HeadReader::new(alloc, segment);
     let mut read_notes = CensusNotes::new(alloc);
-    let read = read_named_counties_from(
-        alloc,
-        &mut geo,
-        &mut segment,
-        words.state,
-        &mut read_notes,
-    );
+    let read = read_named_counties_from(alloc, &mut geo, &mut segment, state, &mut read_notes);
     let (geo_reader, geo) = geo.into_parts();
     let (segment_reader, segment) = segment.into_parts();
-    give_both_back(alloc, words, (geo_reader, segment_reader), file_store)?;
+    give_both_back(alloc, census, (geo_reader, segment_reader), file_store)?;
     let texts = CensusTexts {
         geo,
         segment,
@@ -209,29 +194,29 @@ fn blocks_read(
     }
 }
 
-/// Reads the census blocks of the state that `words` name, as `load_counties` reads the counties. The census files are
-/// opened anew.
+/// Reads the census blocks of `state`, as `load_census_counties` reads the counties. The files are opened anew.
 pub(crate) fn load_blocks<H: FileStore>(
     alloc: Global,
-    words: CommonWords<'_>,
+    census: CensusWords<'_>,
+    state: u8,
     file_store: &mut H,
     notes: &mut Notes,
 ) -> Result<Vec<Block>, Refusal>
-    requires { words.state ≤ 99 }
-    ensures steps { Comes (λ v. v.items) result (blocks_of (H.contents file_store.old) words.entry (H.history file_store.old) (H.history file_store.new)) }
+    requires { state ≤ 99 }
+    ensures steps { Comes (λ v. v.items) result (blocks_of (H.contents file_store.old) census.entry state (H.history file_store.old) (H.history file_store.new)) }
     ensures ascending { IfOk result (λ v. IsStrictlyIncreasing (map (λ b. b.code) v.items)) }
     ensures small { IfOk result (λ v. All (λ b. b.code < 1000000000000000) v.items) }
     ensures same { H.contents file_store.new ≡ H.contents file_store.old }
     ensures kept { H.stored file_store.new ≡ H.stored file_store.old }
 {
-    let (geo, segment) = open_both(alloc, words, file_store)?;
+    let (geo, segment) = open_both(alloc, census, file_store)?;
     let mut geo = HeadReader::new(alloc, geo);
     let mut segment = HeadReader::new(alloc, segment);
     let mut read_notes = CensusNotes::new(alloc);
-    let read = read_blocks_from(alloc, &mut geo, &mut segment, words.state, &mut read_notes);
+    let read = read_blocks_from(alloc, &mut geo, &mut segment, state, &mut read_notes);
     let (geo_reader, geo) = geo.into_parts();
     let (segment_reader, segment) = segment.into_parts();
-    give_both_back(alloc, words, (geo_reader, segment_reader), file_store)?;
+    give_both_back(alloc, census, (geo_reader, segment_reader), file_store)?;
     let texts = CensusTexts {
         geo,
         segment,

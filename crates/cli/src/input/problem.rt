@@ -4,17 +4,18 @@ ghost use Rattle.std.specs.Prelude.{◌≡◌, ◌≤◌};
 ghost use Rattle.cli_file_stores.specs.History.{History};
 ghost use Rattle.cli_answers.specs.Answers.{Comes};
 ghost use Rattle.run_laws.specs.ProblemSteps.{build_step, problem_over, problem_steps};
+ghost use Rattle.run_laws.specs.Forms.{reads_names as names_are_read};
 ghost use Rattle.run_laws.specs.TableSteps.{named_problem_in, tabled_problem_in};
 ghost use Rattle.cli_reports.specs.Texts.{tabled_of};
 
-use crate::input::census_files::{load_counties, load_named_counties, without_names};
+use crate::input::counties::{load_counties, load_named_counties, without_names};
 use crate::input::files::{load_adjacency, load_withdrawn};
 use crate::input::withdrawn_warnings::note_withdrawn;
 use crate::notes::Notes;
 use cli_answers::{Refusal, refuse_problem};
 use cli_file_stores::FileStore;
 use cli_reports::Tabled;
-use cli_words::ProblemWords;
+use cli_words::{CommonWords, ProblemWords};
 use county_codes::{County, CountyCode, Tolerance, Withdrawn};
 use county_problem::Problem;
 use std::alloc::Global;
@@ -102,7 +103,16 @@ fn load_named_problem<H: FileStore>(
     })
 }
 
-/// Builds the problem of the files. The names of its counties are kept if `table` names the file of a table.
+/// Returns whether the names of the counties are read: for a table, if `table` names its file, or for an object, if
+/// `words` ask for one.
+fn reads_names(words: CommonWords<'_>, table: Option<&str>) -> bool
+    ensures { result ≡ names_are_read words.entry table.entry }
+{
+    table.is_some() || words.json
+}
+
+/// Builds the problem of the files. The names of its counties are read and kept if `table` names the file of a table, or
+/// if `words` ask for an object.
 pub(crate) fn load_tabled_problem<H: FileStore>(
     alloc: Global,
     words: ProblemWords<'_>,
@@ -111,18 +121,16 @@ pub(crate) fn load_tabled_problem<H: FileStore>(
     notes: &mut Notes,
 ) -> Result<Tabled, Refusal>
     requires { words.common.state ≤ 99 }
-    ensures steps { Comes tabled_of result (tabled_problem_in (H.contents file_store.old) words.entry table.entry (H.history file_store.old) (H.history file_store.new)) }
+    ensures steps { Comes tabled_of result (tabled_problem_in (H.contents file_store.old) words.entry (names_are_read words.entry.common table.entry) (H.history file_store.old) (H.history file_store.new)) }
     ensures same { H.contents file_store.new ≡ H.contents file_store.old }
     ensures kept { H.stored file_store.new ≡ H.stored file_store.old }
 {
-    match table {
-        Some(_) => load_named_problem(alloc, words, file_store, notes),
-        None => {
-            let problem = load_problem(alloc, words, file_store, notes)?;
-            Ok(Tabled {
-                problem,
-                named: None,
-            })
-        }
+    if reads_names(words.common, table) {
+        return load_named_problem(alloc, words, file_store, notes);
     }
+    let problem = load_problem(alloc, words, file_store, notes)?;
+    Ok(Tabled {
+        problem,
+        named: None,
+    })
 }

@@ -8,7 +8,7 @@ ghost use Rattle.cli.specs.Streams.{given_back, both_given_back, AreBack};
 
 use cli_answers::{FileOption, Refusal, refuse_load};
 use cli_file_stores::{FileStore, FileStoreFault, ReadEnd};
-use cli_words::CommonWords;
+use cli_words::CensusWords;
 use std::alloc::Global;
 
 /// Opens the file of `option`, and returns its reader.
@@ -53,7 +53,7 @@ pub(crate) fn give_one_back<H: FileStore>(
 /// that of segment 1.
 pub(crate) fn open_both<H: FileStore>(
     alloc: Global,
-    words: CommonWords<'_>,
+    words: CensusWords<'_>,
     file_store: &mut H,
 ) -> Result<(H::Reader, H::Reader), Refusal>
     ensures opened { MatchResult
@@ -74,7 +74,7 @@ pub(crate) fn open_both<H: FileStore>(
 /// of the one that failed. If both failed, the refusal is that of segment 1.
 fn if_sound(
     alloc: Global,
-    words: CommonWords<'_>,
+    words: CensusWords<'_>,
     geo: Result<ReadEnd, FileStoreFault>,
     segment: Result<ReadEnd, FileStoreFault>,
 ) -> Result<(), Refusal>
@@ -91,7 +91,7 @@ fn if_sound(
 /// last pull of one of them failed.
 pub(crate) fn give_both_back<H: FileStore>(
     alloc: Global,
-    words: CommonWords<'_>,
+    words: CensusWords<'_>,
     readers: (H::Reader, H::Reader),
     file_store: &mut H,
 ) -> Result<(), Refusal>

@@ -7,7 +7,6 @@ ghost use Rattle.connected_sets.specs.Graphs.{graph_problem, graph_order, graph_
 ghost use Rattle.certificate_data.specs.RoundValue.{round_of, target_of};
 ghost use Rattle.state_groups.specs.PlacedValues.{state_at, IsPlaced};
 ghost use Rattle.bound_proofs.specs.CountLeaves.{AreListsFrom};
-ghost use Rattle.grouping_laws.specs.GroupsFrom.{IsOrder};
 ghost use Rattle.checker_laws.specs.Verdict.{IsLawfulTarget};
 
 use anyhow::{Error, Result};
@@ -59,18 +58,16 @@ fn groups_by_size<C: CountySet>(
 
 /// Returns the leaf that is found at a `state`, or `None` if none is found.
 fn leaf_at<C: CountySet>(
-    alloc: Global,
-    ordered: &Ordered,
+    graph: &CountyGraph<C>,
     round: &Round,
     state: &State<C>,
 ) -> Result<Option<Leaf>>
-    requires fits { length ordered.now.order ≤ C.PLACES }
-    requires order { ordered.now.order ≡ round.now.order }
-    requires placed { IsPlaced (length ordered.now.order) C.test state.now }
+    requires graph { IsGraph C.test C.PLACES graph.now }
+    requires order { graph_order graph.now ≡ round.now.order }
+    requires placed { IsPlaced (graph_places graph.now) C.test state.now }
 {
-    let graph: CountyGraph<C> = CountyGraph::build(alloc, ordered)?;
-    let lists = groups_by_size(&graph, round, state)?;
-    Ok(find_leaf(&graph, round, state, &lists)?)
+    let lists = groups_by_size(graph, round, state)?;
+    Ok(find_leaf(graph, round, state, &lists)?)
 }
 
 /// Reads the target that the `text` of a grouping tells. Returns `None` if the text is empty, and an error if the
@@ -95,24 +92,22 @@ fn first_word(lines: &[u8]) -> Result<&str> {
 /// Returns in words what kind of leaf the `tree` is, and what the checker says of it at the `state`. The kind is the
 /// first word of its lines.
 fn checked<C: CountySet>(
-    alloc: Global,
-    problem: &Problem,
+    graph: &CountyGraph<C>,
     round: &Round,
     state: &State<C>,
     tree: &Tree,
 ) -> Result<String>
-    requires fits { length round.now.order ≤ C.PLACES }
-    requires order { IsOrder (problem_of problem.now) round.now.order }
+    requires graph { IsGraph C.test C.PLACES graph.now }
+    requires order { graph_order graph.now ≡ round.now.order }
     requires small { round.now.limit ≤ most_counties }
-    requires target { IsLawfulTarget (problem_of problem.now) (target_of round.now.target) }
-    requires placed { IsPlaced (length round.now.order) C.test state.now }
+    requires target { IsLawfulTarget (graph_problem graph.now) (target_of round.now.target) }
+    requires placed { IsPlaced (graph_places graph.now) C.test state.now }
 {
+    let alloc = graph.alloc;
     let lines = tree_lines(alloc, tree)?;
     let kind = first_word(&lines)?;
     let mut lists = PartLists::new(alloc);
-    let said = match check_tree(
-        alloc, problem, round, state, false, &mut lists, tree, ENOUGH,
-    )? {
+    let said = match check_tree(graph, round, state, false, &mut lists, tree, ENOUGH)? {
         TreeVerdict::Proof => "a proof",
         TreeVerdict::Fault(_) => "NO PROOF",
         TreeVerdict::Budget => "BUDGET",
@@ -122,18 +117,18 @@ fn checked<C: CountySet>(
 
 /// Returns in words which leaf of `round` is found where nothing is closed, and what the checker says of it. If no leaf
 /// is found, the words say so.
-fn first_leaf(alloc: Global, problem: &Problem, ordered: &Ordered, round: &Round) -> Result<String>
+fn first_leaf(alloc: Global, ordered: &Ordered, round: &Round) -> Result<String>
     requires few { length ordered.now.order ≤ 128 }
     requires same { ordered.now.order ≡ round.now.order }
-    requires order { IsOrder (problem_of problem.now) round.now.order }
     requires small { round.now.limit ≤ most_counties }
-    requires target { IsLawfulTarget (problem_of problem.now) (target_of round.now.target) }
+    requires target { IsLawfulTarget (problem_of ordered.now.problem) (target_of round.now.target) }
 {
+    let graph: CountyGraph<MaskSet> = CountyGraph::build(alloc, ordered)?;
     let state: State<MaskSet> = first_state(alloc, ordered)?;
-    match leaf_at(alloc, ordered, round, &state)? {
+    match leaf_at(&graph, round, &state)? {
         Some(leaf) => {
             let branches = Vec::new(alloc);
-            checked(alloc, problem, round, &state, &Tree { branches, leaf })
+            checked(&graph, round, &state, &Tree { branches, leaf })
         }
         None => Ok(String::from_str(alloc, "no leaf")?),
     }
@@ -164,5 +159,5 @@ pub(crate) fn leaf_said(
         format: Format::Wide,
         tolerance: problem.named_tolerance(),
     };
-    first_leaf(alloc, problem, &ordered, &round)
+    first_leaf(alloc, &ordered, &round)
 }

@@ -1,8 +1,9 @@
-use Rattle.std.proofs.Common.{◌≤◌, [], ◌∷◌, append-nil, map, length, refl, sym, ◌∙◌, subst, arith}
+use Rattle.std.proofs.Common.{[], ◌∷◌, append-nil, map, refl, sym, ◌∙◌, subst, arith}
 use Rattle.std.proofs.lemmas.Iterator.Adapters.{YieldsList-from_vec}
 use Rattle.std.proofs.lemmas.Iterator.Consumers.{YieldsList-end}
 use Rattle.std.proofs.lemmas.List.{map-append, map-id}
 use Rattle.share_board.specs.Events.{event_of}
+use Rattle.share_board.proofs.Lists.{graph_kept}
 use Rattle.board_report.specs.Taking.{HasTold}
 use Rattle.board_report.proofs.InTurn.{told_more}
 use Rattle.board_report.proofs.taking.take_and_tell.Goals as goal
@@ -19,8 +20,8 @@ loop-event-init g c = record {
 pub tell_one-requires-clause-board : goal.tell_one-requires-clause-board
 tell_one-requires-clause-board g c = let f = c.loop-event.invariant.told c.requires.board.0 c.requires.board.1 in ((f.0).last, (f.0).is)
 
-pub tell_one-requires-clause-fits : goal.tell_one-requires-clause-fits
-tell_one-requires-clause-fits g c = subst (λ z. length z ≤ g.C.CountySet.PLACES) (sym c.loop-event.invariant.keeps.order) c.requires.fits
+pub tell_one-requires-clause-ordered : goal.tell_one-requires-clause-ordered
+tell_one-requires-clause-ordered g c = graph_kept c.args.board.now c.loop-event.board c.args.graph.now c.loop-event.invariant.keeps c.requires.ordered
 
 pub loop-event-preserved : goal.loop-event-preserved
 loop-event-preserved g c =

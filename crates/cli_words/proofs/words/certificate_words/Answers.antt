@@ -4,5 +4,5 @@ use Rattle.cli_words.specs.Command.{certificate_options, problem_options}
 use Rattle.cli_words.proofs.ReadLemmas.{front_values}
 use Rattle.cli_words.proofs.words.certificate_words.Goals as goal
 
-pub problem_words-requires : goal.problem_words-requires
-problem_words-requires c = front_values problem_options (drop 10 certificate_options) (rows_of (found_of c.args.found.now)) c.requires
+pub problem_words-requires-clause-values : goal.problem_words-requires-clause-values
+problem_words-requires-clause-values c = front_values problem_options (drop 7 certificate_options) (rows_of (found_of c.args.found.now)) c.requires.values

@@ -4,5 +4,5 @@ use Rattle.cli_words.specs.Command.{common_options, problem_options}
 use Rattle.cli_words.proofs.ReadLemmas.{front_values}
 use Rattle.cli_words.proofs.words.problem_words.Goals as goal
 
-pub common_words-requires : goal.common_words-requires
-common_words-requires c = front_values common_options (drop 7 problem_options) (rows_of (found_of c.args.found.now)) c.requires
+pub common_words-requires-clause-values : goal.common_words-requires-clause-values
+common_words-requires-clause-values c = front_values common_options (drop 4 problem_options) (rows_of (found_of c.args.found.now)) c.requires.values

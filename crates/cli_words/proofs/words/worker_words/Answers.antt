@@ -1,8 +1,8 @@
 use Rattle.std.proofs.Common.{drop}
 use Rattle.clap.specs.Words.{found_of, rows_of}
-use Rattle.cli_words.specs.Command.{worker_options, problem_options}
+use Rattle.cli_words.specs.Command.{problem_options, worker_options}
 use Rattle.cli_words.proofs.ReadLemmas.{front_values}
 use Rattle.cli_words.proofs.words.worker_words.Goals as goal
 
-pub problem_words-requires : goal.problem_words-requires
-problem_words-requires c = front_values problem_options (drop 10 worker_options) (rows_of (found_of c.args.found.now)) c.requires
+pub problem_words-requires-clause-values : goal.problem_words-requires-clause-values
+problem_words-requires-clause-values c = front_values problem_options (drop 7 worker_options) (rows_of (found_of c.args.found.now)) c.requires.values

@@ -1,16 +1,12 @@
-use Rattle.std.proofs.Common.{◌≡◌, ◌∙◌, ◌≤◌, ◌++◌, ◌∷◌, [], ℕ, List, length, map, get_or, refl, ap, arith, codes}
+use Rattle.std.proofs.Common.{◌≡◌, ◌∙◌, ◌++◌, ℕ, List, map, ap, codes}
 use Rattle.grouping_report.proofs.Appends.{first, after}
 use Rattle.county_codes.specs.declared.group.Grouping.{Grouping}
 use Rattle.grouping_laws.specs.Grouping.{sets_of}
 use Rattle.grouping_report.specs.Report.{head_lines, answer_line, counts_line}
 use Rattle.list_report.specs.SharedSets.{first_sets}
 use Rattle.list_report.specs.Listing.{body_text}
+use Rattle.list_report.proofs.FirstSets.{first_read}
 use Rattle.list_report.proofs.listings.listing.Goals as goal
-
--- the groups of the first grouping are those of the first list
-first_read : (gs : List Grouping) (g : Grouping) → 1 ≤ length gs → sets_of (get_or gs 0 g).groups.items ≡ first_sets (map sets_of (map (λ g. g.groups.items) gs))
-first_read [] g some = absurd (omega (arith, some))
-first_read (x ∷ xs) g some = refl
 
 pub returns : goal.returns
 returns c =

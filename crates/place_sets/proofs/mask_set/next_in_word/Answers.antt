@@ -1,4 +1,4 @@
-use Rattle.std.proofs.Common.{◌≤◌, ◌<◌, ◌^◌, ◌/◌, ◌≡◌, rules, tests, arith}
+use Rattle.std.proofs.Common.{◌≤◌, ◌<◌, ◌^◌, ◌/◌, ◌≡◌, tests, arith}
 use Rattle.place_sets.proofs.Masks.{next_none, next_past, next_some, next_below}
 use Rattle.place_sets.proofs.mask_set.next_in_word.Goals as goal
 

@@ -1,4 +1,4 @@
-use Rattle.std.proofs.Common.{false, length, arith}
+use Rattle.std.proofs.Common.{length, arith}
 use Rattle.county_problem.specs.OrderedValue.{problem_at}
 use Rattle.state_groups.proofs.Moves.{first_reached, next_reached, closed_reached, all_reached, none_next}
 use Rattle.state_groups.proofs.reach.reached.Goals as goal

@@ -8,12 +8,12 @@ use Rattle.cli.proofs.input.census_files.load_blocks.Goals as goal
 
 pub returns-clause-steps : goal.returns-clause-steps
 returns-clause-steps g c =
-    census_came g.H.FileStore.contents g.H.FileStore.history c.args.words.geo.now c.args.words.segment.now (λ (v : Vec Block Global). v.items) (λ (given : Given × Given). blocks_in c.args.words.state given.0 given.1) _ _ _
-    c.open_both.ensures.same c.in_ok-geo.ensures.opened _ _ c.blocks_read.result c.in_ok-give_both_back.ensures.back (λ u v. block_list u v c.args.words.state) _ _ _ _ c.read_blocks_from-read.result (c.new-geo.ensures.given ∙ c.in_ok-geo.ensures.given.0) (c.new-segment.ensures.given ∙ c.in_ok-geo.ensures.given.1)
+    census_came g.H.FileStore.contents g.H.FileStore.history c.args.census.geo.now c.args.census.segment.now (λ (v : Vec Block Global). v.items) (λ (given : Given × Given). blocks_in c.args.state given.0 given.1) _ _ _
+    c.open_both.ensures.same c.in_ok-geo.ensures.opened _ _ c.blocks_read.result c.in_ok-give_both_back.ensures.back (λ u v. block_list u v c.args.state) _ _ _ _ c.read_blocks_from-read.result (c.new-geo.ensures.given ∙ c.in_ok-geo.ensures.given.0) (c.new-segment.ensures.given ∙ c.in_ok-geo.ensures.given.1)
     c.read_blocks_from-read.ensures.reads c.into_parts-geo_reader.ensures.given c.into_parts-segment_reader.ensures.given (sound_read c.read_blocks_from-read.ensures.geo_failed c.into_parts-geo_reader.ensures.failed c.in_ok-give_both_back.ensures.geo_sound)
-    (sound_read c.read_blocks_from-read.ensures.segment1_failed c.into_parts-segment_reader.ensures.failed c.in_ok-give_both_back.ensures.segment_sound) (c.blocks_read.ensures.steps c.args.words.state _ _ _)
+    (sound_read c.read_blocks_from-read.ensures.segment1_failed c.into_parts-segment_reader.ensures.failed c.in_ok-give_both_back.ensures.segment_sound) (c.blocks_read.ensures.steps c.args.state _ _ _)
 
 pub returns-in_err-give_both_back-clause-steps : goal.returns-in_err-give_both_back-clause-steps
 returns-in_err-give_both_back-clause-steps g c =
-    back_refused g.H.FileStore.contents g.H.FileStore.history c.args.words.geo.now c.args.words.segment.now (λ (v : Vec Block Global). v.items) (λ (given : Given × Given). blocks_in c.args.words.state given.0 given.1) _ _ _
+    back_refused g.H.FileStore.contents g.H.FileStore.history c.args.census.geo.now c.args.census.segment.now (λ (v : Vec Block Global). v.items) (λ (given : Given × Given). blocks_in c.args.state given.0 given.1) _ _ _
     c.open_both.ensures.same c.in_ok-geo.ensures.opened c.from_residual-in_err-give_both_back.result c.in_err-give_both_back.field-0.0 c.from_residual-in_err-give_both_back.ensures.1 c.in_err-give_both_back.ensures.back

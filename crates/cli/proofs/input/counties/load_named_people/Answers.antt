@@ -1,0 +1,12 @@
+use Rattle.std.proofs.Common.{refl, map}
+use Rattle.pl94_counties.specs.CountyNames.{county_name}
+use Rattle.run_laws.specs.TableSteps.{named_people_in}
+use Rattle.run_laws.proofs.RunLemmas.{read_file}
+use Rattle.cli.proofs.input.counties.load_named_people.Goals as goal
+
+pub returns-clause-steps : goal.returns-clause-steps
+returns-clause-steps g c =
+    let files = g.H.FileStore.contents c.args.file_store.now in
+    let before = g.H.FileStore.history c.args.file_store.now in
+    let after = g.H.FileStore.history c.load.new.file_store in
+    read_file (λ v. map county_name v.items) c.named_people_from.result files c.args.name.now c.in_ok-text.text.items c.in_ok-text.text.items (named_people_in c.args.state) before after c.in_ok-text.ensures.steps refl (c.named_people_from.ensures after)

@@ -1,8 +1,0 @@
-use Rattle.std.proofs.Common.{drop}
-use Rattle.clap.specs.Words.{found_of, rows_of}
-use Rattle.cli_words.specs.Command.{board_options, grouping_options}
-use Rattle.cli_words.proofs.ReadLemmas.{front_values}
-use Rattle.cli_words.proofs.words.board_words.Goals as goal
-
-pub grouping_words-requires : goal.grouping_words-requires
-grouping_words-requires c = front_values grouping_options (drop 11 board_options) (rows_of (found_of c.args.found.now)) c.requires

@@ -1,0 +1,12 @@
+use Rattle.std.proofs.Common.{◌∙◌, sym}
+use Rattle.std.proofs.lemmas.Str.{IsUtf8-from_is_utf8, is_utf8-from_IsUtf8}
+use Rattle.std.proofs.lemmas.Bool.{false_from_ne_true}
+use Rattle.json_report.proofs.TextLemmas.{if_text, if_no_text}
+use Rattle.json_report.proofs.parts.utf8_text.Goals as goal
+
+pub returns-in-Ok : goal.returns-in-Ok
+returns-in-Ok c = c.in-Ok.ensures.cases.0 ∙ sym (if_text _ (is_utf8-from_IsUtf8 _ c.in-Ok.ensures.cases.1))
+
+pub returns-in-Err : goal.returns-in-Err
+returns-in-Err c =
+    sym (if_no_text _ (false_from_ne_true _ (λ same. c.in-Err.ensures.cases.0 (IsUtf8-from_is_utf8 _ same))))

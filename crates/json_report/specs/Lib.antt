@@ -1,0 +1,5 @@
+pub mod Parts
+pub mod ReportObject
+pub mod SizeObject
+pub mod FindingsObject
+pub mod Message

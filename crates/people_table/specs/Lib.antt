@@ -1,0 +1,6 @@
+pub mod QuotedFields
+pub mod CutFields
+pub mod TableFaults
+pub mod CountyLines
+pub mod Listed
+pub mod CountiesOfTable
