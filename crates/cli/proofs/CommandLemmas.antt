@@ -1,5 +1,5 @@
 -- What the calls of a run come to together.
-use Rattle.std.proofs.Common.{◌≡◌, ℕ, Bool, true, false, List, [], Option, inl, inr, refl, sym, ap, ◌∙◌, subst}
+use Rattle.std.proofs.Common.{◌≡◌, ℕ, Bool, true, List, [], Option, inl, inr, refl, sym, ap, ◌∙◌, subst}
 use Rattle.std.specs.Prelude.{Result, Ok, Err, IfOk}
 use Rattle.std.specs.declared.alloc.AllocError.{AllocError}
 use Rattle.cli_file_stores.specs.Files.{NamedFile, Files}
@@ -20,9 +20,11 @@ use Rattle.written_output.specs.declared.written.Written.{Written}
 use Rattle.written_output.specs.Writing.{IsWritten}
 use Rattle.written_output.proofs.Texts.{written_none}
 use Rattle.cli_record.specs.RecordFiles.{record_name_of}
-use Rattle.run_laws.specs.Forms.{IsShown, is_json, is_refused_line, shown_if, shown_in}
+use Rattle.run_laws.specs.Forms.{IsShown, form_of_answer, is_refused_line, shown_if, shown_in}
 use Rattle.run_laws.specs.Run.{CommandAnswers, CommandEnds, CommandRun, IsEndAnswer, IsRunAnswer, RunsAsAsked}
 use Rattle.cli.specs.Ends.{said_of}
+use Rattle.cli_words.specs.declared.words.Form.{Form}
+use Rattle.cli_words.specs.declared.words.Form.TheVariants.{Codes, Names, Object}
 
 -- a command that stores no file
 pub quiet_run : (files : Option Files) (command : CommandWords) (steps : Steps Answered) (before after : History) (end : Result RunAnswer Refusal)
@@ -33,22 +35,23 @@ quiet_run files command steps before after (Err (Shown a)) k h = inr (k (answer_
 quiet_run files command steps before after (Err Memory) k h = inl (refl, refl)
 
 -- the line that memory was refused is shown as it is
-memory_shown : (json : Bool) (raw a : Answered) → raw ≡ memory_answer → IsShown json raw a → a ≡ memory_answer
-memory_shown false raw a is (inl shown) = shown ∙ is
-memory_shown true raw a is (inl shown) = shown ∙ ap (shown_in true) is
-memory_shown json raw a is (inr refused) = refused.1
+memory_shown : (form : Form) (raw a : Answered) → raw ≡ memory_answer → IsShown form raw a → a ≡ memory_answer
+memory_shown Codes raw a is (inl shown) = shown ∙ is
+memory_shown Names raw a is (inl shown) = shown ∙ is
+memory_shown Object raw a is (inl shown) = shown ∙ ap (shown_in Object) is
+memory_shown form raw a is (inr refused) = refused.1
 
 -- what a command answers, as it is shown
 pub run_shown : (files : Option Files) (command : CommandWords) (before after : History) (stored : List NamedFile) (raw a : Answered)
-    → CommandAnswers files command before after stored raw → IsShown (is_json command) raw a → CommandRun files command before after stored a
-run_shown files command before after stored raw a (inl none) shown = inl (memory_shown (is_json command) raw a none.0 shown, none.1)
+    → CommandAnswers files command before after stored raw → IsShown (form_of_answer command) raw a → CommandRun files command before after stored a
+run_shown files command before after stored raw a (inl none) shown = inl (memory_shown (form_of_answer command) raw a none.0 shown, none.1)
 run_shown files command before after stored raw a (inr ends) shown = inr (record { raw = raw; ends = ends; shown = shown })
 
 -- what a command answers that has one form alone
-pub run_plain : (files : Option Files) (command : CommandWords) (before after : History) (stored : List NamedFile) (a : Answered) → is_json command ≡ false
+pub run_plain : (files : Option Files) (command : CommandWords) (before after : History) (stored : List NamedFile) (a : Answered) → form_of_answer command ≡ Codes
     → CommandAnswers files command before after stored a → CommandRun files command before after stored a
 run_plain files command before after stored a plain answers =
-    run_shown files command before after stored a a answers (inl (sym (ap (λ (json : Bool). shown_if json (is_refused_line a) a) plain)))
+    run_shown files command before after stored a a answers (inl (sym (ap (λ (form : Form). shown_if form (is_refused_line a) a) plain)))
 
 -- what a run of a command comes to, that writes to a sink as it goes on
 module _ (files later : Option Files) (listed last : Option (List NamedFile)) (before after : History) where
@@ -72,7 +75,7 @@ module _ (files later : Option Files) (listed last : Option (List NamedFile)) (b
 
 -- a command that writes nothing before its answer
 pub silent_run : (files later : Option Files) (listed last : Option (List NamedFile)) (before after : History) (held : Option (List ℕ)) (failed : Bool) (written : Written) (command meant : CommandWords)
-    (raw a : Answered) → command ≡ meant → Ran files later listed last before after meant raw → IsShown (is_json meant) raw a
+    (raw a : Answered) → command ≡ meant → Ran files later listed last before after meant raw → IsShown (form_of_answer meant) raw a
     → RanWriting files later listed last before after held held failed failed written written command a
 silent_run files later listed last before after held failed written command meant raw a is run shown =
     writing_run files later listed last before after held held failed failed written written command meant a is
@@ -95,13 +98,13 @@ meant_run files list before after stored a command meant taken run = inr (inr (r
 module _ {H W : Type 0} (contents : H → Option Files) (history : H → History) (stored_in : H → Option (List NamedFile)) (kept : W → Option (List ℕ)) (failed : W → Bool) (s t : H) where
   -- a command that writes nothing before its answer
   pub silent_end : (out : W) (written : Written) (command meant : CommandWords) (raw a : Answered) → command ≡ meant → Ran (contents s) (contents t) (stored_in s) (stored_in t) (history s) (history t) meant raw
-      → IsShown (is_json meant) raw a → RanWriting (contents s) (contents t) (stored_in s) (stored_in t) (history s) (history t) (kept out) (kept out) (failed out) (failed out) written written command a
+      → IsShown (form_of_answer meant) raw a → RanWriting (contents s) (contents t) (stored_in s) (stored_in t) (history s) (history t) (kept out) (kept out) (failed out) (failed out) written written command a
   silent_end out written command meant raw a is run shown =
       silent_run (contents s) (contents t) (stored_in s) (stored_in t) (history s) (history t) (kept out) (failed out) written command meant raw a is run shown
 
   -- and one that stores no file either
   pub quiet_end : (out : W) (written : Written) (command meant : CommandWords) (steps : Steps Answered) (end : Result RunAnswer Refusal) (a : Answered) → command ≡ meant → contents t ≡ contents s → stored_in t ≡ stored_in s
-      → ((a : Answered) → StepsEndIn steps (history s) (history t) a → CommandEnds (contents s) meant (history s) (history t) [] a) → Comes answer_of end (steps (history s) (history t)) → IsShown (is_json meant) (said_by end) a
+      → ((a : Answered) → StepsEndIn steps (history s) (history t) a → CommandEnds (contents s) meant (history s) (history t) [] a) → Comes answer_of end (steps (history s) (history t)) → IsShown (form_of_answer meant) (said_by end) a
       → RanWriting (contents s) (contents t) (stored_in s) (stored_in t) (history s) (history t) (kept out) (kept out) (failed out) (failed out) written written command a
   quiet_end out written command meant steps end a is same still k h shown =
       silent_end out written command meant (said_by end) a is (quiet_ran (contents s) (contents t) (stored_in s) (stored_in t) (history s) (history t) meant steps end same still k h) shown

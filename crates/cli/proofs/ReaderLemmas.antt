@@ -34,6 +34,7 @@ use Rattle.run_laws.specs.CheckSteps.{IsChecked, ChecksGiven}
 use Rattle.run_laws.specs.TableSteps.{Tabled}
 use Rattle.cli_reports.specs.Texts.{reported_of}
 use Rattle.cli.specs.Streams.{given_back, both_given_back, AreBack, checked_file}
+use Rattle.cli_words.specs.declared.words.Form.{Form}
 
 -- an answer that is shown
 pub shown : (refusal : Refusal) (want : Answered) (P : Answered → Type 0) → RefusalShows want refusal → P want → AnswerMeets refusal P
@@ -245,19 +246,19 @@ module _ {H S X : Type 0} (contents : H → Option Files) (history : H → Histo
       (ends (only_memory_of_names view read list a b sound sound_too (texts_given (λ p q. GivesUnless IsNamedRefused view read (list p q)) g x h y a b none none_too reads is is_too)))
 
 -- what was said of a certificate whose reader was given back
-pub said_checked : (json : Bool) (t : Tabled) (budget : ℕ) (g x given : Given) (checked : Result held.Reported CheckStop) (end : Result held.Reported Refusal) → g ≡ nothing_given → given ≡ x
-    → IfOk checked (λ k. ChecksGiven json t budget g x (reported_of k)) → MatchResult end (λ r. IsOkAnd checked (λ k. reported_of k ≡ reported_of r)) (λ refusal. refusal ≡ Memory)
-    → MatchResult end (λ r. IsChecked json t budget given (reported_of r)) (λ refusal. refusal ≡ Memory)
-said_checked json t budget g x given (Ok k) (Ok r) none same holds is =
+pub said_checked : (form : Form) (t : Tabled) (budget : ℕ) (g x given : Given) (checked : Result held.Reported CheckStop) (end : Result held.Reported Refusal) → g ≡ nothing_given → given ≡ x
+    → IfOk checked (λ k. ChecksGiven form t budget g x (reported_of k)) → MatchResult end (λ r. IsOkAnd checked (λ k. reported_of k ≡ reported_of r)) (λ refusal. refusal ≡ Memory)
+    → MatchResult end (λ r. IsChecked form t budget given (reported_of r)) (λ refusal. refusal ≡ Memory)
+said_checked form t budget g x given (Ok k) (Ok r) none same holds is =
     let begun : x.bytes ≡ holds.bytes = holds.are_given ∙ ap (λ (z : Given). z.bytes ++ holds.bytes) none in
-    let of_source : IsChecked json t budget x (reported_of k) = subst (λ (b : List ℕ). IsChecked json t budget (record { bytes = b; ended = x.ended }) (reported_of k)) (sym begun) holds.checked in
-    subst (IsChecked json t budget given) is (subst (λ (z : Given). IsChecked json t budget z (reported_of k)) (sym same) of_source)
-said_checked json t budget g x given (Err stop) (Ok r) none same holds is = absurd is
-said_checked json t budget g x given checked (Err refusal) none same holds is = is
+    let of_source : IsChecked form t budget x (reported_of k) = subst (λ (b : List ℕ). IsChecked form t budget (record { bytes = b; ended = x.ended }) (reported_of k)) (sym begun) holds.checked in
+    subst (IsChecked form t budget given) is (subst (λ (z : Given). IsChecked form t budget z (reported_of k)) (sym same) of_source)
+said_checked form t budget g x given (Err stop) (Ok r) none same holds is = absurd is
+said_checked form t budget g x given checked (Err refusal) none same holds is = is
 
 -- a certificate was read once, and this was said of it
 pub file_checked : (files : Option Files) (words : CertificateWords) (t : Tabled) (before between after : History) (given : Given) (end : Result held.Reported Refusal) → between ≡ before
-    → given_back files words.certificate.now between after (Ok given) → MatchResult end (λ r. IsChecked words.problem.common.json t words.budget given (reported_of r)) (λ refusal. refusal ≡ Memory)
+    → given_back files words.certificate.now between after (Ok given) → MatchResult end (λ r. IsChecked words.problem.common.form t words.budget given (reported_of r)) (λ refusal. refusal ≡ Memory)
     → Comes reported_of end (checked_file files words t before after)
 file_checked files words t before between after given end same (inl stop) said = absurd stop
 file_checked files words t before between after given (Ok r) same (inr on) said =

@@ -33,4 +33,4 @@ AreBack first second given other answer = ⊥
 -- the verdict on the certificate of a file
 abbrev pub checked_file : Option Files → CertificateWords → Tabled → Steps Reported
 checked_file files words t =
-    given_of files words.certificate.now >>= λ given. value_step (IsChecked words.problem.common.json t words.budget given)
+    given_of files words.certificate.now >>= λ given. value_step (IsChecked words.problem.common.form t words.budget given)

@@ -49,27 +49,27 @@ fn command_end<H: FileStore, W: Sink, V: Watcher>(
 {
     match command {
         CommandWords::Size(words) => {
-            shown(alloc, words.json, size(alloc, words, file_store, notes))
+            shown(alloc, words.form, size(alloc, words, file_store, notes))
         }
         CommandWords::Judge(words) => {
-            let json = words.problem.common.json;
-            shown(alloc, json, judge(alloc, words, file_store, notes))
+            let form = words.problem.common.form;
+            shown(alloc, form, judge(alloc, words, file_store, notes))
         }
         CommandWords::Solve(words) => {
-            let json = words.problem.common.json;
-            shown(alloc, json, solve(alloc, words, file_store, notes, watcher))
+            let form = words.problem.common.form;
+            shown(alloc, form, solve(alloc, words, file_store, notes, watcher))
         }
         CommandWords::Check(words) => {
-            let json = words.check.problem.common.json;
-            shown(alloc, json, check(alloc, words, file_store, notes))
+            let form = words.check.problem.common.form;
+            shown(alloc, form, check(alloc, words, file_store, notes))
         }
         CommandWords::Audit(words) => {
-            let json = words.problem.common.json;
-            shown(alloc, json, audit(alloc, words, file_store, notes))
+            let form = words.problem.common.form;
+            shown(alloc, form, audit(alloc, words, file_store, notes))
         }
         CommandWords::List(words) => {
-            let json = words.check.problem.common.json;
-            shown(alloc, json, list(alloc, words, file_store, notes))
+            let form = words.check.problem.common.form;
+            shown(alloc, form, list(alloc, words, file_store, notes))
         }
         CommandWords::Share(words) => share(alloc, words, file_store, notes),
         CommandWords::Piece(words) => piece(alloc, words, file_store, notes),

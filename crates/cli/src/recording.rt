@@ -8,7 +8,7 @@ ghost use Rattle.written_output.specs.Writing.{HasWritten, IsFresh, kept_of};
 ghost use Rattle.run_laws.specs.{Spoken.behind, Storing.{HasStored, store_steps}};
 ghost use Rattle.run_laws.specs.Run.{HasState, RunsAsAsked, RunsWithRecord};
 ghost use Rattle.run_laws.specs.Recording.{IsSaidAfter, RecordEnds, is_recorded as must_be_recorded};
-ghost use Rattle.run_laws.specs.Forms.{IsShown, is_json as has_object};
+ghost use Rattle.run_laws.specs.Forms.{IsShown, form_of_answer as form_in};
 ghost use Rattle.cli.specs.{Delivery.texts, Ends.{refusal_by, said_of}};
 
 use crate::command::command_answer;
@@ -19,22 +19,22 @@ use cli_answers::{FileOption, Refusal, RunAnswer};
 use cli_file_stores::{FileStore, Sink};
 use cli_record::{record_file, record_since};
 use cli_reports::shown;
-use cli_words::CommandWords;
+use cli_words::{CommandWords, Form};
 use std::alloc::{AllocError, Global};
 use written_output::Written;
 
-/// Returns whether the answer of `command` is an object.
-fn is_json(command: &CommandWords<'_>) -> bool
-    ensures { result ≡ has_object command.now }
+/// Returns the form of the answer of `command`.
+fn form_of_answer(command: &CommandWords<'_>) -> Form
+    ensures { result ≡ form_in command.now }
 {
     match command {
-        CommandWords::Size(words) => words.json,
-        CommandWords::Judge(words) => words.problem.common.json,
-        CommandWords::Solve(words) => words.problem.common.json,
-        CommandWords::Check(words) => words.check.problem.common.json,
-        CommandWords::Audit(words) => words.problem.common.json,
-        CommandWords::List(words) => words.check.problem.common.json,
-        CommandWords::Share(_) | CommandWords::Piece(_) | CommandWords::Worker(_) => false,
+        CommandWords::Size(words) => words.form,
+        CommandWords::Judge(words) => words.problem.common.form,
+        CommandWords::Solve(words) => words.problem.common.form,
+        CommandWords::Check(words) => words.check.problem.common.form,
+        CommandWords::Audit(words) => words.problem.common.form,
+        CommandWords::List(words) => words.check.problem.common.form,
+        CommandWords::Share(_) | CommandWords::Piece(_) | CommandWords::Worker(_) => Form::Codes,
     }
 }
 
@@ -45,11 +45,11 @@ fn is_recorded(status: u8) -> bool
     status == 0 || status == 1 || status == 3
 }
 
-/// Returns the answer to `refusal`, as an object if `json` is true. Returns `AllocError` if memory was refused.
-fn refusal_shown(alloc: Global, json: bool, refusal: Refusal) -> Result<RunAnswer, AllocError>
-    ensures { IsShown json (said_by (Err refusal)) (said_of result) }
+/// Returns the answer to `refusal` in this `form`. Returns `AllocError` if memory was refused.
+fn refusal_shown(alloc: Global, form: Form, refusal: Refusal) -> Result<RunAnswer, AllocError>
+    ensures { IsShown form (said_by (Err refusal)) (said_of result) }
 {
-    match shown(alloc, json, Err(refusal)) {
+    match shown(alloc, form, Err(refusal)) {
         Ok(answer) => Ok(answer),
         Err(Refusal::Shown(answer)) => Ok(answer),
         Err(Refusal::Memory) => Err(AllocError),
@@ -57,31 +57,31 @@ fn refusal_shown(alloc: Global, json: bool, refusal: Refusal) -> Result<RunAnswe
 }
 
 /// Returns the answer that stands once the record was handed over. It is `answer`, that of the run, or the answer to a
-/// refused file, as an object if `json` is true. Unless the record was stored, the text of `answer` is noted. Returns
-/// `AllocError` if `handed_over` says that memory was refused.
+/// refused file, in this `form`. Unless the record was stored, the text of `answer` is noted. Returns `AllocError` if
+/// `handed_over` says that memory was refused.
 fn answer_after(
     alloc: Global,
-    json: bool,
+    form: Form,
     handed_over: Result<(), Refusal>,
     answer: RunAnswer,
     notes: &mut Notes,
 ) -> Result<RunAnswer, AllocError>
-    ensures { IsSaidAfter json (refusal_by handed_over) (answer_of answer) (said_of result) }
+    ensures { IsSaidAfter form (refusal_by handed_over) (answer_of answer) (said_of result) }
 {
     match handed_over {
         Ok(()) => Ok(answer),
         Err(refusal) => {
             notes.note_report(answer.text);
-            refusal_shown(alloc, json, refusal)
+            refusal_shown(alloc, form, refusal)
         }
     }
 }
 
-/// Stores the `bytes` of a record. Returns the answer of the run, unless the file was refused. That is told by an object
-/// if `json` is true.
+/// Stores the `bytes` of a record. Returns the answer of the run, unless the file was refused, which is told in this
+/// `form`.
 fn store_bytes<H: FileStore>(
     alloc: Global,
-    json: bool,
+    form: Form,
     name: &str,
     bytes: Vec<u8>,
     answer: RunAnswer,
@@ -92,11 +92,11 @@ fn store_bytes<H: FileStore>(
         × HasStored (H.contents file_store.old) (H.contents file_store.new) (H.stored file_store.old) (H.stored file_store.new) last
         × store_steps (record { name = name.now; bytes = bytes.items }
         ∷ []) (H.history file_store.old) (H.history file_store.new) last refusal
-        × IsSaidAfter json refusal (answer_of answer) (said_of result) }
+        × IsSaidAfter form refusal (answer_of answer) (said_of result) }
 {
     let option = FileOption::Record;
     let handed_over = store_named(alloc, option, Some(name), Some(&bytes), file_store, notes);
-    answer_after(alloc, json, handed_over, answer, notes)
+    answer_after(alloc, form, handed_over, answer, notes)
 }
 
 /// Reports `AllocError`, since a growth was refused while the record was composed, and notes the text of `answer`.
@@ -167,8 +167,8 @@ fn store_composed<H: FileStore>(
 {
     match composed(alloc, words, command, first, written, &answer, file_store) {
         Some(bytes) => {
-            let json = is_json(command);
-            store_bytes(alloc, json, name, bytes, answer, file_store, notes)
+            let form = form_of_answer(command);
+            store_bytes(alloc, form, name, bytes, answer, file_store, notes)
         }
         None => uncomposed(answer, notes),
     }

@@ -7,6 +7,7 @@ ghost use Rattle.cli_reports.specs.Texts.{audited_of};
 use crate::forms::findings_in;
 use baf_auditor::{Assignment, Findings, audit, districts};
 use cli_answers::{RunAnswer, RunOutcome};
+use cli_words::Form;
 use county_codes::Grouping;
 use county_problem::Problem;
 use district_table::districts_table;
@@ -54,7 +55,7 @@ fn audit_outcome(findings: Findings) -> RunOutcome {
 }
 
 /// Returns what `audit` says of the assignments of a plan: all findings of `blocks` and `lines` against `grouping`. The
-/// table of the districts is beside them if it is `asked` for. The findings are an object if `json` is true.
+/// table of the districts is beside them if it is `asked` for. The findings have this `form`.
 ///
 /// The blocks ascend by code, as `read_blocks` gives them. There are at most 4,000,000 lines, as `read_assignments`
 /// gives them.
@@ -64,7 +65,7 @@ fn audit_outcome(findings: Findings) -> RunOutcome {
 /// Returns `AllocError` if memory was refused.
 pub fn audit_and_report(
     alloc: Global,
-    json: bool,
+    form: Form,
     problem: &Problem,
     grouping: &Grouping,
     blocks: &[Block],
@@ -74,11 +75,11 @@ pub fn audit_and_report(
     requires fits { All (λ block. block.code < 1000000000000000) blocks.now }
     requires ascending { IsStrictlyIncreasing (map (λ block. block.code) blocks.now) }
     requires few { length lines.now ≤ 4000000 }
-    ensures { IfOk result (λ s. IsAudited json asked problem.now grouping.now.groups.items blocks.now lines.now (audited_of s)) }
+    ensures { IfOk result (λ s. IsAudited form asked problem.now grouping.now.groups.items blocks.now lines.now (audited_of s)) }
 {
     let findings = audit(alloc, problem, grouping, blocks, lines)?;
     let table = table_if_asked(alloc, problem, grouping, blocks, lines, asked)?;
-    let text = findings_in(alloc, json, &findings)?;
+    let text = findings_in(alloc, form, &findings)?;
     let status = if findings.list.is_empty() { 0 } else { 1 };
     Ok(Audited {
         answer: RunAnswer {

@@ -6,14 +6,15 @@ ghost use Rattle.list_groupings.specs.{Answers.{IsListing, ListsAllBest}, Walkin
 ghost use Rattle.cli_answers.specs.Answers.{answer_of};
 ghost use Rattle.run_laws.specs.ListSteps.{IsListAnswer, gap_word, open_line, open_answer as answer_of_gap};
 ghost use Rattle.run_laws.specs.ListSteps.{grouping_numbered as numbered_in, listed_all, listed_by_number};
-ghost use Rattle.run_laws.specs.ListSteps.{listing_answer as answer_of_listing, listing_in as listing_in_form, listing_said, said_alone};
+ghost use Rattle.run_laws.specs.ListSteps.{listing_answer as answer_of_listing, listing_in as listing_in_form, listing_lines, listing_said, said_alone};
 ghost use Rattle.run_laws.specs.ListSteps.{table_of_all as table_text_of_all};
 ghost use Rattle.cli_reports.specs.Texts.{asked_of, listed_of, tabled_of};
 
-use crate::forms::{line_in, report_in};
+use crate::forms::{line_in, report_in, with_names};
 use crate::table_runs::Tabled;
 use crate::which_grouping::{number_in_list, push_number_line};
 use cli_answers::{RunAnswer, RunOutcome, budget_answer, no_answer};
+use cli_words::Form;
 use county_codes::Grouping;
 use county_problem::Problem;
 use field_lines::push_number;
@@ -119,7 +120,7 @@ fn listing_text_with(
     number: Option<Option<usize>>,
 ) -> Result<Vec<u8>, AllocError>
     requires { 1 ≤ length groupings.now }
-    ensures { IfOk result (λ v. v.items ≡ listing_in_form false problem.now None (map sets_held groupings.now) number) }
+    ensures { IfOk result (λ v. v.items ≡ listing_lines problem.now (map sets_held groupings.now) number) }
 {
     let mut text = listing(alloc, problem, groupings)?;
     if let Some(number) = number {
@@ -139,29 +140,31 @@ fn wider(number: Option<Option<usize>>) -> Option<Option<u64>>
     }
 }
 
-/// Returns the listing of `groupings`, with the `number` of a grouping behind it if that is asked for: an object if
-/// `json` is true, and else a text.
+/// Returns the listing of `groupings` in this `form`, with the `number` of a grouping behind it if that is asked for.
 fn listing_in(
     alloc: Global,
-    json: bool,
+    form: Form,
     tabled: &Tabled,
     groupings: &[Grouping],
     number: Option<Option<usize>>,
 ) -> Result<Vec<u8>, AllocError>
     requires { 1 ≤ length groupings.now }
     ensures { IfOk result (λ v. v.items
-        ≡ listing_in_form json tabled.now.problem (tabled_of tabled.now).named (map sets_held groupings.now) number) }
+        ≡ listing_in_form form tabled.now.problem (tabled_of tabled.now).named (map sets_held groupings.now) number) }
 {
-    if json {
-        listing_json(
+    match form {
+        Form::Codes => listing_text_with(alloc, &tabled.problem, groupings, number),
+        Form::Names => {
+            let text = listing_text_with(alloc, &tabled.problem, groupings, number)?;
+            with_names(alloc, tabled, text)
+        }
+        Form::Object => listing_json(
             alloc,
             &tabled.problem,
             &tabled.named,
             groupings,
             wider(number),
-        )
-    } else {
-        listing_text_with(alloc, &tabled.problem, groupings, number)
+        ),
     }
 }
 
@@ -169,25 +172,25 @@ fn listing_in(
 /// behind the listing. The status is then 1 if the grouping isn't listed.
 fn listing_answer(
     alloc: Global,
-    json: bool,
+    form: Form,
     tabled: &Tabled,
     groupings: &[Grouping],
     which: &Option<Grouping>,
 ) -> Result<RunAnswer, AllocError>
     requires { 1 ≤ length groupings.now }
     ensures { IfOk result (λ a. answer_of a
-        ≡ answer_of_listing json tabled.now.problem (tabled_of tabled.now).named (map sets_held groupings.now) (option_map sets_held which.now)) }
+        ≡ answer_of_listing form tabled.now.problem (tabled_of tabled.now).named (map sets_held groupings.now) (option_map sets_held which.now)) }
 {
     match which {
         None => Ok(RunAnswer {
-            text: listing_in(alloc, json, tabled, groupings, None)?,
+            text: listing_in(alloc, form, tabled, groupings, None)?,
             status: 0,
             outcome: RunOutcome::Done,
             subject: None,
         }),
         Some(grouping) => {
             let number = number_in_list(grouping, groupings);
-            let text = listing_in(alloc, json, tabled, groupings, Some(number))?;
+            let text = listing_in(alloc, form, tabled, groupings, Some(number))?;
             let status = if number.is_some() { 0 } else { 1 };
             Ok(RunAnswer {
                 text,
@@ -220,7 +223,7 @@ fn table_of_all(
 /// Returns the listing and the table, beside the `lines` of a grouping that is to be stored.
 fn report_listing(
     alloc: Global,
-    json: bool,
+    form: Form,
     tabled: &Tabled,
     groupings: &[Grouping],
     which: &Option<Grouping>,
@@ -228,9 +231,9 @@ fn report_listing(
 ) -> Result<Listed, AllocError>
     requires { 1 ≤ length groupings.now }
     ensures { IfOk result (λ s. listed_of s
-        ≡ listed_all json (tabled_of tabled.now) (map sets_held groupings.now) (option_map sets_held which.now) (option_map (λ t. t.items) lines)) }
+        ≡ listed_all form (tabled_of tabled.now) (map sets_held groupings.now) (option_map sets_held which.now) (option_map (λ t. t.items) lines)) }
 {
-    let answer = listing_answer(alloc, json, tabled, groupings, which)?;
+    let answer = listing_answer(alloc, form, tabled, groupings, which)?;
     let table = table_of_all(alloc, tabled, groupings)?;
     Ok(Listed {
         answer,
@@ -242,17 +245,17 @@ fn report_listing(
 /// Returns what is said of all best `groupings`. `asked` may give the number of one to store.
 fn report_all(
     alloc: Global,
-    json: bool,
+    form: Form,
     tabled: &Tabled,
     groupings: &[Grouping],
     asked: &Asked,
 ) -> Result<Listed, AllocError>
     requires { 1 ≤ length groupings.now }
     ensures { IfOk result (λ s. listed_of s
-        ≡ listed_by_number json (tabled_of tabled.now) (map sets_held groupings.now) (asked_of asked.now).which asked.now.number) }
+        ≡ listed_by_number form (tabled_of tabled.now) (map sets_held groupings.now) (asked_of asked.now).which asked.now.number) }
 {
     match asked.number {
-        None => report_listing(alloc, json, tabled, groupings, &asked.which, None),
+        None => report_listing(alloc, form, tabled, groupings, &asked.which, None),
         Some(number) => match numbered(groupings, number) {
             None => {
                 let outcome = RunOutcome::NoSuchGrouping(groupings.len());
@@ -261,7 +264,7 @@ fn report_all(
             }
             Some(grouping) => {
                 let lines = grouping_text(alloc, grouping)?;
-                report_listing(alloc, json, tabled, groupings, &asked.which, Some(lines))
+                report_listing(alloc, form, tabled, groupings, &asked.which, Some(lines))
             }
         },
     }
@@ -270,23 +273,23 @@ fn report_all(
 /// Returns what is said of `listing`.
 fn report_list(
     alloc: Global,
-    json: bool,
+    form: Form,
     tabled: &Tabled,
     asked: &Asked,
     listing: Listing,
 ) -> Result<Listed, AllocError>
     requires listing { (text : List ℕ) × (budget : ℕ) × IsListing (problem_of tabled.now.problem) text budget listing }
     requires all { ListsAllBest (problem_of tabled.now.problem) listing }
-    ensures { IfOk result (λ s. listed_of s ≡ listing_said json (tabled_of tabled.now) (asked_of asked.now) listing) }
+    ensures { IfOk result (λ s. listed_of s ≡ listing_said form (tabled_of tabled.now) (asked_of asked.now) listing) }
 {
     match listing {
-        Listing::All(groupings) => report_all(alloc, json, tabled, &groupings, asked),
+        Listing::All(groupings) => report_all(alloc, form, tabled, &groupings, asked),
         Listing::Open(gap, line) => {
             let answer = open_answer(alloc, gap, line)?;
-            Ok(alone(line_in(alloc, json, answer)?))
+            Ok(alone(line_in(alloc, form, answer)?))
         }
         Listing::Impossible => {
-            let text = report_in(alloc, json, tabled, &Outcome::Impossible)?;
+            let text = report_in(alloc, form, tabled, &Outcome::Impossible)?;
             Ok(alone(RunAnswer {
                 text,
                 status: 1,
@@ -296,11 +299,11 @@ fn report_list(
         }
         Listing::No(fault, line) => {
             let answer = no_answer(alloc, fault, line)?;
-            Ok(alone(line_in(alloc, json, answer)?))
+            Ok(alone(line_in(alloc, form, answer)?))
         }
         Listing::Budget => {
             let answer = budget_answer(alloc)?;
-            Ok(alone(line_in(alloc, json, answer)?))
+            Ok(alone(line_in(alloc, form, answer)?))
         }
     }
 }
@@ -308,21 +311,21 @@ fn report_list(
 /// Returns what `list` says of `text`: all best groupings, as the text of a certificate shows them, or the line that
 /// stands in the place of the listing. `asked` may ask for the lines of the grouping of a number, and for the number of
 /// a grouping. The table of all listed groupings is beside it if `tabled` has the names of the counties. The
-/// certificate is checked with this `budget`. What is said is an object if `json` is true.
+/// certificate is checked with this `budget`. What is said has this `form`.
 ///
 /// # Errors
 ///
 /// Returns `AllocError` if memory was refused.
 pub fn list_and_report(
     alloc: Global,
-    json: bool,
+    form: Form,
     tabled: &Tabled,
     text: &[u8],
     budget: u64,
     asked: &Asked,
 ) -> Result<Listed, AllocError>
-    ensures { IfOk result (λ s. IsListAnswer json (tabled_of tabled.now) budget (asked_of asked.now) text.now (listed_of s)) }
+    ensures { IfOk result (λ s. IsListAnswer form (tabled_of tabled.now) budget (asked_of asked.now) text.now (listed_of s)) }
 {
     let found = all_best(alloc, &tabled.problem, text, budget)?;
-    report_list(alloc, json, tabled, asked, found)
+    report_list(alloc, form, tabled, asked, found)
 }

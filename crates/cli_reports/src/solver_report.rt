@@ -23,6 +23,7 @@ use certificate_data::Certificate;
 use certificate_lines::WriteFault;
 use certificate_text::write;
 use cli_answers::{RunAnswer, RunOutcome};
+use cli_words::Form;
 use county_codes::Grouping;
 use grouping_report::{Outcome, grouping_text};
 use partial_trees::PartialTree;
@@ -58,19 +59,19 @@ fn certificate_lines(alloc: Global, certificate: &Certificate) -> Result<Vec<u8>
 /// Returns what is said of the best `grouping`, with its `certificate`.
 fn report_best(
     alloc: Global,
-    json: bool,
+    form: Form,
     tabled: &Tabled,
     grouping: Grouping,
     certificate: Certificate,
 ) -> Result<Solved, AllocError>
     requires lawful { Lawful (problem_of tabled.now.problem) grouping.groups.items }
     requires spelled { (text : List ℕ) × IsSpelling text (certificate_of certificate) }
-    ensures { IfOk result (λ s. SaysSolved json (tabled_of tabled.now) (solver.Best grouping certificate) (solved_of s)) }
+    ensures { IfOk result (λ s. SaysSolved form (tabled_of tabled.now) (solver.Best grouping certificate) (solved_of s)) }
 {
     let lines = certificate_lines(alloc, &certificate)?;
     let groups = grouping_text(alloc, &grouping)?;
     let table = table_of(alloc, tabled, &grouping)?;
-    let text = report_in(alloc, json, tabled, &Outcome::Best(grouping))?;
+    let text = report_in(alloc, form, tabled, &Outcome::Best(grouping))?;
     Ok(Solved {
         answer: RunAnswer {
             text,
@@ -88,15 +89,15 @@ fn report_best(
 /// Returns what is said if no grouping is lawful, with the `certificate` that shows it.
 fn report_impossible(
     alloc: Global,
-    json: bool,
+    form: Form,
     tabled: &Tabled,
     certificate: Certificate,
 ) -> Result<Solved, AllocError>
     requires { (text : List ℕ) × IsSpelling text (certificate_of certificate) }
-    ensures { IfOk result (λ s. SaysSolved json (tabled_of tabled.now) (solver.Impossible certificate) (solved_of s)) }
+    ensures { IfOk result (λ s. SaysSolved form (tabled_of tabled.now) (solver.Impossible certificate) (solved_of s)) }
 {
     let lines = certificate_lines(alloc, &certificate)?;
-    let text = report_in(alloc, json, tabled, &Outcome::Impossible)?;
+    let text = report_in(alloc, form, tabled, &Outcome::Impossible)?;
     Ok(Solved {
         answer: RunAnswer {
             text,
@@ -159,7 +160,7 @@ fn events_of_found(
 /// and the `part` that was proved of it being best.
 fn report_open(
     alloc: Global,
-    json: bool,
+    form: Form,
     tabled: &Tabled,
     found: Option<Grouping>,
     part: Option<PartialTree>,
@@ -167,12 +168,12 @@ fn report_open(
 ) -> Result<Solved, AllocError>
     requires lawful { NamesLawful tabled.now.problem (outcome.Open found steps) }
     requires part { (limit : ℕ) × IsFoundOpen (problem_of tabled.now.problem) limit found part }
-    ensures { IfOk result (λ s. SaysSolved json (tabled_of tabled.now) (solver.Open found part steps) (solved_of s)) }
+    ensures { IfOk result (λ s. SaysSolved form (tabled_of tabled.now) (solver.Open found part steps) (solved_of s)) }
 {
     let groups = lines_of(alloc, &found)?;
     let table = table_of_found(alloc, tabled, &found)?;
     let events = events_of_found(alloc, tabled, &found, part)?;
-    let text = report_in(alloc, json, tabled, &Outcome::Open(found, steps))?;
+    let text = report_in(alloc, form, tabled, &Outcome::Open(found, steps))?;
     Ok(Solved {
         answer: RunAnswer {
             text,
@@ -190,51 +191,50 @@ fn report_open(
 /// Returns what is said of `found`, the solver's answer, with the texts for the files of `solve`.
 fn report_answer(
     alloc: Global,
-    json: bool,
+    form: Form,
     tabled: &Tabled,
     found: SolverAnswer,
 ) -> Result<Solved, AllocError>
     requires answer { (limit : ℕ) × IsSolveAnswer (problem_of tabled.now.problem) limit found }
     requires best { SolveIsRight (problem_of tabled.now.problem) found }
-    ensures { IfOk result (λ s. SaysSolved json (tabled_of tabled.now) found (solved_of s)) }
+    ensures { IfOk result (λ s. SaysSolved form (tabled_of tabled.now) found (solved_of s)) }
 {
     match found {
         SolverAnswer::Best(grouping, certificate) => report_best(
             alloc,
-            json,
+            form,
             tabled,
             grouping,
             certificate,
         ),
         SolverAnswer::Impossible(certificate) => report_impossible(
             alloc,
-            json,
+            form,
             tabled,
             certificate,
         ),
         SolverAnswer::Open { found, part, steps } => {
-            report_open(alloc, json, tabled, found, part, steps)
+            report_open(alloc, form, tabled, found, part, steps)
         }
     }
 }
 
 /// Returns what `solve` says of a problem. The solver takes at most this number of `steps`. Its answer is told as a
-/// report, as an object if `json` is true, with the texts of its certificate, of its grouping, of its table and of its
-/// events. `watcher` is told how
-/// far the search is, and changes nothing of what is said.
+/// report in this `form`, with the texts of its certificate, of its grouping, of its table and of its events. `watcher`
+/// is told how far the search is, and changes nothing of what is said.
 ///
 /// # Errors
 ///
 /// Returns `AllocError` if memory was refused.
 pub fn solve_and_report<W: Watcher>(
     alloc: Global,
-    json: bool,
+    form: Form,
     tabled: &Tabled,
     steps: u64,
     watcher: &mut W,
 ) -> Result<Solved, AllocError>
-    ensures { IfOk result (λ s. IsSolved json (tabled_of tabled.now) steps (solved_of s)) }
+    ensures { IfOk result (λ s. IsSolved form (tabled_of tabled.now) steps (solved_of s)) }
 {
     let found = solve_watched(alloc, &tabled.problem, steps, watcher)?;
-    report_answer(alloc, json, tabled, found)
+    report_answer(alloc, form, tabled, found)
 }

@@ -13,7 +13,7 @@ use Rattle.cli_words.specs.declared.words.CommandWords.TheVariants.{Solve}
 use Rattle.cli_file_stores.specs.Files.{NamedFile, Files}
 use Rattle.cli_file_stores.specs.History.{History}
 use Rattle.cli_answers.specs.Answer.{Answered, success}
-use Rattle.run_laws.specs.Forms.{reads_names}
+use Rattle.run_laws.specs.Forms.{has_names, reads_names}
 use Rattle.run_laws.specs.FilesProblem.{AreNamesIf}
 use Rattle.run_laws.specs.TableSteps.{Tabled}
 use Rattle.run_laws.specs.SolveSteps.{Solved, SaysSolved, IsSolved, solve_steps, files_to_store}
@@ -31,7 +31,7 @@ pub record HasSaid (files : Files) (words : SolveWords) (stored : List NamedFile
   pub t : Tabled
   pub reads : ReadsTabled files words.problem (reads_names words.problem.common words.table) t
   pub s : Solved
-  pub solved : IsSolved words.problem.common.json t words.steps s
+  pub solved : IsSolved words.problem.common.form t words.steps s
   pub all : stored ≡ files_to_store words s
   pub said : a ≡ s.answer
 
@@ -41,7 +41,7 @@ module _ (files : Files) (words : SolveWords) (before after : History) (stored :
 
   solve_refuses : Refuses (solve_steps (Some files) words)
   solve_refuses = bind_refuses _ _ (tabled_refuses (Some files) words.problem names_read)
-      (λ t. value_refuses (IsSolved words.problem.common.json t words.steps))
+      (λ t. value_refuses (IsSolved words.problem.common.form t words.steps))
 
   said_of : (s : Solved) (between : History) → solve_steps (Some files) words before between (Ok s) → stored ≡ files_to_store words s → a ≡ s.answer
       → HasSaid files words stored a
@@ -79,7 +79,7 @@ pub record AgreesAs (files : Files) (words : SolveWords) (stored : List NamedFil
 
 module _ (files : Files) (words : SolveWords) (stored : List NamedFile) (a : Answered) (h : HasSaid files words stored a) where
   -- the names of the counties, if the answer is an object
-  pub object_names : AreNamesIf words.problem.common.json files words.problem.common h.t.named
+  pub object_names : AreNamesIf (has_names words.problem.common.form) files words.problem.common h.t.named
   object_names = names_shown files words.problem.common words.table h.t.named h.reads.names
 
   pub answer_is : (s : Solved) → h.s ≡ s → a ≡ s.answer
@@ -101,15 +101,15 @@ module _ (files : Files) (words : SolveWords) (stored : List NamedFile) (a : Ans
         (reads_again files others words.problem check.check.problem h.t.problem same h.reads.reads) certificate checked start end more b,
   )
 
-  proves : (found : solver.Answer) → IsSolveAnswer (problem_of h.t.problem) words.steps found → SaysSolved words.problem.common.json h.t found h.s
+  proves : (found : solver.Answer) → IsSolveAnswer (problem_of h.t.problem) words.steps found → SaysSolved words.problem.common.form h.t found h.s
       → a.status ≤ 1 → (answers : Answers) × AgreesAs files words stored a answers
   proves (Best g c) is said low = (
     best_said h.t.problem g.groups.items,
     record {
       tell = (h.t.problem, inl (g.groups.items, refl));
-      one = (h.t.named, object_names, answer_is _ said.2 ∙ ap success (best_report words.problem.common.json h.t.problem h.t.named g));
-      proof = stored_proof said.0 (best_said h.t.problem g.groups.items) (λ json named. omega arith)
-          (λ budget json t r same checked. checked_best h.t.problem said.0 budget json t same r checked g.groups.items
+      one = (h.t.named, object_names, answer_is _ said.2 ∙ ap success (best_report words.problem.common.form h.t.problem h.t.named g));
+      proof = stored_proof said.0 (best_said h.t.problem g.groups.items) (λ form named. omega arith)
+          (λ budget form t r same checked. checked_best h.t.problem said.0 budget form t same r checked g.groups.items
           (λ verdict. texts.agrees.best (problem_of h.t.problem) said.0 (certificate_of c) g.groups.items budget verdict said.1 is.1.proves is.1.target_is))
           (ap (λ (x : Solved). x.certificate) said.2);
     },
@@ -119,8 +119,8 @@ module _ (files : Files) (words : SolveWords) (stored : List NamedFile) (a : Ans
     record {
       tell = (h.t.problem, inr refl);
       one = (h.t.named, object_names, answer_is _ said.2);
-      proof = stored_proof said.0 (impossible_said h.t.problem) (λ json named. omega arith)
-          (λ budget json t r same checked. checked_impossible h.t.problem said.0 budget json t same r checked
+      proof = stored_proof said.0 (impossible_said h.t.problem) (λ form named. omega arith)
+          (λ budget form t r same checked. checked_impossible h.t.problem said.0 budget form t same r checked
           (λ verdict. texts.agrees.impossible (problem_of h.t.problem) said.0 (certificate_of c) budget verdict said.1 is.1.proves is.1.target_is))
           (ap (λ (x : Solved). x.certificate) said.2);
     },

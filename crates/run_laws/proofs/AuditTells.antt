@@ -17,7 +17,7 @@ use Rattle.cli_file_stores.specs.Files.{NamedFile, Files}
 use Rattle.cli_file_stores.specs.History.{History}
 use Rattle.cli_answers.specs.Answer.{Answered, success}
 use Rattle.cli_answers.specs.Refusals.{problem_answer}
-use Rattle.run_laws.specs.Forms.{size_in}
+use Rattle.run_laws.specs.Forms.{has_names, size_in}
 use Rattle.run_laws.specs.Steps.{StepsEndIn}
 use Rattle.run_laws.specs.FilesProblem.{AreNamesIf, AreCountiesOfFiles}
 use Rattle.run_laws.specs.ProblemSteps.{IsBuilt}
@@ -38,7 +38,7 @@ module _ (files : Files) where
       bind_refuses _ _ (blocks_refuse (Some files) words.census words.problem.common.state) (λ blocks.
       bind_refuses _ _ (grouping_refuses (Some files) words.grouping.now) (λ g.
       bind_refuses _ _ (assignments_refuse (Some files) words.assignments.now) (λ lines.
-      value_refuses (IsAudited words.problem.common.json (is_some words.districts) v g blocks lines)))))
+      value_refuses (IsAudited words.problem.common.form (is_some words.districts) v g blocks lines)))))
 
   -- the table of the districts is stored, if its file is named
   districts_stored : (name : Option (Bor (List ℕ))) (v : ProblemValue) (g : Grouping) (blocks : List Block) (lines : List Assignment) (table : Option (List ℕ)) (stored : List NamedFile)
@@ -53,7 +53,7 @@ module _ (files : Files) where
       let b = went _ _ p.between h.between h.s p.goes_on in
       let g = went _ _ b.between h.between h.s b.goes_on in
       let s = went _ _ g.between h.between h.s g.goes_on in
-      let audited : IsAudited words.problem.common.json (is_some words.districts) p.value g.value b.value s.value h.s = s.goes_on.1 in
+      let audited : IsAudited words.problem.common.form (is_some words.districts) p.value g.value b.value s.value h.s = s.goes_on.1 in
       record {
         v = p.value;
         problem = problem_found files words.problem before p.between p.value p.given;
@@ -70,7 +70,7 @@ module _ (files : Files) where
       }
 
   by_findings : (words : AuditWords) (stored : List NamedFile) (a : Answered) (findings : List Finding)
-      → a ≡ findings_answer words.problem.common.json findings → AuditTells files words stored a → Tells files (Audit words) stored a
+      → a ≡ findings_answer words.problem.common.form findings → AuditTells files words stored a → Tells files (Audit words) stored a
   by_findings words stored a [] said told = inl (same_status a _ said, told)
   by_findings words stored a (f ∷ fs) said told = inr (inl (same_status a _ said, told))
 
@@ -84,16 +84,16 @@ module _ (files : Files) where
 
   -- ---- size
   -- counties that may have names, and the steps behind them
-  record HasCounties (json : Bool) (words : CommonWords) (after : History) (a : Answered) : Type 0 where
+  record HasCounties (reads : Bool) (words : CommonWords) (after : History) (a : Answered) : Type 0 where
     between : History
     counties : List County
     counties_are : AreCountiesOfFiles files words counties
     named : Option (List CountyName)
-    named_are : AreNamesIf json files words named
+    named_are : AreNamesIf reads files words named
     sizes : sizes_of words named counties between after (Ok a)
 
-  has_counties : (json : Bool) (words : CommonWords) (before after : History) (a : Answered) → sizes_by json (Some files) words before after (Ok a)
-      → HasCounties json words after a
+  has_counties : (reads : Bool) (words : CommonWords) (before after : History) (a : Answered) → sizes_by reads (Some files) words before after (Ok a)
+      → HasCounties reads words after a
   has_counties false words before after a h =
       let c = went _ _ before after a h in
       record {
@@ -119,9 +119,9 @@ module _ (files : Files) where
   of_sizes_refuse : (words : CommonWords) (named : Option (List CountyName)) (counties : List County) → Refuses (sizes_of words named counties)
   of_sizes_refuse words named counties =
       bind_refuses _ _ (call_refuses problem_answer (IsBuilt counties [] [] words.chamber words.tolerance) problem_status)
-      (λ v. value_refuses (λ a. a ≡ success (size_in words.json v named)))
+      (λ v. value_refuses (λ a. a ≡ success (size_in words.form v named)))
 
-  sizes_refuse : (json : Bool) (words : CommonWords) → Refuses (sizes_by json (Some files) words)
+  sizes_refuse : (reads : Bool) (words : CommonWords) → Refuses (sizes_by reads (Some files) words)
   sizes_refuse false words = bind_refuses _ _ (counties_refuse (Some files) words) (of_sizes_refuse words None)
   sizes_refuse true words =
       bind_refuses _ _ (named_refuse (Some files) words) (λ named. of_sizes_refuse words (Some named) (without_names named))
@@ -129,9 +129,9 @@ module _ (files : Files) where
   size_ended : (words : CommonWords) (before after : History) (stored : List NamedFile) (a : Answered) → size_steps (Some files) words before after (Ok a)
       → Tells files (Size words) stored a
   size_ended words before after stored a h =
-      let c = has_counties words.json words before after a h in
+      let c = has_counties (has_names words.form) words before after a h in
       let b = went _ _ c.between after a c.sizes in
-      let said : a ≡ success (size_in words.json b.value c.named) = b.goes_on.1 in
+      let said : a ≡ success (size_in words.form b.value c.named) = b.goes_on.1 in
       inl (
         same_status a _ said,
         record {
@@ -152,4 +152,4 @@ module _ (files : Files) where
     where
       by_end : StepsEndIn (size_steps (Some files) words) before after a → Tells files (Size words) stored a
       by_end (inl ended) = size_ended words before after stored a ended
-      by_end (inr stop) = absurd (not_refused a low (sizes_refuse words.json words before after a stop))
+      by_end (inr stop) = absurd (not_refused a low (sizes_refuse (has_names words.form) words before after a stop))

@@ -10,7 +10,7 @@ use Rattle.cli_file_stores.specs.Files.{NamedFile, Files}
 use Rattle.cli_file_stores.specs.History.{History}
 use Rattle.cli_answers.specs.Answer.{Answered, budget_answer}
 use Rattle.cli_answers.specs.CheckLines.{no_answer}
-use Rattle.run_laws.specs.Forms.{reads_names}
+use Rattle.run_laws.specs.Forms.{has_names, reads_names}
 use Rattle.run_laws.specs.TableSteps.{Tabled, Reported}
 use Rattle.run_laws.specs.FilesProblem.{AreNamesIf, IsProblemOfFiles}
 use Rattle.run_laws.specs.CheckSteps.{IsChecked, check_steps, verdict_said, verdict_table}
@@ -29,11 +29,11 @@ module _ (files : Files) (words : CheckWords) (stored : List NamedFile) (a : Ans
   problem = problem_of_files files words.check.problem t.problem reads.reads
 
   -- the names of the counties, if the answer is an object
-  named_are : AreNamesIf words.check.problem.common.json files words.check.problem.common t.named
+  named_are : AreNamesIf (has_names words.check.problem.common.form) files words.check.problem.common t.named
   named_are = names_shown files words.check.problem.common words.table t.named reads.names
 
   verdict_tells : (verdict : Verdict) → IsCheckAnswer (problem_of t.problem) text words.check.budget verdict → CheckIsRight (problem_of t.problem) verdict → ShowsImpossible (problem_of t.problem) verdict
-      → a ≡ verdict_said words.check.problem.common.json t verdict → r.table ≡ verdict_table t verdict → Tells files (Check words) stored a
+      → a ≡ verdict_said words.check.problem.common.form t verdict → r.table ≡ verdict_table t verdict → Tells files (Check words) stored a
   verdict_tells (Best g) is best none said table = inl (
     same_status a _ said,
     record {
@@ -52,7 +52,7 @@ module _ (files : Files) (words : CheckWords) (stored : List NamedFile) (a : Ans
     inl (record { v = t.problem; problem = problem; none = none; named = t.named; named_are = named_are; answer = said }),
   ))
   verdict_tells (No fault line) is best none said table = inr (inl (
-    same_status a _ said ∙ line_status words.check.problem.common.json (no_answer fault line),
+    same_status a _ said ∙ line_status words.check.problem.common.form (no_answer fault line),
     inr (record {
       v = t.problem;
       problem = problem;
@@ -65,7 +65,7 @@ module _ (files : Files) (words : CheckWords) (stored : List NamedFile) (a : Ans
     }),
   ))
   verdict_tells Budget is best none said table = inr (inr (
-    same_status a _ said ∙ line_status words.check.problem.common.json budget_answer,
+    same_status a _ said ∙ line_status words.check.problem.common.form budget_answer,
     record { v = t.problem; problem = problem; certificate = text; certificate_is = held; above = is; answer = said },
   ))
 
@@ -73,14 +73,14 @@ check_refuses : (files : Files) (words : CheckWords) → Refuses (check_steps (S
 check_refuses files words =
     bind_refuses _ _ (tabled_refuses (Some files) words.check.problem (reads_names words.check.problem.common words.table)) (λ t.
     bind_refuses _ _ (given_refuses (Some files) words.check.certificate.now)
-    (λ given. value_refuses (IsChecked words.check.problem.common.json t words.check.budget given)))
+    (λ given. value_refuses (IsChecked words.check.problem.common.form t words.check.budget given)))
 
 ended_tells : (files : Files) (words : CheckWords) (before : History) (stored : List NamedFile) (a : Answered)
     → HasEnded (check_steps (Some files) words) (λ r. named_file words.table r.table) (λ r. r.answer) before stored a → Tells files (Check words) stored a
 ended_tells files words before stored a h =
     let p = went _ _ before h.between h.s h.given in
     let t = went _ _ p.between h.between h.s p.goes_on in
-    let c : IsChecked words.check.problem.common.json p.value words.check.budget t.value h.s = t.goes_on.1 in
+    let c : IsChecked words.check.problem.common.form p.value words.check.budget t.value h.s = t.goes_on.1 in
     let reads = tabled_reads files words.check.problem (reads_names words.check.problem.common words.table) before p.between p.value p.given in
     let begun = given_of_found files words.check.certificate.now p.between t.between t.value t.given in
     verdict_tells files words stored a p.value reads begun.text begun.is h.s h.all

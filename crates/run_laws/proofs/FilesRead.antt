@@ -28,7 +28,7 @@ use Rattle.cli_words.specs.declared.words.CountyWords.TheVariants.{Census, Peopl
 use Rattle.cli_words.specs.declared.words.ProblemWords.{ProblemWords}
 use Rattle.cli_file_stores.specs.Files.{NamedFile, Files}
 use Rattle.cli_file_stores.specs.History.{History}
-use Rattle.run_laws.specs.Forms.{reads_names}
+use Rattle.run_laws.specs.Forms.{has_names, reads_names}
 use Rattle.run_laws.specs.Steps.{Steps, ◌>>=◌, GoesOn}
 use Rattle.run_laws.specs.ProblemSteps.{IsBuilt, counties_by, links_of, withdrawn_of, problem_over, problem_steps}
 use Rattle.run_laws.specs.TableSteps.{Tabled, named_counties_by, tabled_problem_in, table_of}
@@ -38,6 +38,8 @@ use Rattle.run_laws.specs.Storing.{IsStoredAs, named_file}
 use Rattle.run_laws.specs.Agreement.{HoldsSameIfNamed, HasSameCounties, HasSameProblem}
 use Rattle.run_laws.proofs.Texts.{given_of_both_found}
 use Rattle.run_laws.proofs.NamedLists.{counties_named, people_named}
+use Rattle.cli_words.specs.declared.words.Form.{Form}
+use Rattle.cli_words.specs.declared.words.Form.TheVariants.{Codes, Names, Object}
 
 -- the readers' values behind the counties, and the problem that is built of them
 pub record ReadsOver (files : Files) (words : ProblemWords) (counties : List County) (v : ProblemValue) : Type 0 where
@@ -171,15 +173,16 @@ module _ (files : Files) where
       let listed : people_list h.table state ≡ Ok (without_names named) = people_named h.table state named h.are in
       record { table = h.table; table_is = h.table_is; faultless = listed; are = counties_are_of_table h.table state (without_names named) listed }
 
-  -- names that are read for a table or for an object are those of an object
-  names_if : (json : Bool) (words : CommonWords) (named : Option (List CountyName)) → AreNamesIf true files words named → AreNamesIf json files words named
-  names_if false words named h = tt
-  names_if true words named h = h
+  -- names that are read for a table or for the answer are those of the answer
+  names_if : (form : Form) (words : CommonWords) (named : Option (List CountyName)) → AreNamesIf true files words named → AreNamesIf (has_names form) files words named
+  names_if Codes words named h = tt
+  names_if Names words named h = h
+  names_if Object words named h = h
 
   pub names_shown : (words : CommonWords) (table : Option (Bor (List ℕ))) (named : Option (List CountyName))
-      → AreNamesIf (reads_names words table) files words named → AreNamesIf words.json files words named
+      → AreNamesIf (reads_names words table) files words named → AreNamesIf (has_names words.form) files words named
   names_shown words None named h = h
-  names_shown words (Some table) named h = names_if words.json words named h
+  names_shown words (Some table) named h = names_if words.form words named h
 
   -- the problem of steps that may read names
   pub record ReadsTabled (words : ProblemWords) (names_read : Bool) (t : Tabled) : Type 0 where

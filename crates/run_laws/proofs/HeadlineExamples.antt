@@ -216,7 +216,7 @@ module _ (files : Files) (words : ListWords) (stored : List NamedFile) (a : Answ
 
   no_number : (told : ListTellsAll files words stored a) → told.which ≡ None → a.status ≡ 1 → ⊥
   no_number told none one =
-      let zero : a.status ≡ 0 = ap (λ (x : Answered). x.status) (told.answer ∙ ap (listing_answer words.check.problem.common.json told.v told.named told.groupings) none) in
+      let zero : a.status ≡ 0 = ap (λ (x : Answered). x.status) (told.answer ∙ ap (listing_answer words.check.problem.common.form told.v told.named told.groupings) none) in
       omega (arith, zero, one)
 
   which_is_none : (name : Option (Bor (List ℕ))) (which : Option Grouping) → name ≡ None → IsGroupingIfNamed files name which → which ≡ None

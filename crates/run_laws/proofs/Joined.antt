@@ -26,9 +26,9 @@ module _ (files : Files) (words : ShareWords) (s : Shared) (h : HasShared files 
   -- every check of the text says that the target is best
   joined_checks : ChecksAs files words.board.problem text (best_said h.v j.target)
   joined_checks others check start end none b same certificate run =
-      check_agrees others check h.v text (best_said h.v j.target) (λ json named. omega arith)
+      check_agrees others check h.v text (best_said h.v j.target) (λ form named. omega arith)
       (reads_again files others words.board.problem check.check.problem h.v same h.reads) certificate
-      (λ budget json t r alike checked. checked_best h.v text budget json t alike r checked j.target
+      (λ budget form t r alike checked. checked_best h.v text budget form t alike r checked j.target
       (λ verdict. texts.agrees.best (problem_of h.v) text (record { round = h.shared.last.round; tree = j.tree }) j.target budget verdict j.spells j.certifies j.target_is))
       start end none b run
 

@@ -11,7 +11,7 @@ use Rattle.cli_file_stores.specs.Files.{NamedFile, Files}
 use Rattle.cli_file_stores.specs.History.{History}
 use Rattle.cli_answers.specs.Answer.{Answered}
 use Rattle.cli_answers.specs.Refusals.{verdict_answer}
-use Rattle.run_laws.specs.Forms.{line_in, reads_names}
+use Rattle.run_laws.specs.Forms.{has_names, line_in, reads_names}
 use Rattle.run_laws.specs.Steps.{Steps, ◌>>=◌, load_step, value_step}
 use Rattle.run_laws.specs.TableSteps.{Tabled, Reported}
 use Rattle.run_laws.specs.FilesProblem.{AreNamesIf, IsProblemOfFiles, IsTableOfFiles, IsGroupingOfFile}
@@ -31,6 +31,7 @@ use Rattle.run_laws.proofs.AnswerStatus.{verdict_status}
 use Rattle.run_laws.proofs.Judgments.{best_of_same}
 use Rattle.run_laws.proofs.FilesRead.{ReadsTabled, names_shown, went, tabled_reads, problem_of_files, table_stored}
 use Rattle.run_laws.proofs.FilesProblemLemmas.{grouping_found}
+use Rattle.cli_words.specs.declared.words.Form.{Form}
 
 certificate_refuses : (files : Option Files) (name : Option (Bor (List ℕ))) → Refuses (certificate_text_of files name)
 certificate_refuses files None = value_refuses (λ (held : Option (List ℕ)). held ≡ None)
@@ -39,25 +40,25 @@ certificate_refuses files (Some name) =
     (λ text. value_refuses (λ (held : Option (List ℕ)). held ≡ Some text))
 
 -- what is said of a lawful grouping that isn't shown to be beaten
-abbrev IsSaidLawful : Bool → Tabled → Grouping → Answered → Type 0
-IsSaidLawful json t g a =
-    (a ≡ lawful_answer json t.problem t.named g) ⊎ ((a ≡ best_answer json t.problem t.named g) × IsBest (problem_of t.problem) g)
+abbrev IsSaidLawful : Form → Tabled → Grouping → Answered → Type 0
+IsSaidLawful form t g a =
+    (a ≡ lawful_answer form t.problem t.named g) ⊎ ((a ≡ best_answer form t.problem t.named g) × IsBest (problem_of t.problem) g)
 
 -- what is said of one that is: a target is best, and has greater counts
-record IsSaidGreater (json : Bool) (t : Tabled) (g : Grouping) (a : Answered) : Type 0 where
+record IsSaidGreater (form : Form) (t : Tabled) (g : Grouping) (a : Answered) : Type 0 where
   target : Grouping
   best : IsBest (problem_of t.problem) target
   greater : IsGreater (counts (sets_of target)) (counts (sets_of g))
-  said : a ≡ greater_answer json t.problem t.named g target
+  said : a ≡ greater_answer form t.problem t.named g target
 
 -- what is said of a lawful grouping
-said_so : (json : Bool) (t : Tabled) (g : Grouping) (budget : ℕ) (text : Option (List ℕ)) (a : Answered) → Lawful (problem_of t.problem) g
-    → IsSaidOf json t g budget text a → IsSaidLawful json t g a ⊎ IsSaidGreater json t g a
-said_so json t g budget None a lawful is = inl (inl is)
-said_so json t g budget (Some text) a lawful by = go by.verdict by.right by.said
+said_so : (form : Form) (t : Tabled) (g : Grouping) (budget : ℕ) (text : Option (List ℕ)) (a : Answered) → Lawful (problem_of t.problem) g
+    → IsSaidOf form t g budget text a → IsSaidLawful form t g a ⊎ IsSaidGreater form t g a
+said_so form t g budget None a lawful is = inl (inl is)
+said_so form t g budget (Some text) a lawful by = go by.verdict by.right by.said
   where
-    go : (verdict : Verdict) → CheckIsRight (problem_of t.problem) verdict → SaysBeside json t g verdict a
-        → IsSaidLawful json t g a ⊎ IsSaidGreater json t g a
+    go : (verdict : Verdict) → CheckIsRight (problem_of t.problem) verdict → SaysBeside form t g verdict a
+        → IsSaidLawful form t g a ⊎ IsSaidGreater form t g a
     go (Best target) right (inl said) = inl (inr (said.1, best_of_same (problem_of t.problem) g target.groups.items lawful right said.0))
     go (Best target) right (inr said) = inr (record { target = target.groups.items; best = right; greater = said.0; said = said.1 })
     go Impossible right said = inl (inl said)
@@ -66,15 +67,15 @@ said_so json t g budget (Some text) a lawful by = go by.verdict by.right by.said
 
 module _ (files : Files) (words : JudgeWords) where
   -- whether the answer is an object, and whether the names of the counties are read
-  abbrev json : Bool
-  json = words.problem.common.json
+  abbrev form : Form
+  form = words.problem.common.form
 
   abbrev names_read : Bool
   names_read = reads_names words.problem.common words.table
 
   -- the steps behind the problem, and behind the grouping
   abbrev with_grouping : Tabled → Grouping → Steps Reported
-  with_grouping t g = certificate_text_of (Some files) words.certificate >>= judge_step json t g words.budget
+  with_grouping t g = certificate_text_of (Some files) words.certificate >>= judge_step form t g words.budget
 
   abbrev with_problem : Tabled → Steps Reported
   with_problem t = grouping_of (Some files) words.grouping.now >>= with_grouping t
@@ -85,7 +86,7 @@ module _ (files : Files) (words : JudgeWords) where
 
   module _ (t : Tabled) (reads : ReadsTabled files words.problem names_read t) (after : History) (a : Answered) where
     step_stops : (g : Grouping) → IsGroupingOfFile files words.grouping.now g → (text : Option (List ℕ)) (start : History)
-        → judge_step json t g words.budget text start after (Err a) → StopsAtFault a
+        → judge_step form t g words.budget text start after (Err a) → StopsAtFault a
     step_stops g from text start h = inr (record {
       v = t.problem;
       problem = problem_of_files files words.problem t.problem reads.reads;
@@ -124,12 +125,12 @@ module _ (files : Files) (words : JudgeWords) where
       by_said p.value g.value (names_shown files words.problem.common words.table p.value.named reads.names)
       (problem_of_files files words.problem p.value.problem reads.reads) (grouping_found files words.grouping.now p.between g.between g.value g.given) reported.0
       (table_stored files words.problem words.table p.value g.value h.s.table [] stored reads reported.1.1 h.all)
-      (said_so json p.value g.value words.budget c.value h.s.answer reported.0 reported.1.0)
+      (said_so form p.value g.value words.budget c.value h.s.answer reported.0 reported.1.0)
     where
-      by_said : (t : Tabled) (g : Grouping) → AreNamesIf json files words.problem.common t.named → IsProblemOfFiles files words.problem t.problem
+      by_said : (t : Tabled) (g : Grouping) → AreNamesIf (has_names form) files words.problem.common t.named → IsProblemOfFiles files words.problem t.problem
           → IsGroupingOfFile files words.grouping.now g → Lawful (problem_of t.problem) g
           → IsStoredAs words.table (IsTableOfFiles files words.problem t.problem g) stored
-          → IsSaidLawful json t g h.s.answer ⊎ IsSaidGreater json t g h.s.answer → TellsOfLawful stored a
+          → IsSaidLawful form t g h.s.answer ⊎ IsSaidGreater form t g h.s.answer → TellsOfLawful stored a
       by_said t g named_are problem grouping_is lawful table (inl said) = inl (record {
         v = t.problem;
         problem = problem;
@@ -142,7 +143,7 @@ module _ (files : Files) (words : JudgeWords) where
         table = table;
       })
         where
-          said_of : IsSaidLawful json t g h.s.answer → IsSaidLawful json t g a
+          said_of : IsSaidLawful form t g h.s.answer → IsSaidLawful form t g a
           said_of (inl is) = inl (h.said ∙ is)
           said_of (inr is) = inr (h.said ∙ is.0, is.1)
       by_said t g named_are problem grouping_is lawful table (inr said) = inr (record {
@@ -161,16 +162,16 @@ module _ (files : Files) (words : JudgeWords) where
       })
 
   -- ---- a run
-  lawful_status : (t : Tabled) (g : Grouping) (a : Answered) → IsSaidLawful json t g a → a.status ≡ 0
-  lawful_status t g a (inl said) = same_status a (lawful_answer json t.problem t.named g) said
-  lawful_status t g a (inr said) = same_status a (best_answer json t.problem t.named g) said.0
+  lawful_status : (t : Tabled) (g : Grouping) (a : Answered) → IsSaidLawful form t g a → a.status ≡ 0
+  lawful_status t g a (inl said) = same_status a (lawful_answer form t.problem t.named g) said
+  lawful_status t g a (inr said) = same_status a (best_answer form t.problem t.named g) said.0
 
-  fault_status : (f : GroupingFault) (a : Answered) → a ≡ line_in json (verdict_answer f) → a.status ≤ 3
+  fault_status : (f : GroupingFault) (a : Answered) → a ≡ line_in form (verdict_answer f) → a.status ≤ 3
       → ((verdict_answer f).status ≡ 1) ⊎ ((verdict_answer f).status ≡ 5) → a.status ≡ 1
   fault_status f a said low which = by_status which
     where
       same : a.status ≡ (verdict_answer f).status
-      same = same_status a (line_in json (verdict_answer f)) said ∙ line_status json (verdict_answer f)
+      same = same_status a (line_in form (verdict_answer f)) said ∙ line_status form (verdict_answer f)
 
       by_status : ((verdict_answer f).status ≡ 1) ⊎ ((verdict_answer f).status ≡ 5) → a.status ≡ 1
       by_status (inl one) = same ∙ one

@@ -26,7 +26,7 @@ use Rattle.pl94_counties.specs.CountyNames.{CountyName}
 use Rattle.cli_file_stores.specs.Files.{NamedFile, Files}
 use Rattle.cli_file_stores.specs.History.{History}
 use Rattle.cli_answers.specs.Answer.{Answered, memory_answer}
-use Rattle.run_laws.specs.Forms.{line_in, reads_names, shown_in, IsShown}
+use Rattle.run_laws.specs.Forms.{has_names, IsShown, line_in, reads_names, shown_in}
 use Rattle.run_laws.specs.Steps.{Steps, ◌>>=◌, load_step, value_step}
 use Rattle.run_laws.specs.TableSteps.{Tabled, tabled_problem_in}
 use Rattle.run_laws.specs.FilesProblem.{AreNamesIf, IsGroupingIfNamed}
@@ -44,71 +44,72 @@ use Rattle.run_laws.proofs.Shown.{IsStopped, at_name, shown_or_cut, cut_shown, s
 use Rattle.run_laws.proofs.ListTells.{listing_status}
 use Rattle.run_laws.proofs.Listings.{never_open}
 use Rattle.run_laws.proofs.Agrees.{HasSaid, has_said, stored_later, stored_first, other_status}
+use Rattle.cli_words.specs.declared.words.Form.{Form}
 
 -- what a list of a problem says by a complete certificate, if a grouping's number is asked for
-record SaysAll (json : Bool) (v : ProblemValue) (named : Option (List CountyName)) (which : Option Grouping) (a : Answered) : Type 0 where
+record SaysAll (form : Form) (v : ProblemValue) (named : Option (List CountyName)) (which : Option Grouping) (a : Answered) : Type 0 where
   groupings : List Grouping
   all : AreAllBest (problem_of v) groupings
   in_order : AreInOrder groupings
-  answer : a ≡ listing_answer json v named groupings which
+  answer : a ≡ listing_answer form v named groupings which
 
 at_most_one : (n : ℕ) → (n ≡ 0) ⊎ (n ≡ 1) → n ≤ 3
 at_most_one n (inl zero) = omega (arith, zero)
 at_most_one n (inr one) = omega (arith, one)
 
 -- all of them, no grouping of the number, or that the budget is too small
-abbrev SaysAllOrStops : Bool → ProblemValue → Option (List CountyName) → Option Grouping → Answered → Type 0
-SaysAllOrStops json v named which a = SaysAll json v named which a ⊎ ((a ≡ no_such_grouping) ⊎ IsCutOff json a)
+abbrev SaysAllOrStops : Form → ProblemValue → Option (List CountyName) → Option Grouping → Answered → Type 0
+SaysAllOrStops form v named which a = SaysAll form v named which a ⊎ ((a ≡ no_such_grouping) ⊎ IsCutOff form a)
 
 -- what every list by a text says that has this problem
 abbrev ListsSay : ProblemValue → List ℕ → Type 0
 ListsSay v text =
-    (budget : ℕ) (json : Bool) (t : Tabled) → t.problem ≡ v → (asked : Asked) (s : Listed) → IsListAnswer json t budget asked text s
-    → SaysAllOrStops json v t.named asked.which s.answer
+    (budget : ℕ) (form : Form) (t : Tabled) → t.problem ≡ v → (asked : Asked) (s : Listed) → IsListAnswer form t budget asked text s
+    → SaysAllOrStops form v t.named asked.which s.answer
 
 -- that no grouping has the number is a line
-none_line : (json : Bool) → shown_in json no_such_grouping ≡ line_in json no_such_grouping
+none_line : (form : Form) → shown_in form no_such_grouping ≡ line_in form no_such_grouping
 none_line false = refl
 none_line true = refl
 
 -- what is said of a text that spells a certificate with a complete tree
 module _ (v : ProblemValue) (text : List ℕ) (c : Certificate) (g : Grouping) (spelling : IsSpelling text c) (is : IsCertificate (problem_of v) c.round c.tree)
-    (target : c.round.target ≡ Some g) (complete : IsComplete c.tree (problem_of v) c.round (empty_state (problem_of v))) (budget : ℕ) (json : Bool) where
+    (target : c.round.target ≡ Some g) (complete : IsComplete c.tree (problem_of v) c.round (empty_state (problem_of v))) (budget : ℕ) (form : Form) where
   module _ (t : Tabled) (same : t.problem ≡ v) (groupings : List Grouping) (all : AreAllBest (problem_of v) groupings)
       (in_order : AreInOrder groupings) (which : Option Grouping) where
-    listing_is : listing_answer json t.problem t.named groupings which ≡ listing_answer json v t.named groupings which
-    listing_is = ap (λ (w : ProblemValue). listing_answer json w t.named groupings which) same
+    listing_is : listing_answer form t.problem t.named groupings which ≡ listing_answer form v t.named groupings which
+    listing_is = ap (λ (w : ProblemValue). listing_answer form w t.named groupings which) same
 
-    says_numbered : (h : Option Grouping) → SaysAllOrStops json v t.named which (listed_with json t groupings which h).answer
+    says_numbered : (h : Option Grouping) → SaysAllOrStops form v t.named which (listed_with form t groupings which h).answer
     says_numbered None = inr (inl refl)
     says_numbered (Some h) = inl (record { groupings = groupings; all = all; in_order = in_order; answer = listing_is })
 
-    says_all : (number : Option ℕ) → SaysAllOrStops json v t.named which (listed_by_number json t groupings which number).answer
+    says_all : (number : Option ℕ) → SaysAllOrStops form v t.named which (listed_by_number form t groupings which number).answer
     says_all None = inl (record { groupings = groupings; all = all; in_order = in_order; answer = listing_is })
     says_all (Some number) = says_numbered (grouping_numbered groupings number)
 
   says : (t : Tabled) → t.problem ≡ v → (asked : Asked) (listing : Listing) → IsListing (problem_of v) text budget listing → ListsAllBest (problem_of v) listing
-      → SaysAllOrStops json v t.named asked.which (listing_said json t asked listing).answer
+      → SaysAllOrStops form v t.named asked.which (listing_said form t asked listing).answer
   says t same asked (All list) h all = says_all t same (map sets_held list.items) all.0 all.1 asked.which asked.number
   says t same asked (Open gap line) h all = absurd (never_open (problem_of v) text budget c gap line spelling complete h)
   says t same asked Impossible h all = absurd (texts.agrees.best (problem_of v) text c g budget verdict.Impossible spelling is target h)
   says t same asked (No fault line) h all = absurd (texts.agrees.best (problem_of v) text c g budget (verdict.No fault line) spelling is target h)
   says t same asked Budget h all = inr (inr (inl refl))
 
-  listed_says : (t : Tabled) → t.problem ≡ v → (asked : Asked) (s : Listed) → IsListAnswer json t budget asked text s
-      → SaysAllOrStops json v t.named asked.which s.answer
+  listed_says : (t : Tabled) → t.problem ≡ v → (asked : Asked) (s : Listed) → IsListAnswer form t budget asked text s
+      → SaysAllOrStops form v t.named asked.which s.answer
   listed_says t same asked s h =
       let listed = subst (λ (w : ProblemValue). IsListing (problem_of w) text budget h.listing) same h.is in
       let all = subst (λ (w : ProblemValue). ListsAllBest (problem_of w) h.listing) same h.all in
-      subst (λ (x : Listed). SaysAllOrStops json v t.named asked.which x.answer) (sym h.said) (says t same asked h.listing listed all)
+      subst (λ (x : Listed). SaysAllOrStops form v t.named asked.which x.answer) (sym h.said) (says t same asked h.listing listed all)
 
 -- a list by this text over files that tell the problem
 module _ (others : Files) (list : ListWords) (which : Option Grouping) (v : ProblemValue) (text : List ℕ)
     (reads : ReadsProblem others list.check.problem v) (certificate : others list.check.certificate.now ≡ Some text)
     (which_is : IsGroupingIfNamed others list.which which) (listed : ListsSay v text) where
   -- whether its answer is an object, and whether it reads the names of the counties
-  abbrev json : Bool
-  json = list.check.problem.common.json
+  abbrev form : Form
+  form = list.check.problem.common.form
 
   abbrev names_read : Bool
   names_read = reads_names list.check.problem.common list.groupings
@@ -116,8 +117,8 @@ module _ (others : Files) (list : ListWords) (which : Option Grouping) (v : Prob
   -- what it comes to
   record IsSaid (b : Answered) : Type 0 where
     named : Option (List CountyName)
-    named_are : AreNamesIf json others list.check.problem.common named
-    said : SaysAllOrStops json v named which b
+    named_are : AreNamesIf (has_names form) others list.check.problem.common named
+    said : SaysAllOrStops form v named which b
 
   abbrev IsTold : Tabled → Type 0
   IsTold = IsTabled others list.check.problem v names_read
@@ -127,7 +128,7 @@ module _ (others : Files) (list : ListWords) (which : Option Grouping) (v : Prob
 
   -- what is answered to the certificate's bytes, and the steps behind the grouping whose number is asked for
   abbrev IsListed : Tabled → Option Grouping → List ℕ → Listed → Type 0
-  IsListed t asked bytes = IsListAnswer json t list.check.budget (asked_by list asked) bytes
+  IsListed t asked bytes = IsListAnswer form t list.check.budget (asked_by list asked) bytes
 
   abbrev behind : Tabled → Option Grouping → Steps Listed
   behind t asked = load_step (Some others) list.check.certificate.now >>= λ bytes. value_step (IsListed t asked bytes)
@@ -140,7 +141,7 @@ module _ (others : Files) (list : ListWords) (which : Option Grouping) (v : Prob
       (value_ends (IsStopped names_read) (λ (s : Listed). IsSaid s.answer) (IsListed t which text) (λ s so. record {
         named = t.named;
         named_are = names_shown others list.check.problem.common list.groupings t.named told.1;
-        said = listed list.check.budget json t told.0 (asked_by list which) s so;
+        said = listed list.check.budget form t told.0 (asked_by list which) s so;
       }))
 
   steps_end : EndsBy (λ (s : Listed). IsSaid s.answer) (IsStopped names_read) (list_steps (Some others) list)
@@ -164,24 +165,24 @@ module _ (others : Files) (list : ListWords) (which : Option Grouping) (v : Prob
 
   -- and so it is shown
   abbrev IsEnd : Answered → Type 0
-  IsEnd b = IsListOfFiles others list which b ⊎ ((b ≡ line_in json no_such_grouping) ⊎ (IsCutOff json b ⊎ IsUnnamed json names_read b))
+  IsEnd b = IsListOfFiles others list which b ⊎ ((b ≡ line_in form no_such_grouping) ⊎ (IsCutOff form b ⊎ IsUnnamed form names_read b))
 
-  module _ (raw b : Answered) (is : IsShown json raw b) where
-    none_shown : raw ≡ no_such_grouping → (b ≡ line_in json no_such_grouping) ⊎ IsCutOff json b
+  module _ (raw b : Answered) (is : IsShown form raw b) where
+    none_shown : raw ≡ no_such_grouping → (b ≡ line_in form no_such_grouping) ⊎ IsCutOff form b
     none_shown none = by_shown is
       where
-        by_shown : IsShown json raw b → (b ≡ line_in json no_such_grouping) ⊎ IsCutOff json b
-        by_shown (inl e) = inl (e ∙ ap (shown_in json) none ∙ none_line json)
+        by_shown : IsShown form raw b → (b ≡ line_in form no_such_grouping) ⊎ IsCutOff form b
+        by_shown (inl e) = inl (e ∙ ap (shown_in form) none ∙ none_line form)
         by_shown (inr memory) = inr (inr (same_status b memory_answer memory.1))
 
-    all_shown : (s : IsSaid raw) → SaysAll json v s.named which raw → IsListOfFiles others list which b ⊎ IsCutOff json b
-    all_shown s said = by_kept (shown_or_cut json raw b is low)
+    all_shown : (s : IsSaid raw) → SaysAll form v s.named which raw → IsListOfFiles others list which b ⊎ IsCutOff form b
+    all_shown s said = by_kept (shown_or_cut form raw b is low)
       where
         low : raw.status ≤ 3
         low = subst (λ (x : Answered). x.status ≤ 3) (sym said.answer)
-            (at_most_one (listing_answer json v s.named said.groupings which).status (listing_status json v s.named said.groupings which))
+            (at_most_one (listing_answer form v s.named said.groupings which).status (listing_status form v s.named said.groupings which))
 
-        by_kept : (b ≡ raw) ⊎ IsCutOff json b → IsListOfFiles others list which b ⊎ IsCutOff json b
+        by_kept : (b ≡ raw) ⊎ IsCutOff form b → IsListOfFiles others list which b ⊎ IsCutOff form b
         by_kept (inl same) = inl (record {
           v = v;
           problem = problem_of_files others list.check.problem v reads;
@@ -197,19 +198,19 @@ module _ (others : Files) (list : ListWords) (which : Option Grouping) (v : Prob
     shown : IsSaid raw ⊎ IsStopped names_read raw → IsEnd b
     shown (inl s) = by_said s.said
       where
-        by_said : SaysAllOrStops json v s.named which raw → IsEnd b
+        by_said : SaysAllOrStops form v s.named which raw → IsEnd b
         by_said (inl said) = by_list (all_shown s said)
           where
-            by_list : IsListOfFiles others list which b ⊎ IsCutOff json b → IsEnd b
+            by_list : IsListOfFiles others list which b ⊎ IsCutOff form b → IsEnd b
             by_list (inl all) = inl all
             by_list (inr cut) = inr (inr (inl cut))
         by_said (inr (inl none)) = by_none (none_shown none)
           where
-            by_none : (b ≡ line_in json no_such_grouping) ⊎ IsCutOff json b → IsEnd b
+            by_none : (b ≡ line_in form no_such_grouping) ⊎ IsCutOff form b → IsEnd b
             by_none (inl line) = inr (inl line)
             by_none (inr cut) = inr (inr (inl cut))
-        by_said (inr (inr cut)) = inr (inr (inl (cut_shown json raw b is cut)))
-    shown (inr stopped) = inr (inr (stopped_shown json names_read raw b is stopped))
+        by_said (inr (inr cut)) = inr (inr (inl (cut_shown form raw b is cut)))
+    shown (inr stopped) = inr (inr (stopped_shown form names_read raw b is stopped))
 
   run_ends : (start end : History) (none : List NamedFile) (b : Answered) → CommandRun (Some others) (ListAll list) start end none b → IsEnd b
   run_ends start end none b (inl memory) = inr (inr (inl (inr (same_status b memory_answer memory.0))))
@@ -228,10 +229,10 @@ module _ (files : Files) (words : SolveWords) (stored : List NamedFile) (a : Ans
   )
 
   solved_lists : (answer : search.Answer) → IsSolveAnswer (problem_of h.t.problem) words.steps answer → HasCompleteTree (problem_of h.t.problem) answer
-      → SaysSolved words.problem.common.json h.t answer h.s → a.status ≡ 0 → IsStoredFirst words.certificate (ListsAllOfFiles files words.problem) stored
+      → SaysSolved words.problem.common.form h.t answer h.s → a.status ≡ 0 → IsStoredFirst words.certificate (ListsAllOfFiles files words.problem) stored
   solved_lists (found.Best g c) is complete said zero =
       stored_list said.0
-      (λ budget json. listed_says h.t.problem said.0 (certificate_of c) g.groups.items said.1 is.1.proves is.1.target_is complete budget json)
+      (λ budget form. listed_says h.t.problem said.0 (certificate_of c) g.groups.items said.1 is.1.proves is.1.target_is complete budget form)
       (ap (λ x. x.certificate) said.2)
   solved_lists (found.Impossible c) is complete said zero = absurd (other_status files words stored a h _ 0 1 said.2 zero refl (omega arith))
   solved_lists (found.Open None part steps) is complete said zero = absurd (other_status files words stored a h _ 0 3 said zero refl (omega arith))

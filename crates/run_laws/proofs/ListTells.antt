@@ -1,5 +1,5 @@
 -- What a run of `list` tells.
-use Rattle.std.proofs.Common.{◌≡◌, ◌≤◌, ◌⊎◌, ℕ, Bool, List, [], ◌++◌, map, Option, Some, None, inl, inr, refl, ap, ◌∙◌, arith}
+use Rattle.std.proofs.Common.{◌≡◌, ◌≤◌, ◌⊎◌, ℕ, List, [], ◌++◌, map, Option, Some, None, inl, inr, refl, ap, ◌∙◌, arith}
 use Rattle.std.specs.Prelude.{Ok, option_map}
 use Rattle.county_problem.specs.ProblemValue.{ProblemValue, problem_of}
 use Rattle.grouping_laws.specs.Grouping.{Grouping}
@@ -18,7 +18,7 @@ use Rattle.cli_file_stores.specs.History.{History}
 use Rattle.pl94_counties.specs.CountyNames.{CountyName}
 use Rattle.cli_answers.specs.Answer.{Answered, budget_answer}
 use Rattle.cli_answers.specs.CheckLines.{no_answer}
-use Rattle.run_laws.specs.Forms.{reads_names}
+use Rattle.run_laws.specs.Forms.{has_names, reads_names}
 use Rattle.run_laws.specs.TableSteps.{Tabled}
 use Rattle.run_laws.specs.FilesProblem.{AreNamesIf, IsProblemOfFiles, IsLongTableOfFiles, IsGroupingIfNamed}
 use Rattle.run_laws.specs.WhichGrouping.{number_in_list, number_status}
@@ -31,6 +31,7 @@ use Rattle.run_laws.proofs.Ending.{same_status, has_ended}
 use Rattle.run_laws.proofs.Shown.{line_status, ends_low}
 use Rattle.run_laws.proofs.FilesProblemLemmas.{which_found}
 use Rattle.run_laws.proofs.FilesRead.{ReadsTabled, names_shown, went, tabled_reads, problem_of_files, stored_between, long_table_stored}
+use Rattle.cli_words.specs.declared.words.Form.{Form}
 
 -- what the steps of `list` come to
 record HasListed (files : Files) (words : ListWords) (s : Listed) : Type 0 where
@@ -40,7 +41,7 @@ record HasListed (files : Files) (words : ListWords) (s : Listed) : Type 0 where
   which_is : IsGroupingIfNamed files words.which which
   text : List ℕ
   held : files words.check.certificate.now ≡ Some text
-  answer : IsListAnswer words.check.problem.common.json t words.check.budget (asked_by words which) text s
+  answer : IsListAnswer words.check.problem.common.form t words.check.budget (asked_by words which) text s
 
 has_listed : (files : Files) (words : ListWords) (before after : History) (s : Listed) → list_steps (Some files) words before after (Ok s) → HasListed files words s
 has_listed files words before after s h =
@@ -62,19 +63,19 @@ number_is : (number : Option ℕ) → (number_status number ≡ 0) ⊎ (number_s
 number_is None = inr refl
 number_is (Some n) = inl refl
 
-pub listing_status : (json : Bool) (v : ProblemValue) (named : Option (List CountyName)) (groupings : List Grouping) (which : Option Grouping)
-    → ((listing_answer json v named groupings which).status ≡ 0) ⊎ ((listing_answer json v named groupings which).status ≡ 1)
-listing_status json v named groupings None = inl refl
-listing_status json v named groupings (Some g) = number_is (number_in_list g groupings)
+pub listing_status : (form : Form) (v : ProblemValue) (named : Option (List CountyName)) (groupings : List Grouping) (which : Option Grouping)
+    → ((listing_answer form v named groupings which).status ≡ 0) ⊎ ((listing_answer form v named groupings which).status ≡ 1)
+listing_status form v named groupings None = inl refl
+listing_status form v named groupings (Some g) = number_is (number_in_list g groupings)
 
 -- what was said, after all files were stored
 module _ (files : Files) (words : ListWords) (stored : List NamedFile) (a : Answered) (s : Listed) (h : HasListed files words s)
     (all : stored ≡ listed_files words s) (said : a ≡ s.answer) (low : a.status ≤ 3) where
   -- whether the answer is an object, and then the names of the counties
-  abbrev json : Bool
-  json = words.check.problem.common.json
+  abbrev form : Form
+  form = words.check.problem.common.form
 
-  named_are : AreNamesIf json files words.check.problem.common h.t.named
+  named_are : AreNamesIf (has_names form) files words.check.problem.common h.t.named
   named_are = names_shown files words.check.problem.common words.groupings h.t.named h.reads.names
 
   answer_is : (r : Listed) → s ≡ r → a ≡ r.answer
@@ -85,12 +86,12 @@ module _ (files : Files) (words : ListWords) (stored : List NamedFile) (a : Answ
 
   -- the listing of these groupings was said, and its files were stored
   record SaysListing (groupings : List Grouping) (stored_words : Option StoredWords) : Type 0 where
-    listing : a ≡ listing_answer json h.t.problem h.t.named groupings h.which
+    listing : a ≡ listing_answer form h.t.problem h.t.named groupings h.which
     lines : IsNumberedStored groupings stored_words stored
     table : IsStoredAs words.groupings (IsLongTableOfFiles files words.check.problem h.t.problem groupings) stored
 
   module _ (groupings : List Grouping) where
-    table_is : (grouping : Option (List ℕ)) (earlier : List NamedFile) → s ≡ listed_all json h.t groupings h.which grouping → stored ≡ earlier ++ named_file words.groupings s.table
+    table_is : (grouping : Option (List ℕ)) (earlier : List NamedFile) → s ≡ listed_all form h.t groupings h.which grouping → stored ≡ earlier ++ named_file words.groupings s.table
         → IsStoredAs words.groupings (IsLongTableOfFiles files words.check.problem h.t.problem groupings) stored
     table_is grouping earlier is whole =
         long_table_stored files words.check.problem words.groupings h.t groupings s.table earlier stored h.reads (ap (λ (x : Listed). x.table) is) whole
@@ -101,7 +102,7 @@ module _ (files : Files) (words : ListWords) (stored : List NamedFile) (a : Answ
         let same : a.status ≡ r.answer.status = same_status a r.answer (answer_is r is) in
         omega arith
 
-    says_with : (w : StoredWords) (g : Option Grouping) → grouping_numbered groupings w.number ≡ g → s ≡ listed_with json h.t groupings h.which g
+    says_with : (w : StoredWords) (g : Option Grouping) → grouping_numbered groupings w.number ≡ g → s ≡ listed_with form h.t groupings h.which g
         → stored ≡ named_file (Some w.out) s.grouping ++ named_file words.groupings s.table → SaysListing groupings (Some w)
     says_with w None numbered is whole = absurd (too_high _ is (omega arith))
     says_with w (Some g) numbered is whole = record {
@@ -114,20 +115,20 @@ module _ (files : Files) (words : ListWords) (stored : List NamedFile) (a : Answ
       table = table_is (Some (grouping_text g)) (named_file (Some w.out) s.grouping) is whole;
     }
 
-    says_listing : (stored_words : Option StoredWords) → s ≡ listed_by_number json h.t groupings h.which (option_map (λ w. w.number) stored_words)
+    says_listing : (stored_words : Option StoredWords) → s ≡ listed_by_number form h.t groupings h.which (option_map (λ w. w.number) stored_words)
         → stored ≡ named_file (option_map (λ w. w.out) stored_words) s.grouping ++ named_file words.groupings s.table → SaysListing groupings stored_words
     says_listing None is whole = record { listing = answer_is _ is; lines = tt; table = table_is None [] is whole }
     says_listing (Some w) is whole = says_with w (grouping_numbered groupings w.number) refl is whole
 
   by_status : (told : ListTellsAll files words stored a)
-      → ((listing_answer json told.v told.named told.groupings told.which).status ≡ 0)
-      ⊎ ((listing_answer json told.v told.named told.groupings told.which).status ≡ 1)
+      → ((listing_answer form told.v told.named told.groupings told.which).status ≡ 0)
+      ⊎ ((listing_answer form told.v told.named told.groupings told.which).status ≡ 1)
       → Tells files (ListAll words) stored a
   by_status told (inl zero) = inl (same_status a _ told.answer ∙ zero, told)
   by_status told (inr one) = inr (inl (same_status a _ told.answer ∙ one, inl told))
 
   listing_tells : (listing : Listing) → IsListing (problem_of h.t.problem) h.text words.check.budget listing → ListsAllBest (problem_of h.t.problem) listing
-      → s ≡ listing_said json h.t (asked_by words h.which) listing → Tells files (ListAll words) stored a
+      → s ≡ listing_said form h.t (asked_by words h.which) listing → Tells files (ListAll words) stored a
   listing_tells (All list) is best so =
       let groupings = map sets_held list.items in
       let seen = says_listing groupings words.stored so all in
@@ -144,9 +145,9 @@ module _ (files : Files) (words : ListWords) (stored : List NamedFile) (a : Answ
         answer = seen.listing;
         lines = seen.lines;
         table = seen.table;
-      }) (listing_status json h.t.problem h.t.named groupings h.which)
+      }) (listing_status form h.t.problem h.t.named groupings h.which)
   listing_tells (Open gap line) is best so = inr (inr (
-    same_status a _ (answer_is _ so) ∙ line_status json (open_answer gap line),
+    same_status a _ (answer_is _ so) ∙ line_status form (open_answer gap line),
     inl (record {
       v = h.t.problem;
       problem = problem;
@@ -165,7 +166,7 @@ module _ (files : Files) (words : ListWords) (stored : List NamedFile) (a : Answ
         inr (inl (record { v = h.t.problem; problem = problem; none = none; named = h.t.named; named_are = named_are; answer = answer_is _ so })),
       ))
   listing_tells (No fault line) is best so = inr (inl (
-    same_status a _ (answer_is _ so) ∙ line_status json (no_answer fault line),
+    same_status a _ (answer_is _ so) ∙ line_status form (no_answer fault line),
     inr (inr (record {
       v = h.t.problem;
       problem = problem;
@@ -178,7 +179,7 @@ module _ (files : Files) (words : ListWords) (stored : List NamedFile) (a : Answ
     })),
   ))
   listing_tells Budget is best so = inr (inr (
-    same_status a _ (answer_is _ so) ∙ line_status json budget_answer,
+    same_status a _ (answer_is _ so) ∙ line_status form budget_answer,
     inr (record { v = h.t.problem; problem = problem; certificate = h.text; certificate_is = h.held; above = is; answer = answer_is _ so }),
   ))
 
@@ -187,7 +188,7 @@ list_refuses files words =
     bind_refuses _ _ (tabled_refuses (Some files) words.check.problem (reads_names words.check.problem.common words.groupings)) (λ t.
     bind_refuses _ _ (which_refuses (Some files) words.which) (λ which.
     bind_refuses _ _ (load_refuses (Some files) words.check.certificate.now) (λ text.
-    value_refuses (IsListAnswer words.check.problem.common.json t words.check.budget (asked_by words which) text))))
+    value_refuses (IsListAnswer words.check.problem.common.form t words.check.budget (asked_by words which) text))))
 
 pub list_tells : (files : Files) (words : ListWords) (before after : History) (stored : List NamedFile) (a : Answered) → CommandRun (Some files) (ListAll words) before after stored a → a.status ≤ 3
     → Tells files (ListAll words) stored a

@@ -32,7 +32,7 @@ use Rattle.cli_file_stores.specs.History.FileStoreEvent.{Stored}
 use Rattle.cli_answers.specs.declared.refusal.InputFile.TheVariants as input
 use Rattle.cli_answers.specs.Answer.{Answered, success}
 use Rattle.cli_answers.specs.Refusals.{pl94_answer, named_answer, people_answer, code_file_answer, problem_answer, assignment_answer, verdict_answer, events_answer, board_answer}
-use Rattle.run_laws.specs.Forms.{line_in, reads_names, size_in}
+use Rattle.run_laws.specs.Forms.{has_names, line_in, reads_names, size_in}
 use Rattle.run_laws.specs.ProblemSteps.{counties_by, counties_steps, pairs_of, links_of, withdrawn_of, adjacency_of, IsBuilt, problem_over, problem_steps, grouping_of}
 use Rattle.run_laws.specs.TableSteps.{Reported, untabled, tabled_by, named_counties_by, named_counties_of, tabled_problem_in}
 use Rattle.county_codes.specs.declared.county.County.{County}
@@ -137,14 +137,14 @@ module _ (given : Option Files) (files : Files) where
       → Lifts given files (sizes_of words named counties) (sizes_of words named counties)
   of_sizes_lift words named counties =
       lifts_bind given files (lifts_call given files problem_answer (IsBuilt counties [] [] words.chamber words.tolerance))
-      (λ v. lifts_value given files (λ a. a ≡ success (size_in words.json v named)))
+      (λ v. lifts_value given files (λ a. a ≡ success (size_in words.form v named)))
 
-  sizes_lift : (json : Bool) (words : CommonWords) → Lifts given files (sizes_by json given words) (sizes_by json (Some files) words)
+  sizes_lift : (reads : Bool) (words : CommonWords) → Lifts given files (sizes_by reads given words) (sizes_by reads (Some files) words)
   sizes_lift false words = lifts_bind given files (counties_lift words) (of_sizes_lift words None)
   sizes_lift true words = lifts_bind given files (named_lift words) (λ named. of_sizes_lift words (Some named) (without_names named))
 
   size_lifts : (words : CommonWords) → Lifts given files (size_steps given words) (size_steps (Some files) words)
-  size_lifts words = sizes_lift words.json words
+  size_lifts words = sizes_lift (has_names words.form) words
 
   certificate_lifts : (name : Option (Bor (List ℕ))) → Lifts given files (certificate_text_of given name) (certificate_text_of (Some files) name)
   certificate_lifts name = lifts_optional given files None name (λ file. lifts_bind given files (lifts_load given files file) (λ text. lifts_value given files (λ held. held ≡ Some text)))
@@ -153,25 +153,25 @@ module _ (given : Option Files) (files : Files) where
   judge_lifts words =
       lifts_bind given files (tabled_lifts words.problem (reads_names words.problem.common words.table)) (λ t.
       lifts_bind given files (grouping_lifts words.grouping.now) (λ g. lifts_bind given files (certificate_lifts words.certificate) (λ text.
-      lifts_call given files (λ fault. line_in words.problem.common.json (verdict_answer fault))
-      (IsJudgeReport words.problem.common.json t g words.budget text))))
+      lifts_call given files (λ fault. line_in words.problem.common.form (verdict_answer fault))
+      (IsJudgeReport words.problem.common.form t g words.budget text))))
 
   audit_lifts : (words : AuditWords) → Lifts given files (audit_steps given words) (audit_steps (Some files) words)
   audit_lifts words =
       lifts_bind given files (problem_lifts words.problem) (λ v. lifts_bind given files (blocks_lift words.census words.problem.common.state) (λ blocks. lifts_bind given files (grouping_lifts words.grouping.now) (λ g.
       lifts_bind given files (assignments_lift words.assignments.now) (λ lines.
-      lifts_value given files (IsAudited words.problem.common.json (is_some words.districts) v g blocks lines)))))
+      lifts_value given files (IsAudited words.problem.common.form (is_some words.districts) v g blocks lines)))))
 
   check_lifts : (words : CheckWords) → Lifts given files (check_steps given words) (check_steps (Some files) words)
   check_lifts words =
       lifts_bind given files (tabled_lifts words.check.problem (reads_names words.check.problem.common words.table)) (λ t.
       lifts_bind given files (lifts_given_of given files words.check.certificate.now) (λ read.
-      lifts_value given files (IsChecked words.check.problem.common.json t words.check.budget read)))
+      lifts_value given files (IsChecked words.check.problem.common.form t words.check.budget read)))
 
   solve_lifts : (words : SolveWords) → Lifts given files (solve_steps given words) (solve_steps (Some files) words)
   solve_lifts words =
       lifts_bind given files (tabled_lifts words.problem (reads_names words.problem.common words.table))
-      (λ t. lifts_value given files (IsSolved words.problem.common.json t words.steps))
+      (λ t. lifts_value given files (IsSolved words.problem.common.form t words.steps))
 
   which_lifts : (name : Option (Bor (List ℕ))) → Lifts given files (which_of given name) (which_of (Some files) name)
   which_lifts name = lifts_optional given files None name (λ file. lifts_bind given files (grouping_lifts file) (λ g. lifts_value given files (λ held. held ≡ Some g)))
@@ -180,7 +180,7 @@ module _ (given : Option Files) (files : Files) where
   list_lifts words =
       lifts_bind given files (tabled_lifts words.check.problem (reads_names words.check.problem.common words.groupings)) (λ t.
       lifts_bind given files (which_lifts words.which) (λ which. lifts_bind given files (lifts_load given files words.check.certificate.now) (λ text.
-      lifts_value given files (IsListAnswer words.check.problem.common.json t words.check.budget (asked_by words which) text))))
+      lifts_value given files (IsListAnswer words.check.problem.common.form t words.check.budget (asked_by words which) text))))
 
   events_lift : (format : rounds.Format) (counties : ℕ) (name : List ℕ) → Lifts given files (events_of given format counties name) (events_of (Some files) format counties name)
   events_lift format counties name = lifts_bind given files (lifts_load given files name) (λ text. lifts_call given files events_answer (AreEvents format counties text))

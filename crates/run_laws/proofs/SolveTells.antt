@@ -15,7 +15,7 @@ use Rattle.cli_words.specs.declared.words.CommandWords.TheVariants.{Solve}
 use Rattle.cli_file_stores.specs.Files.{NamedFile, Files}
 use Rattle.cli_file_stores.specs.History.{History}
 use Rattle.cli_answers.specs.Answer.{Answered}
-use Rattle.run_laws.specs.Forms.{outcome_in}
+use Rattle.run_laws.specs.Forms.{has_names, outcome_in}
 use Rattle.run_laws.specs.TableSteps.{table_of}
 use Rattle.run_laws.specs.FilesProblem.{AreNamesIf, IsProblemOfFiles, IsTableOfFiles}
 use Rattle.run_laws.specs.SolveSteps.{Solved, SaysSolved}
@@ -56,18 +56,18 @@ module _ (files : Files) (words : SolveWords) (stored : List NamedFile) (a : Ans
       (all_behind ∙ sym (append_assoc before_table table events) ∙ ap (λ l. (before_table ++ table) ++ l) (sym (append-nil events)))
 
   -- the names of the counties, if the answer is an object
-  named_are : AreNamesIf words.problem.common.json files words.problem.common h.t.named
+  named_are : AreNamesIf (has_names words.problem.common.form) files words.problem.common h.t.named
   named_are = object_names files words stored a h
 
   -- an answer that is open, with the steps that were allowed
   open_answer : (found : Option held.Grouping) (steps : ℕ) → steps ≡ words.steps
-      → a ≡ record { text = outcome_in words.problem.common.json h.t.problem h.t.named (outcome.Open found steps); status = 3 }
-      → a ≡ record { text = outcome_in words.problem.common.json h.t.problem h.t.named (outcome.Open found words.steps); status = 3 }
+      → a ≡ record { text = outcome_in words.problem.common.form h.t.problem h.t.named (outcome.Open found steps); status = 3 }
+      → a ≡ record { text = outcome_in words.problem.common.form h.t.problem h.t.named (outcome.Open found words.steps); status = 3 }
   open_answer found steps is said =
-      said ∙ ap (λ n. record { text = outcome_in words.problem.common.json h.t.problem h.t.named (outcome.Open found n); status = 3 }) is
+      said ∙ ap (λ n. record { text = outcome_in words.problem.common.form h.t.problem h.t.named (outcome.Open found n); status = 3 }) is
 
   found_tells : (found : search.Answer) → IsSolveAnswer (problem_of h.t.problem) words.steps found → SolveIsRight (problem_of h.t.problem) found
-      → SaysWhether (problem_of h.t.problem) words.steps found → SaysSolved words.problem.common.json h.t found h.s → Tells files (Solve words) stored a
+      → SaysWhether (problem_of h.t.problem) words.steps found → SaysSolved words.problem.common.form h.t found h.s → Tells files (Solve words) stored a
   found_tells (Best g c) is best whether said = inl (
     same_status a _ (answer_is _ said.2),
     record {

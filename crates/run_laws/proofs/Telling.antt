@@ -1,5 +1,5 @@
 -- What an answer with status 0, 1 or 3 tells of the files that a run read.
-use Rattle.std.proofs.Common.{◌≡◌, ◌≤◌, ℕ, Bool, List, [], ◌∷◌, ◌++◌, append_assoc, Option, Some, None, inl, inr, sym, ap, subst, ◌∙◌, arith}
+use Rattle.std.proofs.Common.{◌≡◌, ◌≤◌, ℕ, List, [], ◌∷◌, ◌++◌, append_assoc, Option, Some, None, inl, inr, sym, ap, subst, ◌∙◌, arith}
 use Rattle.std.specs.Prelude.{true}
 use Rattle.cli_words.specs.declared.words.CommandWords.{CommandWords}
 use Rattle.cli_words.specs.declared.words.CommandWords.TheVariants.{Size, Judge, Solve, Check, Audit, List as ListAll, Share, Piece, Worker}
@@ -13,7 +13,7 @@ use Rattle.cli_answers.specs.Answer.{Answered}
 use Rattle.cli_record.specs.RecordFiles.{record_name_of}
 use Rattle.run_laws.specs.Spoken.{behind}
 use Rattle.run_laws.specs.Storing.{store_steps}
-use Rattle.run_laws.specs.Forms.{is_json}
+use Rattle.run_laws.specs.Forms.{form_of_answer}
 use Rattle.run_laws.specs.Recording.{is_recorded, IsSaidAfter, RecordEnds}
 use Rattle.run_laws.specs.Loads.{AnsweredBy}
 use Rattle.run_laws.specs.Run.{CommandRun, IsEndAnswer, IsRunAnswer, RunsAsAsked}
@@ -31,6 +31,7 @@ use Rattle.run_laws.proofs.OfTheirLoads.{as_asked, own_run, record_extends, run_
 use Rattle.run_laws.proofs.Lifting.{Extends}
 use Rattle.run_laws.proofs.Shown.{shown_low}
 use Rattle.run_laws.proofs.StoreLemmas.{refusal_status}
+use Rattle.cli_words.specs.declared.words.Form.{Form}
 
 -- ---- a command
 command_tells : (files : Files) (command : CommandWords) (before after : History) (stored : List NamedFile) (a : Answered) → CommandRun (Some files) command before after stored a → a.status ≤ 3
@@ -61,11 +62,11 @@ taken_on before between after name bytes k more =
     )
 
 -- the answer of a run with its record is that of the command, if it has a status of an answer
-unrefused : (json : Bool) (list : List NamedFile) (between after : History) (last : List NamedFile) (said a : Answered) (refusal : Option Answered)
-    → store_steps list between after last refusal → IsSaidAfter json refusal said a → a.status ≤ 3 → a ≡ said
-unrefused json list between after last said a None steps is low = is
-unrefused json list between after last said a (Some refused) steps is low =
-    let same = same_status a refused (shown_low json refused a is low) in
+unrefused : (form : Form) (list : List NamedFile) (between after : History) (last : List NamedFile) (said a : Answered) (refusal : Option Answered)
+    → store_steps list between after last refusal → IsSaidAfter form refusal said a → a.status ≤ 3 → a ≡ said
+unrefused form list between after last said a None steps is low = is
+unrefused form list between after last said a (Some refused) steps is low =
+    let same = same_status a refused (shown_low form refused a is low) in
     absurd (not_refused a low (inr (same ∙ refusal_status list between after last refused steps)))
 
 own_answer : (words : List (List ℕ)) (command : CommandWords) (name : List ℕ) (before between after : History) (last : List NamedFile) (written : List ℕ) (said end : Answered)
@@ -73,7 +74,7 @@ own_answer : (words : List (List ℕ)) (command : CommandWords) (name : List ℕ
 own_answer words command name before between after last written said end (inl h) low = h.1.answer
 own_answer words command name before between after last written said end (inr (asked, inl none)) low = absurd (not_out_of_memory end low none.answer)
 own_answer words command name before between after last written said end (inr (asked, inr s)) low =
-    unrefused (is_json command) (record { name = name; bytes = s.text } ∷ []) between after last said end s.refusal s.steps s.answer low
+    unrefused (form_of_answer command) (record { name = name; bytes = s.text } ∷ []) between after last said end s.refusal s.steps s.answer low
 
 -- the files that the command itself stored
 abbrev own_files : (given : Option Files) (words : List (List ℕ)) (command : CommandWords) (name : Option (List ℕ)) (before after : History) (stored : List NamedFile) (a : Answered)

@@ -20,11 +20,12 @@ use Rattle.cli_file_stores.specs.History.{History}
 use Rattle.cli_answers.specs.Answer.{Answered, success, budget_answer}
 use Rattle.cli_answers.specs.Refusals.{named_answer}
 use Rattle.grouping_report.specs.declared.outcome.Outcome.TheVariants as outcome
-use Rattle.run_laws.specs.Forms.{line_in, outcome_in, reads_names, report_in, shown_in}
+use Rattle.run_laws.specs.Forms.{has_names, line_in, outcome_in, reads_names, report_in, shown_in}
 use Rattle.run_laws.specs.FilesProblem.{AreNamesIf, IsProblemOfFiles, IsGroupingIfNamed}
 use Rattle.run_laws.specs.ListSteps.{listing_answer, no_such_grouping}
 use Rattle.run_laws.specs.Run.{CommandRun}
 use Rattle.run_laws.specs.Headline.{ShareTellsBest}
+use Rattle.cli_words.specs.declared.words.Form.{Form}
 
 -- two named files hold the same bytes
 abbrev pub HoldsSame : Files → Files → Bor (List ℕ) → Bor (List ℕ) → Type 0
@@ -56,23 +57,23 @@ pub record HasSameProblem (files others : Files) (words other : ProblemWords) : 
 
 -- The program refused a run for want of something: its budget was too small, a growth was refused, or a file could not
 -- be had (the status is then 5).
-abbrev pub IsCutOff : Bool → Answered → Type 0
-IsCutOff json a = (a ≡ line_in json budget_answer) ⊎ (a.status ≡ 5)
+abbrev pub IsCutOff : Form → Answered → Type 0
+IsCutOff form a = (a ≡ line_in form budget_answer) ⊎ (a.status ≡ 5)
 
 -- The names of the counties are read, and the answer is that the NAME of a county isn't UTF-8.
-abbrev pub IsUnnamed : Bool → Bool → Answered → Type 0
-IsUnnamed json false a = ⊥
-IsUnnamed json true a = (line : ℕ) × (a ≡ shown_in json (named_answer (BadName line)))
+abbrev pub IsUnnamed : Form → Bool → Answered → Type 0
+IsUnnamed form false a = ⊥
+IsUnnamed form true a = (line : ℕ) × (a ≡ shown_in form (named_answer (BadName line)))
 
 -- what a check answers, in its form: of the names of the counties, of which an object tells
 abbrev pub Answers : Type 0
-Answers = Bool → Option (List CountyName) → Answered
+Answers = Form → Option (List CountyName) → Answered
 
 -- The answer is one of these, in the form that the words ask for: an object has the names of the counties of the files.
 abbrev pub IsOneOf : Answers → Files → ProblemWords → Answered → Type 0
 IsOneOf answers files words a =
-    (named : Option (List CountyName)) × AreNamesIf words.common.json files words.common named
-    × (a ≡ answers words.common.json named)
+    (named : Option (List CountyName)) × AreNamesIf (has_names words.common.form) files words.common named
+    × (a ≡ answers words.common.form named)
 
 -- Every check of this text with the same problem gives one of these answers, unless it was cut off. If a check reads the
 -- names of the counties, it may also end at a NAME that isn't UTF-8.
@@ -82,8 +83,8 @@ ChecksAs files words text answers =
     → HasSameProblem files others words check.check.problem → others check.check.certificate.now ≡ Some text
     → CommandRun (Some others) (Check check) before after stored b
     → IsOneOf answers others check.check.problem b
-    ⊎ (IsCutOff check.check.problem.common.json b
-    ⊎ IsUnnamed check.check.problem.common.json (reads_names check.check.problem.common check.table) b)
+    ⊎ (IsCutOff check.check.problem.common.form b
+    ⊎ IsUnnamed check.check.problem.common.form (reads_names check.check.problem.common check.table) b)
 
 -- The answer is the list of all best groupings of the problem of these files, in order. If a grouping is given, its
 -- number stands behind the list, or that it isn't listed.
@@ -94,8 +95,8 @@ pub record IsListOfFiles (files : Files) (words : ListWords) (which : Option Gro
   pub all : AreAllBest (problem_of v) groupings
   pub in_order : AreInOrder groupings
   pub named : Option (List CountyName)
-  pub named_are : AreNamesIf words.check.problem.common.json files words.check.problem.common named
-  pub answer : a ≡ listing_answer words.check.problem.common.json v named groupings which
+  pub named_are : AreNamesIf (has_names words.check.problem.common.form) files words.check.problem.common named
+  pub answer : a ≡ listing_answer words.check.problem.common.form v named groupings which
 
 -- Every list by this text with the same problem lists all best groupings, so it is never open; unless it finds no
 -- grouping of the number, or was cut off. If a grouping's number is asked for, its file is one without a fault. If the
@@ -107,9 +108,9 @@ ListsAllOfFiles files words text =
     → HasSameProblem files others words list.check.problem → others list.check.certificate.now ≡ Some text
     → IsGroupingIfNamed others list.which which → CommandRun (Some others) (ListAll list) before after stored b
     → IsListOfFiles others list which b
-    ⊎ ((b ≡ line_in list.check.problem.common.json no_such_grouping)
-    ⊎ (IsCutOff list.check.problem.common.json b
-    ⊎ IsUnnamed list.check.problem.common.json (reads_names list.check.problem.common list.groupings) b))
+    ⊎ ((b ≡ line_in list.check.problem.common.form no_such_grouping)
+    ⊎ (IsCutOff list.check.problem.common.form b
+    ⊎ IsUnnamed list.check.problem.common.form (reads_names list.check.problem.common list.groupings) b))
 
 -- where a certificate is named, it was stored first, with a text of which P holds
 abbrev pub IsStoredFirst : Option (Bor (List ℕ)) → (List ℕ → Type 0) → List NamedFile → Type 0
@@ -119,10 +120,10 @@ IsStoredFirst certificate P stored =
 
 -- the answers by which a grouping is best, and those by which none is lawful
 abbrev pub best_said : ProblemValue → Grouping → Answers
-best_said v g json named = success (report_in json v named (codes "best") g)
+best_said v g form named = success (report_in form v named (codes "best") g)
 
 abbrev pub impossible_said : ProblemValue → Answers
-impossible_said v json named = record { text = outcome_in json v named outcome.Impossible; status = 1 }
+impossible_said v form named = record { text = outcome_in form v named outcome.Impossible; status = 1 }
 
 -- the answers tell one outcome of one problem
 abbrev pub TellOneOutcome : Answers → Type 0

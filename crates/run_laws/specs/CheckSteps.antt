@@ -1,5 +1,5 @@
 -- The steps of `check`: the problem is built, the certificate is had, and a checker gives its verdict.
-use Rattle.std.specs.Prelude.{◌≡◌, ◌++◌, ℕ, Bool, List, Option, None}
+use Rattle.std.specs.Prelude.{◌≡◌, ◌++◌, ℕ, List, Option, None}
 use Rattle.county_problem.specs.ProblemValue.{problem_of}
 use Rattle.grouping_report.specs.declared.outcome.Outcome.TheVariants as outcome
 use Rattle.certificate_checker.specs.declared.verdict.Verdict.{Verdict}
@@ -16,14 +16,15 @@ use Rattle.field_lines.specs.Source.{Given}
 use Rattle.run_laws.specs.Reading.{given_of, OfText}
 use Rattle.run_laws.specs.TableSteps.{Tabled, Reported, tabled_problem_in, table_of}
 use Rattle.run_laws.specs.Storing.{EndsStoring, named_file}
+use Rattle.cli_words.specs.declared.words.Form.{Form}
 
 -- A verdict, as it is said: the report of the grouping that is best, with status 0; that none is lawful, or the first
 -- fault with its line, with status 1; or that the budget is too small.
-abbrev pub verdict_said : Bool → Tabled → Verdict → Answered
-verdict_said json t (Best g) = success (outcome_in json t.problem t.named (outcome.Best g))
-verdict_said json t Impossible = record { text = outcome_in json t.problem t.named outcome.Impossible; status = 1 }
-verdict_said json t (No fault line) = line_in json (no_answer fault line)
-verdict_said json t Budget = line_in json budget_answer
+abbrev pub verdict_said : Form → Tabled → Verdict → Answered
+verdict_said form t (Best g) = success (outcome_in form t.problem t.named (outcome.Best g))
+verdict_said form t Impossible = record { text = outcome_in form t.problem t.named outcome.Impossible; status = 1 }
+verdict_said form t (No fault line) = line_in form (no_answer fault line)
+verdict_said form t Budget = line_in form budget_answer
 
 -- the table of a grouping that is best; no other verdict has one
 abbrev pub verdict_table : Tabled → Verdict → Option (List ℕ)
@@ -34,25 +35,25 @@ verdict_table t Budget = None
 
 -- What `check` says of a certificate is the verdict of a checker with such a budget. It is that on each text which
 -- begins with what was read.
-pub record IsChecked (json : Bool) (t : Tabled) (budget : ℕ) (given : Given) (r : Reported) : Type 0 where
+pub record IsChecked (form : Form) (t : Tabled) (budget : ℕ) (given : Given) (r : Reported) : Type 0 where
   pub verdict : Verdict
   pub is : OfText (λ text. IsCheckAnswer (problem_of t.problem) text budget verdict) given
   pub best : CheckIsRight (problem_of t.problem) verdict
   pub impossible : ShowsImpossible (problem_of t.problem) verdict
-  pub said : r ≡ record { answer = verdict_said json t verdict; table = verdict_table t verdict }
+  pub said : r ≡ record { answer = verdict_said form t verdict; table = verdict_table t verdict }
 
 -- what `check` says of the bytes that a source gave meanwhile
-pub record ChecksGiven (json : Bool) (t : Tabled) (budget : ℕ) (before after : Given) (r : Reported) : Type 0 where
+pub record ChecksGiven (form : Form) (t : Tabled) (budget : ℕ) (before after : Given) (r : Reported) : Type 0 where
   pub bytes : List ℕ
   pub are_given : after.bytes ≡ before.bytes ++ bytes
-  pub checked : IsChecked json t budget (record { bytes = bytes; ended = after.ended }) r
+  pub checked : IsChecked form t budget (record { bytes = bytes; ended = after.ended }) r
 
 -- `check`: the problem is built before the certificate is opened, which is then read once
 abbrev pub check_steps : Option Files → CheckWords → Steps Reported
 check_steps files words =
     tabled_problem_in files words.check.problem (reads_names words.check.problem.common words.table)
     >>= λ t. given_of files words.check.certificate.now
-    >>= λ given. value_step (IsChecked words.check.problem.common.json t words.check.budget given)
+    >>= λ given. value_step (IsChecked words.check.problem.common.form t words.check.budget given)
 
 -- `check` ends: at a fault that it met before anything was stored, or with its table stored and its answer, unless the
 -- table was refused

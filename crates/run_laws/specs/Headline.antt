@@ -66,7 +66,7 @@ use Rattle.cli_file_stores.specs.History.FileStoreEvent.{Stored}
 use Rattle.cli_answers.specs.Answer.{Answered, success, budget_answer}
 use Rattle.cli_answers.specs.CheckLines.{no_answer}
 use Rattle.cli_answers.specs.Refusals.{verdict_answer}
-use Rattle.run_laws.specs.Forms.{line_in, outcome_in, size_in}
+use Rattle.run_laws.specs.Forms.{has_names, line_in, outcome_in, size_in}
 use Rattle.run_laws.specs.FilesProblem.{AreNamesIf, AreCountiesOfFiles, IsProblemOfFiles, IsTableOfFiles, AreBlocksOfFiles}
 use Rattle.run_laws.specs.FilesProblem.{IsGroupingOfFile, IsGroupingIfNamed, IsLongTableOfFiles, AreAssignmentsOfFile}
 use Rattle.run_laws.specs.Storing.{IsStoredAs}
@@ -90,8 +90,8 @@ pub record SolveTellsBest (files : Files) (words : SolveWords) (stored : List Na
   pub grouping : held.Grouping
   pub best : IsBest (problem_of v) grouping.groups.items
   pub named : Option (List CountyName)
-  pub named_are : AreNamesIf words.problem.common.json files words.problem.common named
-  pub answer : a ≡ success (outcome_in words.problem.common.json v named (outcome.Best grouping))
+  pub named_are : AreNamesIf (has_names words.problem.common.form) files words.problem.common named
+  pub answer : a ≡ success (outcome_in words.problem.common.form v named (outcome.Best grouping))
   pub lines : IsStoredAs words.out (λ text. text ≡ grouping_text grouping.groups.items) stored
   pub table : IsStoredAs words.table (IsTableOfFiles files words.problem v grouping.groups.items) stored
 
@@ -102,8 +102,8 @@ pub record TellsNone (files : Files) (words : ProblemWords) (a : Answered) : Typ
   pub problem : IsProblemOfFiles files words v
   pub none : IsImpossible (problem_of v)
   pub named : Option (List CountyName)
-  pub named_are : AreNamesIf words.common.json files words.common named
-  pub answer : a ≡ record { text = outcome_in words.common.json v named outcome.Impossible; status = 1 }
+  pub named_are : AreNamesIf (has_names words.common.form) files words.common named
+  pub answer : a ≡ record { text = outcome_in words.common.form v named outcome.Impossible; status = 1 }
 
 -- What is known of a grouping that `solve` found before its steps ran out: it is lawful, and a part that is given is
 -- one of the proof that it is best. None was found only if no step was allowed.
@@ -131,9 +131,9 @@ pub record SolveTellsOpen (files : Files) (words : SolveWords) (stored : List Na
   pub part : Option PartialTree
   pub is : IsFound v words.steps found part
   pub named : Option (List CountyName)
-  pub named_are : AreNamesIf words.problem.common.json files words.problem.common named
+  pub named_are : AreNamesIf (has_names words.problem.common.form) files words.problem.common named
   pub answer : a ≡ record {
-    text = outcome_in words.problem.common.json v named (outcome.Open found words.steps);
+    text = outcome_in words.problem.common.form v named (outcome.Open found words.steps);
     status = 3;
   }
   pub stored_are : AreFoundStored files words v found part stored
@@ -148,8 +148,8 @@ pub record CheckTellsBest (files : Files) (words : CheckWords) (stored : List Na
   pub grouping : held.Grouping
   pub best : IsBest (problem_of v) grouping.groups.items
   pub named : Option (List CountyName)
-  pub named_are : AreNamesIf words.check.problem.common.json files words.check.problem.common named
-  pub answer : a ≡ success (outcome_in words.check.problem.common.json v named (outcome.Best grouping))
+  pub named_are : AreNamesIf (has_names words.check.problem.common.form) files words.check.problem.common named
+  pub answer : a ≡ success (outcome_in words.check.problem.common.form v named (outcome.Best grouping))
   pub table : IsStoredAs words.table (IsTableOfFiles files words.check.problem v grouping.groups.items) stored
 
 -- `check` or `list` ends with status 1: this is the first fault of the certificate's file, and its line.
@@ -161,7 +161,7 @@ pub record TellsFault (files : Files) (words : CertificateWords) (a : Answered) 
   pub fault : CheckFault
   pub line : ℕ
   pub first : IsCheckAnswer (problem_of v) certificate words.budget (verdict.No fault line)
-  pub answer : a ≡ line_in words.problem.common.json (no_answer fault line)
+  pub answer : a ≡ line_in words.problem.common.form (no_answer fault line)
 
 -- `check` or `list` ends with status 3: the budget is below the cost of the certificate.
 pub record TellsBudget (files : Files) (words : CertificateWords) (a : Answered) : Type 0 where
@@ -170,7 +170,7 @@ pub record TellsBudget (files : Files) (words : CertificateWords) (a : Answered)
   pub certificate : List ℕ
   pub certificate_is : files words.certificate.now ≡ Some certificate
   pub above : IsCheckAnswer (problem_of v) certificate words.budget verdict.Budget
-  pub answer : a ≡ line_in words.problem.common.json budget_answer
+  pub answer : a ≡ line_in words.problem.common.form budget_answer
 
 -- ---- judge
 
@@ -183,9 +183,9 @@ pub record JudgeTellsLawful (files : Files) (words : JudgeWords) (stored : List 
   pub grouping_is : IsGroupingOfFile files words.grouping.now grouping
   pub lawful : Lawful (problem_of v) grouping
   pub named : Option (List CountyName)
-  pub named_are : AreNamesIf words.problem.common.json files words.problem.common named
-  pub answer : (a ≡ lawful_answer words.problem.common.json v named grouping)
-      ⊎ ((a ≡ best_answer words.problem.common.json v named grouping) × IsBest (problem_of v) grouping)
+  pub named_are : AreNamesIf (has_names words.problem.common.form) files words.problem.common named
+  pub answer : (a ≡ lawful_answer words.problem.common.form v named grouping)
+      ⊎ ((a ≡ best_answer words.problem.common.form v named grouping) × IsBest (problem_of v) grouping)
   pub table : IsStoredAs words.table (IsTableOfFiles files words.problem v grouping) stored
 
 -- `judge` ends with status 1, since another grouping has greater counts: the grouping of its file is lawful for the
@@ -201,8 +201,8 @@ pub record JudgeTellsGreater (files : Files) (words : JudgeWords) (stored : List
   pub best : IsBest (problem_of v) target
   pub greater : IsGreater (counts (sets_of target)) (counts (sets_of grouping))
   pub named : Option (List CountyName)
-  pub named_are : AreNamesIf words.problem.common.json files words.problem.common named
-  pub answer : a ≡ greater_answer words.problem.common.json v named grouping target
+  pub named_are : AreNamesIf (has_names words.problem.common.form) files words.problem.common named
+  pub answer : a ≡ greater_answer words.problem.common.form v named grouping target
   pub table : IsStoredAs words.table (IsTableOfFiles files words.problem v grouping) stored
 
 -- `judge` ends with status 1, since the grouping of its file isn't lawful: this is its first fault.
@@ -213,7 +213,7 @@ pub record JudgeTellsFault (files : Files) (words : JudgeWords) (a : Answered) :
   pub grouping_is : IsGroupingOfFile files words.grouping.now grouping
   pub fault : GroupingFault
   pub first : IsFault (problem_of v) grouping fault
-  pub answer : a ≡ line_in words.problem.common.json (verdict_answer fault)
+  pub answer : a ≡ line_in words.problem.common.form (verdict_answer fault)
 
 -- ---- list
 
@@ -236,8 +236,8 @@ pub record ListTellsAll (files : Files) (words : ListWords) (stored : List Named
   pub which : Option Grouping
   pub which_is : IsGroupingIfNamed files words.which which
   pub named : Option (List CountyName)
-  pub named_are : AreNamesIf words.check.problem.common.json files words.check.problem.common named
-  pub answer : a ≡ listing_answer words.check.problem.common.json v named groupings which
+  pub named_are : AreNamesIf (has_names words.check.problem.common.form) files words.check.problem.common named
+  pub answer : a ≡ listing_answer words.check.problem.common.form v named groupings which
   pub lines : IsNumberedStored groupings words.stored stored
   pub table : IsStoredAs words.groupings (IsLongTableOfFiles files words.check.problem v groupings) stored
 
@@ -251,7 +251,7 @@ pub record ListTellsOpen (files : Files) (words : ListWords) (a : Answered) : Ty
   pub gap : Gap
   pub line : ℕ
   pub first : IsListing (problem_of v) certificate words.check.budget (listing.Open gap line)
-  pub answer : a ≡ line_in words.check.problem.common.json (open_answer gap line)
+  pub answer : a ≡ line_in words.check.problem.common.form (open_answer gap line)
 
 -- ---- audit
 
@@ -268,7 +268,7 @@ pub record AuditTells (files : Files) (words : AuditWords) (stored : List NamedF
   pub assignments_are : AreAssignmentsOfFile files words.assignments.now assignments
   pub findings : List Finding
   pub findings_are : AreFindings v grouping blocks assignments findings
-  pub answer : a ≡ findings_answer words.problem.common.json findings
+  pub answer : a ≡ findings_answer words.problem.common.form findings
   pub table : IsStoredAs words.districts (IsDistrictsTable v grouping blocks assignments) stored
 
 -- ---- size
@@ -282,8 +282,8 @@ pub record SizeTells (files : Files) (words : CommonWords) (a : Answered) : Type
   pub faultless : problem_fault counties [] [] words.chamber words.tolerance ≡ None
   pub problem : IsProblemOf counties [] [] words.chamber words.tolerance v
   pub named : Option (List CountyName)
-  pub named_are : AreNamesIf words.json files words named
-  pub answer : a ≡ success (size_in words.json v named)
+  pub named_are : AreNamesIf (has_names words.form) files words named
+  pub answer : a ≡ success (size_in words.form v named)
 
 -- ---- share and piece
 

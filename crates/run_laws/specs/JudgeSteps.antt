@@ -21,21 +21,22 @@ use Rattle.cli_file_stores.specs.Files.{NamedFile, Files}
 use Rattle.cli_file_stores.specs.History.{History}
 use Rattle.cli_answers.specs.Answer.{Answered, success}
 use Rattle.cli_answers.specs.Refusals.{verdict_answer}
-use Rattle.run_laws.specs.Forms.{findings_in, line_in, reads_names, size_in}
+use Rattle.run_laws.specs.Forms.{findings_in, has_names, line_in, reads_names, size_in}
 use Rattle.run_laws.specs.Steps.{Steps, ◌>>=◌, call_step, value_step}
 use Rattle.run_laws.specs.ProblemSteps.{counties_steps, build_step, problem_steps, grouping_of}
 use Rattle.run_laws.specs.JudgeWithCertificate.{IsSaidOf, certificate_text_of}
 use Rattle.run_laws.specs.PlanSteps.{blocks_of, plan_assignments}
 use Rattle.run_laws.specs.Storing.{EndsStoring, named_file}
 use Rattle.run_laws.specs.TableSteps.{Tabled, Reported, named_counties_of, tabled_problem_in, table_of}
+use Rattle.cli_words.specs.declared.words.Form.{Form}
 
 -- the size table of counties that may have names, without pairs and withdrawn sets
 abbrev pub sizes_of : CommonWords → Option (List CountyName) → List County → Steps Answered
 sizes_of words named counties =
     build_step words.chamber words.tolerance counties [] []
-    >>= λ v. value_step (λ a. a ≡ success (size_in words.json v named))
+    >>= λ v. value_step (λ a. a ≡ success (size_in words.form v named))
 
--- the counties are read with their names if the words ask for an object
+-- the counties are read, with their names if the answer has them
 abbrev pub sizes_by : Bool → Option Files → CommonWords → Steps Answered
 sizes_by false files words = counties_steps files words >>= sizes_of words None
 sizes_by true files words =
@@ -43,25 +44,25 @@ sizes_by true files words =
 
 -- `size`: the size table of the counties
 abbrev pub size_steps : Option Files → CommonWords → Steps Answered
-size_steps files words = sizes_by words.json files words
+size_steps files words = sizes_by (has_names words.form) files words
 
 -- the table is that of the grouping
 abbrev pub HasTable : Tabled → Grouping → Reported → Type 0
 HasTable t g r = r.table ≡ table_of t g
 
 -- what is said of a lawful grouping, with the text of a certificate or without one, and the grouping's table
-abbrev pub IsReported : Bool → Tabled → Grouping → ℕ → Option (List ℕ) → Reported → Type 0
-IsReported json t g budget text r = IsSaidOf json t g budget text r.answer × HasTable t g r
+abbrev pub IsReported : Form → Tabled → Grouping → ℕ → Option (List ℕ) → Reported → Type 0
+IsReported form t g budget text r = IsSaidOf form t g budget text r.answer × HasTable t g r
 
 -- what is reported of a lawful grouping, or the fault of a grouping that isn't lawful
-abbrev pub IsJudgeReport : Bool → Tabled → Grouping → ℕ → Option (List ℕ) → Result Reported GroupingFault → Type 0
-IsJudgeReport json t g budget text (Ok r) = Lawful (problem_of t.problem) g × IsReported json t g budget text r
-IsJudgeReport json t g budget text (Err fault) = IsFault (problem_of t.problem) g fault
+abbrev pub IsJudgeReport : Form → Tabled → Grouping → ℕ → Option (List ℕ) → Result Reported GroupingFault → Type 0
+IsJudgeReport form t g budget text (Ok r) = Lawful (problem_of t.problem) g × IsReported form t g budget text r
+IsJudgeReport form t g budget text (Err fault) = IsFault (problem_of t.problem) g fault
 
 -- the step that judges a grouping
-abbrev pub judge_step : Bool → Tabled → Grouping → ℕ → Option (List ℕ) → Steps Reported
-judge_step json t g budget text =
-    call_step (λ fault. line_in json (verdict_answer fault)) (IsJudgeReport json t g budget text)
+abbrev pub judge_step : Form → Tabled → Grouping → ℕ → Option (List ℕ) → Steps Reported
+judge_step form t g budget text =
+    call_step (λ fault. line_in form (verdict_answer fault)) (IsJudgeReport form t g budget text)
 
 -- `judge`: the problem is built before the grouping is loaded and read, and then the certificate is loaded, where one
 -- is named
@@ -69,7 +70,7 @@ abbrev pub judge_steps : Option Files → JudgeWords → Steps Reported
 judge_steps files words =
     tabled_problem_in files words.problem (reads_names words.problem.common words.table)
     >>= λ t. grouping_of files words.grouping.now >>= λ g. certificate_text_of files words.certificate
-    >>= judge_step words.problem.common.json t g words.budget
+    >>= judge_step words.problem.common.form t g words.budget
 
 -- `judge` ends: at a fault that it met before anything was stored, or with its table stored and its answer, unless the
 -- table was refused
@@ -82,8 +83,8 @@ findings_status [] = 0
 findings_status (f ∷ fs) = 1
 
 -- the findings, with their status
-abbrev pub findings_answer : Bool → List Finding → Answered
-findings_answer json list = record { text = findings_in json list; status = findings_status list }
+abbrev pub findings_answer : Form → List Finding → Answered
+findings_answer form list = record { text = findings_in form list; status = findings_status list }
 
 -- what `audit` says, and the text of the table of the districts
 pub record Audited : Type 0 where
@@ -105,23 +106,23 @@ IsTableIfAsked true v g blocks lines table =
 
 -- The answer shows all findings of blocks and assignments against a grouping. The table of the districts is beside it
 -- if it is asked for.
-pub record IsAudited (json asked : Bool) (v : ProblemValue) (g : Grouping) (blocks : List Block)
+pub record IsAudited (form : Form) (asked : Bool) (v : ProblemValue) (g : Grouping) (blocks : List Block)
     (lines : List Assignment) (s : Audited) : Type 0 where
   pub findings : List Finding
   pub are : AreFindings v g blocks lines findings
-  pub said : s.answer ≡ findings_answer json findings
+  pub said : s.answer ≡ findings_answer form findings
   pub districts : IsTableIfAsked asked v g blocks lines s.districts
 
 -- the step that audits the assignments
-abbrev pub audit_step : Bool → Bool → ProblemValue → Grouping → List Block → List Assignment → Steps Audited
-audit_step json asked v g blocks lines = value_step (IsAudited json asked v g blocks lines)
+abbrev pub audit_step : Form → Bool → ProblemValue → Grouping → List Block → List Assignment → Steps Audited
+audit_step form asked v g blocks lines = value_step (IsAudited form asked v g blocks lines)
 
 -- `audit`: the problem is built, then the census blocks are read, then the grouping, then the assignments
 abbrev pub audit_steps : Option Files → AuditWords → Steps Audited
 audit_steps files words =
     problem_steps files words.problem >>= λ v. blocks_of files words.census words.problem.common.state
     >>= λ blocks. grouping_of files words.grouping.now >>= λ g. plan_assignments files words.assignments.now
-    >>= audit_step words.problem.common.json (is_some words.districts) v g blocks
+    >>= audit_step words.problem.common.form (is_some words.districts) v g blocks
 
 -- `audit` ends: at a fault that it met before anything was stored, or with the table of the districts stored and its
 -- answer, unless the table was refused

@@ -1,6 +1,6 @@
 -- The steps of `list`: the problem is built, a grouping whose number is asked for and the certificate are loaded, and
 -- all best groupings are listed by it. One of them may be stored, and the table of all.
-use Rattle.std.specs.Prelude.{◌≡◌, ℕ, zero, suc, Bool, true, false, List, ◌++◌, Option, Some, None, codes, decimal, map, option_map}
+use Rattle.std.specs.Prelude.{◌≡◌, ℕ, zero, suc, List, ◌++◌, Option, Some, None, codes, decimal, map, option_map}
 use Rattle.std.specs.Prelude.{slice_get}
 use Rattle.std.specs.Borrow.{Bor}
 use Rattle.county_problem.specs.ProblemValue.{ProblemValue, problem_of}
@@ -22,12 +22,14 @@ use Rattle.cli_file_stores.specs.Files.{NamedFile, Files}
 use Rattle.cli_file_stores.specs.History.{History}
 use Rattle.cli_answers.specs.Answer.{Answered, success, budget_answer}
 use Rattle.cli_answers.specs.CheckLines.{no_answer}
-use Rattle.run_laws.specs.Forms.{line_in, outcome_in, reads_names}
+use Rattle.run_laws.specs.Forms.{line_in, outcome_in, reads_names, with_names}
 use Rattle.run_laws.specs.Steps.{Steps, ◌>>=◌, load_step, optional_step, value_step}
 use Rattle.run_laws.specs.ProblemSteps.{grouping_of}
 use Rattle.run_laws.specs.TableSteps.{Tabled, tabled_problem_in}
 use Rattle.run_laws.specs.Storing.{EndsStoring, named_file}
 use Rattle.run_laws.specs.WhichGrouping.{number_in_list, number_line, number_status}
+use Rattle.cli_words.specs.declared.words.Form.{Form}
+use Rattle.cli_words.specs.declared.words.Form.TheVariants.{Codes, Names, Object}
 
 -- the word of why a certificate doesn't show which other groupings are best
 abbrev pub gap_word : Gap → List ℕ
@@ -63,30 +65,35 @@ abbrev pub grouping_numbered : List Grouping → ℕ → Option Grouping
 grouping_numbered groupings zero = None
 grouping_numbered groupings (suc n) = slice_get groupings n
 
--- the listing; if the number of a grouping is asked for, it stands behind the listing
-abbrev pub listing_in : Bool → ProblemValue → Option (List CountyName) → List Grouping → Option (Option ℕ) → List ℕ
-listing_in false v named groupings None = listing_text v groupings
-listing_in false v named groupings (Some number) = listing_text v groupings ++ number_line number
-listing_in true v named groupings number = listing_json v named groupings number
+-- the lines of the listing; if the number of a grouping is asked for, it stands behind the listing
+abbrev pub listing_lines : ProblemValue → List Grouping → Option (Option ℕ) → List ℕ
+listing_lines v groupings None = listing_text v groupings
+listing_lines v groupings (Some number) = listing_text v groupings ++ number_line number
+
+-- the listing in its form
+abbrev pub listing_in : Form → ProblemValue → Option (List CountyName) → List Grouping → Option (Option ℕ) → List ℕ
+listing_in Codes v named groupings number = listing_lines v groupings number
+listing_in Names v named groupings number = with_names named (listing_lines v groupings number)
+listing_in Object v named groupings number = listing_json v named groupings number
 
 -- the listing, and the status of the number
-abbrev pub with_number : Bool → ProblemValue → Option (List CountyName) → List Grouping → Option ℕ → Answered
-with_number json v named groupings number =
-    record { text = listing_in json v named groupings (Some number); status = number_status number }
+abbrev pub with_number : Form → ProblemValue → Option (List CountyName) → List Grouping → Option ℕ → Answered
+with_number form v named groupings number =
+    record { text = listing_in form v named groupings (Some number); status = number_status number }
 
 -- the answer: the listing, with the number of a grouping if that is asked for
-abbrev pub listing_answer : Bool → ProblemValue → Option (List CountyName) → List Grouping → Option Grouping → Answered
-listing_answer json v named groupings None = success (listing_in json v named groupings None)
-listing_answer json v named groupings (Some g) = with_number json v named groupings (number_in_list g groupings)
+abbrev pub listing_answer : Form → ProblemValue → Option (List CountyName) → List Grouping → Option Grouping → Answered
+listing_answer form v named groupings None = success (listing_in form v named groupings None)
+listing_answer form v named groupings (Some g) = with_number form v named groupings (number_in_list g groupings)
 
 -- the table of all listed groupings, if the counties have names
 abbrev pub table_of_all : Tabled → List Grouping → Option (List ℕ)
 table_of_all t groupings = option_map (λ named. groupings_text named t.problem.withdrawn groupings) t.named
 
 -- the answer, and the texts of the files
-abbrev pub listed_all : Bool → Tabled → List Grouping → Option Grouping → Option (List ℕ) → Listed
-listed_all json t groupings which grouping = record {
-  answer = listing_answer json t.problem t.named groupings which;
+abbrev pub listed_all : Form → Tabled → List Grouping → Option Grouping → Option (List ℕ) → Listed
+listed_all form t groupings which grouping = record {
+  answer = listing_answer form t.problem t.named groupings which;
   grouping = grouping;
   table = table_of_all t groupings;
 }
@@ -96,32 +103,32 @@ abbrev pub said_alone : Answered → Listed
 said_alone a = record { answer = a; grouping = None; table = None }
 
 -- the listing, and the lines of the grouping that is to be stored; if there is no such grouping, that alone is said
-abbrev pub listed_with : Bool → Tabled → List Grouping → Option Grouping → Option Grouping → Listed
-listed_with json t groupings which None = said_alone no_such_grouping
-listed_with json t groupings which (Some g) = listed_all json t groupings which (Some (grouping_text g))
+abbrev pub listed_with : Form → Tabled → List Grouping → Option Grouping → Option Grouping → Listed
+listed_with form t groupings which None = said_alone no_such_grouping
+listed_with form t groupings which (Some g) = listed_all form t groupings which (Some (grouping_text g))
 
 -- the listing of all best groupings, where the number of one to store may be given
-abbrev pub listed_by_number : Bool → Tabled → List Grouping → Option Grouping → Option ℕ → Listed
-listed_by_number json t groupings which None = listed_all json t groupings which None
-listed_by_number json t groupings which (Some number) =
-    listed_with json t groupings which (grouping_numbered groupings number)
+abbrev pub listed_by_number : Form → Tabled → List Grouping → Option Grouping → Option ℕ → Listed
+listed_by_number form t groupings which None = listed_all form t groupings which None
+listed_by_number form t groupings which (Some number) =
+    listed_with form t groupings which (grouping_numbered groupings number)
 
 -- What is said of a listing: all best groupings; that the certificate doesn't show them, with status 3; else what
 -- `check` says.
-abbrev pub listing_said : Bool → Tabled → Asked → Listing → Listed
-listing_said json t asked (All list) = listed_by_number json t (map sets_held list.items) asked.which asked.number
-listing_said json t asked (Open gap line) = said_alone (line_in json (open_answer gap line))
-listing_said json t asked Impossible =
-    said_alone (record { text = outcome_in json t.problem t.named outcome.Impossible; status = 1 })
-listing_said json t asked (No fault line) = said_alone (line_in json (no_answer fault line))
-listing_said json t asked Budget = said_alone (line_in json budget_answer)
+abbrev pub listing_said : Form → Tabled → Asked → Listing → Listed
+listing_said form t asked (All list) = listed_by_number form t (map sets_held list.items) asked.which asked.number
+listing_said form t asked (Open gap line) = said_alone (line_in form (open_answer gap line))
+listing_said form t asked Impossible =
+    said_alone (record { text = outcome_in form t.problem t.named outcome.Impossible; status = 1 })
+listing_said form t asked (No fault line) = said_alone (line_in form (no_answer fault line))
+listing_said form t asked Budget = said_alone (line_in form budget_answer)
 
 -- what `list` says of a text is the listing that it gives with such a budget
-pub record IsListAnswer (json : Bool) (t : Tabled) (budget : ℕ) (asked : Asked) (text : List ℕ) (s : Listed) : Type 0 where
+pub record IsListAnswer (form : Form) (t : Tabled) (budget : ℕ) (asked : Asked) (text : List ℕ) (s : Listed) : Type 0 where
   pub listing : Listing
   pub is : IsListing (problem_of t.problem) text budget listing
   pub all : ListsAllBest (problem_of t.problem) listing
-  pub said : s ≡ listing_said json t asked listing
+  pub said : s ≡ listing_said form t asked listing
 
 -- the grouping whose number is asked for, if its file is named
 abbrev pub which_of : Option Files → Option (Bor (List ℕ)) → Steps (Option Grouping)
@@ -138,7 +145,7 @@ list_steps files words =
     tabled_problem_in files words.check.problem (reads_names words.check.problem.common words.groupings)
     >>= λ t. which_of files words.which
     >>= λ which. load_step files words.check.certificate.now
-    >>= λ text. value_step (IsListAnswer words.check.problem.common.json t words.check.budget (asked_by words which) text)
+    >>= λ text. value_step (IsListAnswer words.check.problem.common.form t words.check.budget (asked_by words which) text)
 
 -- the files that are stored: the grouping of the number, and the table of all groupings
 abbrev pub listed_files : ListWords → Listed → List NamedFile

@@ -9,7 +9,7 @@ use Rattle.cli_words.specs.declared.end.WordsEnd.TheVariants.{Help, Version, Usa
 use Rattle.cli_file_stores.specs.Files.{NamedFile, Files}
 use Rattle.cli_file_stores.specs.History.{History}
 use Rattle.cli_answers.specs.Answer.{Answered, memory_answer}
-use Rattle.run_laws.specs.Forms.{IsShown, is_json}
+use Rattle.run_laws.specs.Forms.{IsShown, form_of_answer}
 use Rattle.run_laws.specs.Steps.{StepsEndIn}
 use Rattle.run_laws.specs.JudgeSteps.{size_steps, JudgeEnds, AuditEnds}
 use Rattle.run_laws.specs.SolveSteps.{SolveEnds}
@@ -51,7 +51,7 @@ pub record EndsShown (files : Option Files) (command : CommandWords) (before aft
     (a : Answered) : Type 0 where
   pub raw : Answered
   pub ends : CommandEnds files command before after stored raw
-  pub shown : IsShown (is_json command) raw a
+  pub shown : IsShown (form_of_answer command) raw a
 
 -- a run of a command; a growth may be refused in any
 abbrev pub CommandRun : Option Files → CommandWords → History → History → List NamedFile → Answered → Type 0

@@ -1,6 +1,6 @@
 -- The steps of `solve`: the problem is built, a solver looks for its best grouping, and what it found is stored and
 -- reported.
-use Rattle.std.specs.Prelude.{◌≡◌, ℕ, Bool, List, ◌++◌, Option, Some, None}
+use Rattle.std.specs.Prelude.{◌≡◌, ℕ, List, ◌++◌, Option, Some, None}
 use Rattle.county_problem.specs.ProblemValue.{problem_of}
 use Rattle.grouping_report.specs.GroupingText.{grouping_text}
 use Rattle.grouping_report.specs.declared.outcome.Outcome.TheVariants as outcome
@@ -19,6 +19,7 @@ use Rattle.run_laws.specs.Forms.{outcome_in, reads_names}
 use Rattle.run_laws.specs.Steps.{Steps, ◌>>=◌, value_step}
 use Rattle.run_laws.specs.TableSteps.{Tabled, tabled_problem_in, table_of}
 use Rattle.run_laws.specs.Storing.{EndsStoring, named_file}
+use Rattle.cli_words.specs.declared.words.Form.{Form}
 
 -- what `solve` says, and the texts for its files: those of the certificate, of the grouping, of the table and of the
 -- events
@@ -32,37 +33,37 @@ pub record Solved : Type 0 where
 -- What a solver answers, as it is said: the report, with status 0 where it is best, 1 where none is lawful and 3 where
 -- it is open; the text of the certificate; the lines of the grouping and its table, where there is one; and where it is
 -- open, the text of the events that go on from there.
-abbrev pub SaysSolved : Bool → Tabled → solver.Answer → Solved → Type 0
-SaysSolved json t (Best g c) s = (text : List ℕ) × IsSpelling text (certificate_of c)
+abbrev pub SaysSolved : Form → Tabled → solver.Answer → Solved → Type 0
+SaysSolved form t (Best g c) s = (text : List ℕ) × IsSpelling text (certificate_of c)
     × (s ≡ record {
       answer =
-          success (outcome_in json t.problem t.named (outcome.Best g));
+          success (outcome_in form t.problem t.named (outcome.Best g));
       certificate = Some text;
       grouping = Some (grouping_text g.groups.items);
       table = table_of t g.groups.items;
       events = None;
     })
-SaysSolved json t (Impossible c) s = (text : List ℕ) × IsSpelling text (certificate_of c)
+SaysSolved form t (Impossible c) s = (text : List ℕ) × IsSpelling text (certificate_of c)
     × (s ≡ record {
       answer =
-          record { text = outcome_in json t.problem t.named outcome.Impossible; status = 1 };
+          record { text = outcome_in form t.problem t.named outcome.Impossible; status = 1 };
       certificate = Some text;
       grouping = None;
       table = None;
       events = None;
     })
-SaysSolved json t (Open None part steps) s =
+SaysSolved form t (Open None part steps) s =
     s ≡ record {
-      answer = record { text = outcome_in json t.problem t.named (outcome.Open None steps); status = 3 };
+      answer = record { text = outcome_in form t.problem t.named (outcome.Open None steps); status = 3 };
       certificate = None;
       grouping = None;
       table = None;
       events = None;
     }
-SaysSolved json t (Open (Some g) part steps) s =
+SaysSolved form t (Open (Some g) part steps) s =
     s ≡ record {
       answer =
-          record { text = outcome_in json t.problem t.named (outcome.Open (Some g) steps); status = 3 };
+          record { text = outcome_in form t.problem t.named (outcome.Open (Some g) steps); status = 3 };
       certificate = None;
       grouping = Some (grouping_text g.groups.items);
       table = table_of t g.groups.items;
@@ -70,19 +71,19 @@ SaysSolved json t (Open (Some g) part steps) s =
     }
 
 -- what `solve` says of a problem is what a solver answers with this number of steps
-pub record IsSolved (json : Bool) (t : Tabled) (limit : ℕ) (s : Solved) : Type 0 where
+pub record IsSolved (form : Form) (t : Tabled) (limit : ℕ) (s : Solved) : Type 0 where
   pub found : solver.Answer
   pub is : IsSolveAnswer (problem_of t.problem) limit found
   pub best : SolveIsRight (problem_of t.problem) found
   pub complete : HasCompleteTree (problem_of t.problem) found
   pub whether : SaysWhether (problem_of t.problem) limit found
-  pub said : SaysSolved json t found s
+  pub said : SaysSolved form t found s
 
 -- `solve`: the problem is built, and the solver answers
 abbrev pub solve_steps : Option Files → SolveWords → Steps Solved
 solve_steps files words =
     tabled_problem_in files words.problem (reads_names words.problem.common words.table)
-    >>= λ t. value_step (IsSolved words.problem.common.json t words.steps)
+    >>= λ t. value_step (IsSolved words.problem.common.form t words.steps)
 
 -- the files that are stored: the certificate first, then the grouping, the table and the events
 abbrev pub files_to_store : SolveWords → Solved → List NamedFile

@@ -16,7 +16,7 @@ use baf_auditor::Assignment;
 use cli_answers::{FileOption, Refusal, RunAnswer, Subject};
 use cli_file_stores::FileStore;
 use cli_reports::{Audited, audit_and_report};
-use cli_words::{AuditWords, CommandWords};
+use cli_words::{AuditWords, CommandWords, Form};
 use county_codes::Grouping;
 use county_problem::Problem;
 use pl94_counties::Block;
@@ -30,10 +30,10 @@ struct AuditedPlan {
     grouping: Grouping,
 }
 
-/// Returns all findings, as an object if `json` is true. The table of the districts is beside them if `asked` is true.
+/// Returns all findings in this `form`. The table of the districts is beside them if `asked` is true.
 fn audit_plan(
     alloc: Global,
-    json: bool,
+    form: Form,
     problem: Problem,
     grouping: Grouping,
     blocks: &[Block],
@@ -44,9 +44,9 @@ fn audit_plan(
     requires ascending { IsStrictlyIncreasing (map (λ block. block.code) blocks.now) }
     requires few { length lines.now ≤ 4000000 }
     ensures { (history : History)
-        → Comes (λ p. audited_of p.audited) result (audit_step json asked problem grouping.groups.items blocks.now lines.now history history) }
+        → Comes (λ p. audited_of p.audited) result (audit_step form asked problem grouping.groups.items blocks.now lines.now history history) }
 {
-    let audited = audit_and_report(alloc, json, &problem, &grouping, blocks, lines, asked)?;
+    let audited = audit_and_report(alloc, form, &problem, &grouping, blocks, lines, asked)?;
     Ok(AuditedPlan {
         audited,
         problem,
@@ -77,8 +77,8 @@ fn audit_files<H: FileStore>(
     let grouping = load_grouping(alloc, FileOption::Grouping, words.grouping, file_store)?;
     let lines = load_assignments(alloc, words.assignments, file_store)?;
     let asked = words.districts.is_some();
-    let json = words.problem.common.json;
-    audit_plan(alloc, json, problem, grouping, &blocks, &lines, asked)
+    let form = words.problem.common.form;
+    audit_plan(alloc, form, problem, grouping, &blocks, &lines, asked)
 }
 
 /// Returns all that is wrong with the assignments of a plan. The problem is built first. Then the census blocks, the

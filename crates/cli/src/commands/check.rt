@@ -57,8 +57,8 @@ fn check_file<H: FileStore>(
     let reader = open(alloc, option, name, file_store)?;
     let mut source = HeadReader::new(alloc, reader);
     let mut line = Vec::new(alloc);
-    let json = words.problem.common.json;
-    let checked = check_from_and_report(alloc, json, &tabled, &mut source, words.budget, &mut line);
+    let form = words.problem.common.form;
+    let checked = check_from_and_report(alloc, form, &tabled, &mut source, words.budget, &mut line);
     let (reader, head) = source.into_parts();
     give_one_back(alloc, option, name, reader, file_store)?;
     said(checked, FaultText::Read { head, line }, tabled.problem)

@@ -14,7 +14,7 @@ use crate::storing::store_reported;
 use cli_answers::{FaultText, FileOption, Refusal, RunAnswer, Subject, refuse_verdict};
 use cli_file_stores::FileStore;
 use cli_reports::{Reported, Tabled, judge_and_report, refusal_in};
-use cli_words::{CommandWords, JudgeWords};
+use cli_words::{CommandWords, Form, JudgeWords};
 use county_codes::Grouping;
 use county_problem::{Problem, judge as judge_grouping};
 use std::alloc::Global;
@@ -55,19 +55,19 @@ fn subject_of(problem: Problem, certificate: Option<Vec<u8>>) -> Subject {
 /// lawful, returns the answer to its fault.
 fn verdict(
     alloc: Global,
-    json: bool,
+    form: Form,
     tabled: Tabled,
     grouping: Grouping,
     certificate: Option<Vec<u8>>,
     budget: u64,
 ) -> Result<Reported, Refusal>
     ensures { (history : History)
-        → Comes reported_of result (judge_step json (tabled_of tabled) grouping.groups.items budget (option_map (λ t. t.items) certificate) history history) }
+        → Comes reported_of result (judge_step form (tabled_of tabled) grouping.groups.items budget (option_map (λ t. t.items) certificate) history history) }
 {
     match judge_grouping(alloc, &tabled.problem, &grouping) {
         Ok(own) => {
             let text = certificate.as_ref();
-            let mut reported = judge_and_report(alloc, json, &tabled, grouping, own, text, budget)?;
+            let mut reported = judge_and_report(alloc, form, &tabled, grouping, own, text, budget)?;
             reported.answer.subject = Some(subject_of(tabled.problem, certificate));
             Ok(reported)
         }
@@ -77,7 +77,7 @@ fn verdict(
                 grouping: Some(grouping),
                 certificate: None,
             };
-            Err(refusal_in(alloc, json, refuse_verdict(alloc, fault, subject)))
+            Err(refusal_in(alloc, form, refuse_verdict(alloc, fault, subject)))
         }
     }
 }
@@ -94,11 +94,11 @@ fn judge_files<H: FileStore>(
     ensures same { H.contents file_store.new ≡ H.contents file_store.old }
     ensures kept { H.stored file_store.new ≡ H.stored file_store.old }
 {
-    let json = words.problem.common.json;
+    let form = words.problem.common.form;
     let tabled = load_tabled_problem(alloc, words.problem, words.table, file_store, notes)?;
     let grouping = load_grouping(alloc, FileOption::Grouping, words.grouping, file_store)?;
     let certificate = load_certificate(alloc, words.certificate, file_store)?;
-    verdict(alloc, json, tabled, grouping, certificate, words.budget)
+    verdict(alloc, form, tabled, grouping, certificate, words.budget)
 }
 
 /// Judges whether the grouping whose file `words` name is lawful, and with a certificate whether it is best. The

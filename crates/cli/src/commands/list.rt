@@ -70,7 +70,7 @@ fn list_files<H: FileStore>(
     ensures same { H.contents file_store.new ≡ H.contents file_store.old }
     ensures kept { H.stored file_store.new ≡ H.stored file_store.old }
 {
-    let json = words.check.problem.common.json;
+    let form = words.check.problem.common.form;
     let tabled = load_tabled_problem(
         alloc,
         words.check.problem,
@@ -87,7 +87,7 @@ fn list_files<H: FileStore>(
     )?;
     let number = number_in(words.stored);
     let asked = Asked { number, which };
-    let mut listed = list_and_report(alloc, json, &tabled, &text, words.check.budget, &asked)?;
+    let mut listed = list_and_report(alloc, form, &tabled, &text, words.check.budget, &asked)?;
     listed.answer.subject = Some(Subject {
         problem: tabled.problem,
         grouping: None,

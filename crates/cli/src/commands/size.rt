@@ -7,7 +7,7 @@ ghost use Rattle.cli_answers.specs.Answers.{answer_of, Comes};
 ghost use Rattle.run_laws.specs.JudgeSteps.{size_steps, sizes_of as sizes_in_steps};
 
 use crate::input::counties::{load_counties, load_named_counties, without_names};
-use crate::input::problem::build;
+use crate::input::problem::{build, has_names};
 use crate::notes::Notes;
 use cli_answers::{Refusal, RunAnswer, RunOutcome};
 use cli_file_stores::FileStore;
@@ -17,8 +17,8 @@ use county_codes::County;
 use pl94_counties::NamedCounty;
 use std::alloc::Global;
 
-/// Returns the size table of `counties`: an object, with the names of the counties in `named`, if `words` ask for one,
-/// and else a text.
+/// Returns the size table of `counties` in the form that `words` ask for. An object has the names of the counties in
+/// `named`.
 fn sizes_of(
     alloc: Global,
     words: CommonWords<'_>,
@@ -29,7 +29,7 @@ fn sizes_of(
         → Comes answer_of result (sizes_in_steps words.entry (option_map (λ v. map county_name v.items) named.now) counties.now history history) }
 {
     let problem = build(alloc, counties, &[], &[], words.chamber, words.tolerance)?;
-    let text = sizes_in(alloc, words.json, &problem, named)?;
+    let text = sizes_in(alloc, words.form, &problem, named)?;
     Ok(RunAnswer {
         text,
         status: 0,
@@ -38,8 +38,8 @@ fn sizes_of(
     })
 }
 
-/// Returns the size table of the counties in the files that `words` name. The names of the counties are read if `words`
-/// ask for an object. The first fault met is the answer.
+/// Returns the size table of the counties in the files that `words` name. The names of the counties are read if
+/// `words` ask for an answer that has them. The first fault met is the answer.
 pub(crate) fn size<H: FileStore>(
     alloc: Global,
     words: CommonWords<'_>,
@@ -51,7 +51,7 @@ pub(crate) fn size<H: FileStore>(
     ensures same { H.contents file_store.new ≡ H.contents file_store.old }
     ensures kept { H.stored file_store.new ≡ H.stored file_store.old }
 {
-    if words.json {
+    if has_names(words.form) {
         let named = load_named_counties(alloc, words, file_store, notes)?;
         let counties = without_names(alloc, &named)?;
         notes.note_people(&counties);

@@ -31,9 +31,9 @@ fn solve_files<H: FileStore, V: Watcher>(
     ensures same { H.contents file_store.new ≡ H.contents file_store.old }
     ensures kept { H.stored file_store.new ≡ H.stored file_store.old }
 {
-    let json = words.problem.common.json;
+    let form = words.problem.common.form;
     let tabled = load_tabled_problem(alloc, words.problem, words.table, file_store, notes)?;
-    let solved = solve_and_report(alloc, json, &tabled, words.steps, watcher)?;
+    let solved = solve_and_report(alloc, form, &tabled, words.steps, watcher)?;
     Ok(solved)
 }
 

@@ -4,7 +4,7 @@ ghost use Rattle.std.specs.Prelude.{◌≡◌, ◌≤◌};
 ghost use Rattle.cli_file_stores.specs.History.{History};
 ghost use Rattle.cli_answers.specs.Answers.{Comes};
 ghost use Rattle.run_laws.specs.ProblemSteps.{build_step, problem_over, problem_steps};
-ghost use Rattle.run_laws.specs.Forms.{reads_names as names_are_read};
+ghost use Rattle.run_laws.specs.Forms.{has_names as form_has_names, reads_names as names_are_read};
 ghost use Rattle.run_laws.specs.TableSteps.{named_problem_in, tabled_problem_in};
 ghost use Rattle.cli_reports.specs.Texts.{tabled_of};
 
@@ -15,7 +15,7 @@ use crate::notes::Notes;
 use cli_answers::{Refusal, refuse_problem};
 use cli_file_stores::FileStore;
 use cli_reports::Tabled;
-use cli_words::{CommonWords, ProblemWords};
+use cli_words::{CommonWords, Form, ProblemWords};
 use county_codes::{County, CountyCode, Tolerance, Withdrawn};
 use county_problem::Problem;
 use std::alloc::Global;
@@ -103,16 +103,26 @@ fn load_named_problem<H: FileStore>(
     })
 }
 
-/// Returns whether the names of the counties are read: for a table, if `table` names its file, or for an object, if
-/// `words` ask for one.
+/// Returns whether an answer of this `form` has the names of the counties.
+pub(crate) fn has_names(form: Form) -> bool
+    ensures { result ≡ form_has_names form }
+{
+    match form {
+        Form::Codes => false,
+        Form::Names | Form::Object => true,
+    }
+}
+
+/// Returns whether the names of the counties are read: for a table, if `table` names its file, or for an answer that has
+/// them, if `words` ask for one.
 fn reads_names(words: CommonWords<'_>, table: Option<&str>) -> bool
     ensures { result ≡ names_are_read words.entry table.entry }
 {
-    table.is_some() || words.json
+    table.is_some() || has_names(words.form)
 }
 
 /// Builds the problem of the files. The names of its counties are read and kept if `table` names the file of a table, or
-/// if `words` ask for an object.
+/// if `words` ask for an answer that has them.
 pub(crate) fn load_tabled_problem<H: FileStore>(
     alloc: Global,
     words: ProblemWords<'_>,

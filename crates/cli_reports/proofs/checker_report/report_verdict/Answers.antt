@@ -7,4 +7,4 @@ use Rattle.cli_reports.proofs.checker_report.report_verdict.Goals as goal
 pub returns-in-Best : goal.returns-in-Best
 returns-in-Best c =
     let t = tabled_of c.args.tabled.now in
-    subst (λ (verdict : Verdict). IfOk c.report_best.result (λ r. reported_of r ≡ record { answer = verdict_said c.args.json t verdict; table = verdict_table t verdict })) (sym c.in-Best.is) c.report_best.ensures
+    subst (λ (verdict : Verdict). IfOk c.report_best.result (λ r. reported_of r ≡ record { answer = verdict_said c.args.form t verdict; table = verdict_table t verdict })) (sym c.in-Best.is) c.report_best.ensures

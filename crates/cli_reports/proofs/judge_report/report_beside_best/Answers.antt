@@ -7,7 +7,7 @@ use Rattle.cli_reports.proofs.judge_report.report_beside_best.Goals as goal
 pub returns-in_default : goal.returns-in_default
 returns-in_default c = record {
   said = IfOk-weaker c.greater_report.result _ _ (λ r said.
-      says_greater c.args.json (tabled_of c.args.tabled.now) c.args.grouping.groups.items c.args.target c.args.own c.in_ok-best.best c.compare.result (answer_of r.answer) c.requires.own c.in_ok-best.ensures c.compare.ensures.equal c.compare.ensures.greater c.compare.ensures.less c.requires.lawful c.requires.best
+      says_greater c.args.form (tabled_of c.args.tabled.now) c.args.grouping.groups.items c.args.target c.args.own c.in_ok-best.best c.compare.result (answer_of r.answer) c.requires.own c.in_ok-best.ensures c.compare.ensures.equal c.compare.ensures.greater c.compare.ensures.less c.requires.lawful c.requires.best
       c.in_default.not-Equal said) c.greater_report.ensures.said;
   table = c.greater_report.ensures.table;
 }

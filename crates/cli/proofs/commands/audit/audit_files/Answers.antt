@@ -21,7 +21,7 @@ seen p = audited_of p.audited
 
 -- the findings of the assignments of a file, where the problem, the blocks and the grouping are known
 abbrev with_grouping : AuditWords → ProblemValue → List Block → Option Files → Grouping → Steps Audited
-with_grouping words v blocks files groups = plan_assignments files words.assignments.now >>= audit_step words.problem.common.json (is_some words.districts) v groups blocks
+with_grouping words v blocks files groups = plan_assignments files words.assignments.now >>= audit_step words.problem.common.form (is_some words.districts) v groups blocks
 
 -- and where the problem and the blocks are
 abbrev with_blocks : AuditWords → ProblemValue → Option Files → List Block → Steps Audited
@@ -49,7 +49,7 @@ returns-in_err-lines-clause-steps g c =
     stepped g.H.FileStore.contents g.H.FileStore.history seen _ (λ f. problem_steps f c.args.words.problem) (with_problem c.args.words) _ _ _ _ c.in_ok-problem.ensures.steps c.load_problem.ensures.same
     (stepped g.H.FileStore.contents g.H.FileStore.history seen _ (λ f. blocks_of f c.args.words.census c.args.words.problem.common.state) (with_blocks c.args.words v) _ _ _ _ c.in_ok-blocks.ensures.steps c.load_blocks.ensures.same
     (stepped g.H.FileStore.contents g.H.FileStore.history seen _ (λ f. grouping_of f c.args.words.grouping.now) (with_grouping c.args.words v c.in_ok-blocks.blocks.items) _ _ _ _ c.in_ok-grouping.ensures.steps c.load_grouping.ensures.same
-    (stopped g.H.FileStore.contents g.H.FileStore.history seen _ (λ f. plan_assignments f c.args.words.assignments.now) (λ _. audit_step c.args.words.problem.common.json (is_some c.args.words.districts) v c.in_ok-grouping.grouping.groups.items c.in_ok-blocks.blocks.items) _ _ _ c.from_residual-in_err-lines.ensures.1 c.in_err-lines.ensures.steps)))
+    (stopped g.H.FileStore.contents g.H.FileStore.history seen _ (λ f. plan_assignments f c.args.words.assignments.now) (λ _. audit_step c.args.words.problem.common.form (is_some c.args.words.districts) v c.in_ok-grouping.grouping.groups.items c.in_ok-blocks.blocks.items) _ _ _ c.from_residual-in_err-lines.ensures.1 c.in_err-lines.ensures.steps)))
 
 pub returns-clause-steps : goal.returns-clause-steps
 returns-clause-steps g c =
@@ -57,9 +57,9 @@ returns-clause-steps g c =
     let groups = c.in_ok-grouping.grouping.groups.items in
     let after = g.H.FileStore.history c.load_assignments.new.file_store in
     let asked : c.is_some-asked.result ≡ is_some c.args.words.districts = search rules in
-    let over_lists = subst₂ (λ (bs : List Block) (ls : List Assignment). Comes seen c.audit_plan.result (audit_step c.args.words.problem.common.json c.is_some-asked.result v groups bs ls after after)) c.deref.ensures.value c.deref-2.ensures.value (c.audit_plan.ensures after) in
-    let said = subst (λ (b : Bool). Comes seen c.audit_plan.result (audit_step c.args.words.problem.common.json b v groups c.in_ok-blocks.blocks.items c.in_ok-lines.lines.items after after)) asked over_lists in
+    let over_lists = subst₂ (λ (bs : List Block) (ls : List Assignment). Comes seen c.audit_plan.result (audit_step c.args.words.problem.common.form c.is_some-asked.result v groups bs ls after after)) c.deref.ensures.value c.deref-2.ensures.value (c.audit_plan.ensures after) in
+    let said = subst (λ (b : Bool). Comes seen c.audit_plan.result (audit_step c.args.words.problem.common.form b v groups c.in_ok-blocks.blocks.items c.in_ok-lines.lines.items after after)) asked over_lists in
     stepped g.H.FileStore.contents g.H.FileStore.history seen _ (λ f. problem_steps f c.args.words.problem) (with_problem c.args.words) _ _ _ _ c.in_ok-problem.ensures.steps c.load_problem.ensures.same
     (stepped g.H.FileStore.contents g.H.FileStore.history seen _ (λ f. blocks_of f c.args.words.census c.args.words.problem.common.state) (with_blocks c.args.words v) _ _ _ _ c.in_ok-blocks.ensures.steps c.load_blocks.ensures.same
     (stepped g.H.FileStore.contents g.H.FileStore.history seen _ (λ f. grouping_of f c.args.words.grouping.now) (with_grouping c.args.words v c.in_ok-blocks.blocks.items) _ _ _ _ c.in_ok-grouping.ensures.steps c.load_grouping.ensures.same
-    (stepped g.H.FileStore.contents g.H.FileStore.history seen _ (λ f. plan_assignments f c.args.words.assignments.now) (λ _. audit_step c.args.words.problem.common.json (is_some c.args.words.districts) v groups c.in_ok-blocks.blocks.items) _ _ _ _ c.in_ok-lines.ensures.steps c.load_assignments.ensures.same said)))
+    (stepped g.H.FileStore.contents g.H.FileStore.history seen _ (λ f. plan_assignments f c.args.words.assignments.now) (λ _. audit_step c.args.words.problem.common.form (is_some c.args.words.districts) v groups c.in_ok-blocks.blocks.items) _ _ _ _ c.in_ok-lines.ensures.steps c.load_assignments.ensures.same said)))

@@ -17,4 +17,4 @@ returns-clause-steps g c =
     let given = g.H.Reader.Source.given c.into_parts-reader.result.0 in
     let back = subst (λ (known : Option Files). given_back known words.certificate.now between after (Ok given)) c.open.ensures.same c.in_ok-give_one_back.ensures.back in
     file_checked files words t before between after given c.said.result c.in_ok-reader.ensures.steps back
-    (said_checked words.problem.common.json t words.budget _ _ given c.check_from_and_report-checked.result c.said.result (c.new-source.ensures.given ∙ c.in_ok-reader.ensures.given) c.into_parts-reader.ensures.given c.check_from_and_report-checked.ensures.checked c.said.ensures)
+    (said_checked words.problem.common.form t words.budget _ _ given c.check_from_and_report-checked.result c.said.result (c.new-source.ensures.given ∙ c.in_ok-reader.ensures.given) c.into_parts-reader.ensures.given c.check_from_and_report-checked.ensures.checked c.said.ensures)

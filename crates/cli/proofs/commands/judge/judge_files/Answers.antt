@@ -14,7 +14,7 @@ use Rattle.cli.proofs.commands.judge.judge_files.Goals as goal
 
 -- the verdict beside the certificate of a file, where the problem and the grouping are known
 abbrev with_grouping : JudgeWords → Tabled → Option Files → Grouping → Steps Reported
-with_grouping words t files groups = certificate_text_of files words.certificate >>= judge_step words.problem.common.json t groups words.budget
+with_grouping words t files groups = certificate_text_of files words.certificate >>= judge_step words.problem.common.form t groups words.budget
 
 -- and where the problem is
 abbrev with_problem : JudgeWords → Option Files → Tabled → Steps Reported
@@ -30,11 +30,11 @@ returns-in_err-certificate-clause-steps g c =
     let t = tabled_of c.in_ok-tabled.tabled in
     stepped g.H.FileStore.contents g.H.FileStore.history reported_of _ (λ f. tabled_problem_in f c.args.words.problem (reads_names c.args.words.problem.common c.args.words.table)) (with_problem c.args.words) _ _ _ _ c.in_ok-tabled.ensures.steps c.load_tabled_problem.ensures.same
     (stepped g.H.FileStore.contents g.H.FileStore.history reported_of _ (λ f. grouping_of f c.args.words.grouping.now) (with_grouping c.args.words t) _ _ _ _ c.in_ok-grouping.ensures.steps c.load_grouping.ensures.same
-    (stopped g.H.FileStore.contents g.H.FileStore.history reported_of _ (λ f. certificate_text_of f c.args.words.certificate) (λ _. judge_step c.args.words.problem.common.json t c.in_ok-grouping.grouping.groups.items c.args.words.budget) _ _ _ c.from_residual-in_err-certificate.ensures.1 c.in_err-certificate.ensures.steps))
+    (stopped g.H.FileStore.contents g.H.FileStore.history reported_of _ (λ f. certificate_text_of f c.args.words.certificate) (λ _. judge_step c.args.words.problem.common.form t c.in_ok-grouping.grouping.groups.items c.args.words.budget) _ _ _ c.from_residual-in_err-certificate.ensures.1 c.in_err-certificate.ensures.steps))
 
 pub returns-clause-steps : goal.returns-clause-steps
 returns-clause-steps g c =
     let t = tabled_of c.in_ok-tabled.tabled in
     stepped g.H.FileStore.contents g.H.FileStore.history reported_of _ (λ f. tabled_problem_in f c.args.words.problem (reads_names c.args.words.problem.common c.args.words.table)) (with_problem c.args.words) _ _ _ _ c.in_ok-tabled.ensures.steps c.load_tabled_problem.ensures.same
     (stepped g.H.FileStore.contents g.H.FileStore.history reported_of _ (λ f. grouping_of f c.args.words.grouping.now) (with_grouping c.args.words t) _ _ _ _ c.in_ok-grouping.ensures.steps c.load_grouping.ensures.same
-    (stepped g.H.FileStore.contents g.H.FileStore.history reported_of _ (λ f. certificate_text_of f c.args.words.certificate) (λ _. judge_step c.args.words.problem.common.json t c.in_ok-grouping.grouping.groups.items c.args.words.budget) _ _ _ _ c.in_ok-certificate.ensures.steps c.load_certificate.ensures.same (c.verdict.ensures _)))
+    (stepped g.H.FileStore.contents g.H.FileStore.history reported_of _ (λ f. certificate_text_of f c.args.words.certificate) (λ _. judge_step c.args.words.problem.common.form t c.in_ok-grouping.grouping.groups.items c.args.words.budget) _ _ _ _ c.in_ok-certificate.ensures.steps c.load_certificate.ensures.same (c.verdict.ensures _)))

@@ -13,7 +13,7 @@ use Rattle.cli.proofs.commands.list.list_files.Goals as goal
 
 -- the list by a certificate, where the problem and what is asked for are known
 abbrev with_text : ListWords → Tabled → Option Grouping → List ℕ → Steps Listed
-with_text words t which text = value_step (IsListAnswer words.check.problem.common.json t words.check.budget (asked_by words which) text)
+with_text words t which text = value_step (IsListAnswer words.check.problem.common.form t words.check.budget (asked_by words which) text)
 
 -- and where its file is loaded
 abbrev with_which : ListWords → Tabled → Option Files → Option Grouping → Steps Listed
@@ -40,7 +40,7 @@ returns-clause-steps g c =
     let t = tabled_of c.in_ok-tabled.tabled in
     let which = option_map (λ g. g.groups.items) c.in_ok-which.which in
     let said = listed_of c.in_ok-listed.listed in
-    let listed = subst₂ (λ (n : Option ℕ) (text : List ℕ). IsListAnswer c.args.words.check.problem.common.json t c.args.words.check.budget (record { number = n; which = which }) text said) c.number_in-number.ensures c.deref.ensures.value c.in_ok-listed.ensures in
+    let listed = subst₂ (λ (n : Option ℕ) (text : List ℕ). IsListAnswer c.args.words.check.problem.common.form t c.args.words.check.budget (record { number = n; which = which }) text said) c.number_in-number.ensures c.deref.ensures.value c.in_ok-listed.ensures in
     gave g.H.FileStore.contents g.H.FileStore.history (Ok said) (λ f. tabled_problem_in f c.args.words.check.problem (reads_names c.args.words.check.problem.common c.args.words.groupings)) (with_problem c.args.words) _ _ _ _ c.in_ok-tabled.ensures.steps c.load_tabled_problem.ensures.same
     (gave g.H.FileStore.contents g.H.FileStore.history (Ok said) (λ f. which_of f c.args.words.which) (with_which c.args.words t) _ _ _ _ c.in_ok-which.ensures.steps c.load_which.ensures.same
     (gave g.H.FileStore.contents g.H.FileStore.history (Ok said) (λ f. load_step f c.args.words.check.certificate.now) (λ _. with_text c.args.words t which) _ _ _ _ c.in_ok-text.ensures.steps c.load.ensures.same (refl, listed)))

@@ -18,7 +18,7 @@ alone words counties = build_step words.chamber words.tolerance counties [] []
 
 -- its size table
 abbrev sized : CommonWords → Option (List CountyName) → ProblemValue → Steps Answered
-sized words named v = value_step (λ a. a ≡ success (size_in words.json v named))
+sized words named v = value_step (λ a. a ≡ success (size_in words.form v named))
 
 pub returns-in_err-problem : goal.returns-in_err-problem
 returns-in_err-problem c = λ history.
