@@ -20,6 +20,10 @@ flag_option name = record (new_rule name) { long = Some name; action = Some SetT
 abbrev pub json_option : Rule
 json_option = flag_option (codes "json")
 
+-- `--names`
+abbrev pub names_option : Rule
+names_option = flag_option (codes "names")
+
 -- the option, which must be given
 abbrev pub required : Rule → Rule
 required option = record option { required = true }
@@ -95,7 +99,7 @@ certificate_options = problem_options ++ required (text_option (codes "certifica
 
 -- In the options of each subcommand the files that are read come first, then those that are written, which need not be
 -- given, and then what bounds a search. The last of the files that are written is that of the record. Where an answer
--- can be an object of JSON, `--json` comes behind it.
+-- can be an object of JSON, `--json` comes behind it, and then `--names` where a text has lists of counties.
 
 -- the options of `solve`: those that give a problem, the files of the certificate, of the grouping, of the table, of
 -- the events and of the record, and the most steps of the search
@@ -103,7 +107,7 @@ abbrev pub solve_options : List Rule
 solve_options =
     problem_options
     ++ text_option (codes "certificate") ∷ text_option (codes "out") ∷ text_option (codes "table")
-    ∷ text_option (codes "events") ∷ text_option (codes "record") ∷ json_option
+    ∷ text_option (codes "events") ∷ text_option (codes "record") ∷ json_option ∷ names_option
     ∷ of_steps (text_option (codes "steps")) ∷ []
 
 -- the options of `check`: those that give a certificate, the files of the table and of the record, and the most steps
@@ -111,7 +115,7 @@ solve_options =
 abbrev pub check_options : List Rule
 check_options =
     certificate_options
-    ++ text_option (codes "table") ∷ text_option (codes "record") ∷ json_option
+    ++ text_option (codes "table") ∷ text_option (codes "record") ∷ json_option ∷ names_option
     ∷ of_steps (text_option (codes "budget")) ∷ []
 
 -- the options of `judge`: those that give a problem and a grouping, the file of a certificate, which need not be given,
@@ -120,7 +124,7 @@ abbrev pub judge_options : List Rule
 judge_options =
     grouping_options
     ++ text_option (codes "certificate") ∷ text_option (codes "table") ∷ text_option (codes "record") ∷ json_option
-    ∷ of_steps (text_option (codes "budget")) ∷ []
+    ∷ names_option ∷ of_steps (text_option (codes "budget")) ∷ []
 
 -- the options of `list`: those that give a certificate, the file of a grouping whose number is asked for, which need
 -- not be given, the number of a listed grouping and the file that it is written to, which need not be given either, the
@@ -129,7 +133,7 @@ abbrev pub list_options : List Rule
 list_options =
     certificate_options
     ++ text_option (codes "which") ∷ number_option (codes "number") ∷ text_option (codes "out")
-    ∷ text_option (codes "groupings") ∷ text_option (codes "record") ∷ json_option
+    ∷ text_option (codes "groupings") ∷ text_option (codes "record") ∷ json_option ∷ names_option
     ∷ of_steps (text_option (codes "budget")) ∷ []
 
 -- the options of `size`: those of each subcommand, and the file of the record

@@ -21,6 +21,8 @@ use Rattle.cli_words.specs.declared.words.CheckWords.{CheckWords}
 use Rattle.cli_words.specs.declared.words.CommonWords.{CommonWords}
 use Rattle.cli_words.specs.declared.words.CountyWords.{CountyWords}
 use Rattle.cli_words.specs.declared.words.CountyWords.TheVariants.{Census, People}
+use Rattle.cli_words.specs.declared.words.Form.{Form}
+use Rattle.cli_words.specs.declared.words.Form.TheVariants.{Codes, Names, Object}
 use Rattle.cli_words.specs.declared.words.WorkerWords.{WorkerWords}
 use Rattle.cli_words.specs.declared.words.JudgeWords.{JudgeWords}
 use Rattle.cli_words.specs.declared.words.ListWords.{ListWords}
@@ -85,6 +87,13 @@ abbrev pub is_set : Option Text → Bool
 is_set None = false
 is_set (Some text) = bytes_eq text (codes "true")
 
+-- the form of an answer: an object where `--json` is set, else a text with names where `--names` is, and else a text
+-- with codes
+abbrev pub form_of : (json names : Bool) → Form
+form_of true names = Object
+form_of false true = Names
+form_of false false = Codes
+
 -- the values of a subcommand's options name the two census files
 pub record GivesCensus (rows : List Row) (words : CensusWords) : Type 0 where
   pub geo : first_of (codes "geo") rows ≡ Some words.geo.now
@@ -97,12 +106,12 @@ GivesCounties rows (Census words) = (is_given (codes "people") rows ≡ false) �
 GivesCounties rows (People name) =
     (is_given (codes "people") rows ≡ true) × (first_of (codes "people") rows ≡ Some name.now)
 
--- the values of a subcommand's options say which files give the counties, the file of the record, and whether the
--- answer is an object
+-- the values of a subcommand's options say which files give the counties, the file of the record, and the form of the
+-- answer
 pub record SaysShared (rows : List Row) (words : SharedWords) : Type 0 where
   pub counties : GivesCounties rows words.counties
   pub record_file : GivesText (codes "record") rows words.record_file
-  pub json : words.json ≡ is_set (first_of (codes "json") rows)
+  pub form : words.form ≡ form_of (is_set (first_of (codes "json") rows)) (is_set (first_of (codes "names") rows))
 
 -- the values of a subcommand's options say what those give that each subcommand has
 pub record SaysCommon (rows : List Row) (words : CommonWords) : Type 0 where
@@ -114,7 +123,7 @@ pub record SaysCommon (rows : List Row) (words : CommonWords) : Type 0 where
   pub default : is_given (codes "state") rows ≡ false → words.state ≡ 37
   pub tolerance : SaysTolerance rows words.tolerance
   pub record_file : GivesText (codes "record") rows words.record_file
-  pub json : words.json ≡ is_set (first_of (codes "json") rows)
+  pub form : words.form ≡ form_of (is_set (first_of (codes "json") rows)) (is_set (first_of (codes "names") rows))
 
 -- the values of a subcommand's options say which problem is meant
 pub record SaysProblem (rows : List Row) (words : ProblemWords) : Type 0 where

@@ -1,7 +1,7 @@
 //! The command `countygroups`, as `clap` parses it.
 ghost use Rattle.std.specs.Prelude.{◌≡◌, ◌++◌, IfOk, codes, false};
 ghost use Rattle.clap.specs.Words.{app_of, rule_of};
-ghost use Rattle.cli_words.specs.Command.{AddsCommand, AddsOption, HasMore, HasShape, IsBare, audit_options, census_options, certificate_options, chamber_option, check_options, common_options, countygroups, countygroups_alone, county_options, depth_option, grouping_options, json_option, judge_options, limit_option, list_options, number_option, of_steps, part_option, piece_options, problem_options, required, share_options, size_options, solve_options, state_option, subcommand, text_option, whole_option, with_counties, worker_options};
+ghost use Rattle.cli_words.specs.Command.{AddsCommand, AddsOption, HasMore, HasShape, IsBare, audit_options, census_options, certificate_options, chamber_option, check_options, common_options, countygroups, countygroups_alone, county_options, depth_option, flag_option, grouping_options, json_option, judge_options, limit_option, list_options, names_option, number_option, of_steps, part_option, piece_options, problem_options, required, share_options, size_options, solve_options, state_option, subcommand, text_option, whole_option, with_counties, worker_options};
 
 use crate::help;
 use crate::help::OptionHelp;
@@ -136,17 +136,33 @@ fn record_option<'a>(alloc: Global) -> Arg<'a>
     text_option(alloc, help::OUTPUT, "record", help::RECORD)
 }
 
+/// Creates a flag `--name`, which help shows under the heading of the output, with this `name` and `help`.
+fn flag_option<'a>(alloc: Global, name: &'a str, help: OptionHelp<'a>) -> Arg<'a>
+    ensures rule { rule_of result ≡ flag_option name.entry.now }
+    ensures local { result.global ≡ false }
+{
+    Arg::new(alloc, name)
+        .long(name)
+        .action(ArgAction::SetTrue)
+        .help_heading(help::OUTPUT)
+        .help(help.short)
+        .long_help(help.long)
+}
+
 /// Creates the flag `--json`.
 fn json_option<'a>(alloc: Global) -> Arg<'a>
     ensures rule { rule_of result ≡ json_option }
     ensures local { result.global ≡ false }
 {
-    Arg::new(alloc, "json")
-        .long("json")
-        .action(ArgAction::SetTrue)
-        .help_heading(help::OUTPUT)
-        .help(help::JSON.short)
-        .long_help(help::JSON.long)
+    flag_option(alloc, "json", help::JSON)
+}
+
+/// Creates the flag `--names`.
+fn names_option<'a>(alloc: Global) -> Arg<'a>
+    ensures rule { rule_of result ≡ names_option }
+    ensures local { result.global ≡ false }
+{
+    flag_option(alloc, "names", help::NAMES)
 }
 
 /// Creates the option `--table FILE`.
@@ -277,6 +293,8 @@ fn solve_command<'a>(alloc: Global) -> Result<Command<'a>, AllocError>
     let made = with_option(made, run_record);
     let json = json_option(alloc);
     let made = with_option(made, json);
+    let names = names_option(alloc);
+    let made = with_option(made, names);
     let steps = steps_option(alloc, "steps", help::STEPS);
     with_option(made, steps)
 }
@@ -295,6 +313,8 @@ fn check_command<'a>(alloc: Global) -> Result<Command<'a>, AllocError>
     let made = with_option(made, run_record);
     let json = json_option(alloc);
     let made = with_option(made, json);
+    let names = names_option(alloc);
+    let made = with_option(made, names);
     let budget = steps_option(alloc, "budget", help::BUDGET);
     with_option(made, budget)
 }
@@ -315,6 +335,8 @@ fn judge_command<'a>(alloc: Global) -> Result<Command<'a>, AllocError>
     let made = with_option(made, run_record);
     let json = json_option(alloc);
     let made = with_option(made, json);
+    let names = names_option(alloc);
+    let made = with_option(made, names);
     let budget = steps_option(alloc, "budget", help::BUDGET);
     with_option(made, budget)
 }
@@ -339,6 +361,8 @@ fn list_command<'a>(alloc: Global) -> Result<Command<'a>, AllocError>
     let made = with_option(made, run_record);
     let json = json_option(alloc);
     let made = with_option(made, json);
+    let names = names_option(alloc);
+    let made = with_option(made, names);
     let budget = steps_option(alloc, "budget", help::BUDGET);
     with_option(made, budget)
 }

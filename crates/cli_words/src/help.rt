@@ -460,6 +460,14 @@ pub(crate) const JSON: OptionHelp<'static> = OptionHelp {
         names of the counties.",
 };
 
+/// What help says of `--names`.
+pub(crate) const NAMES: OptionHelp<'static> = OptionHelp {
+    value_name: "",
+    short: "Print the names of the counties behind their codes",
+    long: "Print the names of the counties behind their codes. With --json this changes nothing,\n\
+        because the object has the names.",
+};
+
 /// What help says of `--table`.
 pub(crate) const TABLE: OptionHelp<'static> = OptionHelp {
     value_name: "FILE",

@@ -31,6 +31,6 @@ pub use end::WordsEnd;
 pub use version::version_text;
 pub use words::{
     AuditWords, BoardWords, CensusWords, CertificateWords, CheckWords, CommandWords, CommonWords,
-    CountyWords, JudgeWords, ListWords, PieceWords, ProblemWords, RoundWords, STANDARD_INPUT,
+    CountyWords, Form, JudgeWords, ListWords, PieceWords, ProblemWords, RoundWords, STANDARD_INPUT,
     ShareWords, SolveWords, StoredWords, WorkerWords, parse,
 };

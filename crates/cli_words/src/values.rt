@@ -1,9 +1,10 @@
-//! The values of options, by their kind: paths, numbers of steps, numbers in a range and the tolerance.
+//! The values of options, by their kind: paths, flags, numbers of steps, numbers in a range and the tolerance.
 ghost use Rattle.std.specs.Prelude.{◌≡◌, ◌≤◌, Some, codes, false};
 ghost use Rattle.clap.specs.{Takes.is_given, Words.{first_of, found_of, rows_of}};
 ghost use Rattle.cli_words.specs.Command.{chamber_option, depth_option, limit_option, number_option, of_steps, part_option, required, state_option, text_option, whole_option};
-ghost use Rattle.cli_words.specs.{Options.HasItsValue, Words.{GivesItsNumber, GivesNumber, GivesText, SaysTolerance, is_set}};
+ghost use Rattle.cli_words.specs.{Options.HasItsValue, Words.{GivesItsNumber, GivesNumber, GivesText, SaysTolerance, form_of, is_set}};
 
+use crate::words::Form;
 use clap::ArgMatches;
 use county_codes::Tolerance;
 
@@ -24,12 +25,30 @@ pub(crate) fn path_or_none<'a>(found: &ArgMatches<'a>, name: &str) -> Option<&'a
 }
 
 /// Reads whether the flag `name` is set. It isn't where the subcommand hasn't that flag.
-pub(crate) fn flag<'a>(found: &ArgMatches<'a>, name: &str) -> bool
+fn flag<'a>(found: &ArgMatches<'a>, name: &str) -> bool
     ensures { result ≡ is_set (first_of name.now (rows_of (found_of found.now))) }
 {
     match found.get_str(name) {
         Some(value) => value == "true",
         None => false,
+    }
+}
+
+/// Reads the form of the answer from the values `found`: an object if `--json` is set, else a text with names if
+/// `--names` is, and else a text with codes.
+pub(crate) fn form<'a>(found: &ArgMatches<'a>) -> Form
+    ensures { result ≡ form_of
+        (is_set (first_of (codes "json") (rows_of (found_of found.now))))
+        (is_set (first_of (codes "names") (rows_of (found_of found.now)))) }
+{
+    let json = flag(found, "json");
+    let names = flag(found, "names");
+    if json {
+        Form::Object
+    } else if names {
+        Form::Names
+    } else {
+        Form::Codes
     }
 }
 

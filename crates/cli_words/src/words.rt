@@ -10,7 +10,7 @@ ghost use Rattle.cli_words.specs.declared.end.OptionsFault.TheVariants.{Depth, N
 use crate::command::program;
 use crate::end::{OptionsFault, WordsEnd};
 use crate::values::{
-    chamber, depth, flag, limit, number, number_or_none, path, path_or_none, state, steps,
+    chamber, depth, form, limit, number, number_or_none, path, path_or_none, state, steps,
     tolerance,
 };
 use clap::error::ErrorKind;
@@ -62,6 +62,17 @@ pub enum CountyWords<'a> {
     People(&'a str),
 }
 
+/// The form of an answer.
+#[derive(Clone, Copy, Debug, PartialEq, Eq)]
+pub enum Form {
+    /// A text with the codes of the counties.
+    Codes,
+    /// A text with the names of the counties behind their codes.
+    Names,
+    /// An object of JSON.
+    Object,
+}
+
 /// The words that each subcommand has and that are read first.
 #[derive(Clone, Copy)]
 pub(crate) struct SharedWords<'a> {
@@ -69,8 +80,8 @@ pub(crate) struct SharedWords<'a> {
     counties: CountyWords<'a>,
     /// The name of the file that the record of the run is written to, where the words give one.
     record_file: Option<&'a str>,
-    /// Whether the answer is an object of JSON.
-    json: bool,
+    /// The form of the answer.
+    form: Form,
 }
 
 /// The options that each subcommand has.
@@ -89,9 +100,9 @@ pub struct CommonWords<'a> {
     pub tolerance: Tolerance,
     /// The name of the file that the record of the run is written to, where the words give one.
     pub record_file: Option<&'a str>,
-    /// Whether the answer is an object of JSON in place of a text. It is a text where the words don't ask for one, and
-    /// in each of `share`, `piece` and `worker`.
-    pub json: bool,
+    /// The form of the answer. It is an object where the words give `--json`, a text with names where they give
+    /// `--names` alone, and else a text with codes. It is a text with codes in each of `share`, `piece` and `worker`.
+    pub form: Form,
 }
 
 /// The options that give a problem: those of each subcommand, and the files of adjacency, links and withdrawn sets.
@@ -317,7 +328,7 @@ fn common_words<'a>(found: &ArgMatches<'a>, shared: SharedWords<'a>) -> CommonWo
         state: state(found),
         tolerance: tolerance(found),
         record_file: shared.record_file,
-        json: shared.json,
+        form: shared.form,
     }
 }
 
@@ -420,7 +431,7 @@ fn audit_words<'a>(found: &ArgMatches<'a>) -> AuditWords<'a>
     let shared = SharedWords {
         counties: audit_county_words(found, census),
         record_file: path_or_none(found, "record"),
-        json: flag(found, "json"),
+        form: form(found),
     };
     AuditWords {
         problem: problem_words(found, shared),
@@ -654,7 +665,7 @@ fn command_words<'a>(name: &str, found: &ArgMatches<'a>) -> Result<CommandWords<
             let shared = SharedWords {
                 counties,
                 record_file,
-                json: flag(found, "json"),
+                form: form(found),
             };
             command_words_with(name, found, shared)
         }

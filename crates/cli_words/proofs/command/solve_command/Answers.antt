@@ -1,5 +1,5 @@
 use Rattle.std.proofs.Common.{codes}
-use Rattle.cli_words.specs.Command.{county_options, json_option, of_steps, solve_options, text_option}
+use Rattle.cli_words.specs.Command.{county_options, json_option, names_option, of_steps, solve_options, text_option}
 use Rattle.cli_words.proofs.CommandLemmas.{shape_behind}
 use Rattle.cli_words.proofs.command.solve_command.Goals as goal
 
@@ -12,5 +12,6 @@ returns c =
     let events = c.with_option-made-4.ensures mid _ (text_option (codes "events")) table c.text_option-events.ensures.rule c.text_option-events.ensures.local in
     let recorded = c.with_option-made-5.ensures mid _ (text_option (codes "record")) events c.record_option-run_record.ensures.rule c.record_option-run_record.ensures.local in
     let json = c.with_option-made-6.ensures mid _ json_option recorded c.json_option-json.ensures.rule c.json_option-json.ensures.local in
-    let steps = c.with_option.ensures mid _ (of_steps (text_option (codes "steps"))) json c.steps_option-steps.ensures.rule c.steps_option-steps.ensures.local in
+    let names = c.with_option-made-7.ensures mid _ names_option json c.names_option-names.ensures.rule c.names_option-names.ensures.local in
+    let steps = c.with_option.ensures mid _ (of_steps (text_option (codes "steps"))) names c.steps_option-steps.ensures.rule c.steps_option-steps.ensures.local in
     shape_behind c.bare_command-bare.result mid c.with_option.result (codes "solve") county_options solve_options c.bare_command-bare.ensures.app c.bare_command-bare.ensures.local c.in_ok-counties.ensures steps
