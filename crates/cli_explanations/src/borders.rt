@@ -92,9 +92,10 @@ fn kind_of(text: &[u8]) -> &'static str {
     }
 }
 
-/// Returns the text of the file of `path`, if it is a plain one that can be read and isn't too large.
+/// Returns the text of the file of `path`, if it is a plain one that can be read and isn't too large. Standard input,
+/// which has the name `-`, is left for the run.
 fn text_of(rt: &(impl Files + AllocGlobal), path: &str) -> Option<Vec<u8>> {
-    if !is_plain(rt, path) {
+    if path == "-" || !is_plain(rt, path) {
         return None;
     }
     let mut source = Reading::new(fs::open(rt, path).ok()?);

@@ -27,6 +27,9 @@ impl Unmoved<'_> {
         match (self.fault, self.reason) {
             (FileStoreFault::TooLarge, _) => "it has more than 1073741824 bytes",
             (FileStoreFault::Missing, _) => words_of_reason(ErrorKind::NotFound),
+            (_, Some(ErrorKind::ResourceBusy)) if self.path == "-" => {
+                "`-` is standard input, which can be read once, for one file"
+            }
             (_, Some(reason)) => words_of_reason(reason),
             (_, None) => "the device failed",
         }

@@ -17,10 +17,17 @@ use std::io::{Error, ErrorKind, Read};
 use std::rt::Files;
 use std::{fs, io};
 
-/// The machine's files.
+/// The name that stands for standard input where a file is read.
+const INPUT: &str = "-";
+
+/// The path of standard input.
+const INPUT_PATH: &str = "/dev/stdin";
+
+/// The machine's files. The name `-` stands for standard input where a file is read, and can be read once.
 #[derive(Drop)]
 pub struct DiskFileStore<R: Files> {
     rt: R,
+    is_input_taken: bool,
     failures: u64,
     reason: Option<ErrorKind>,
     ready: Vec<Ready<R::File>>,
@@ -35,6 +42,7 @@ impl<R: Machine + AllocGlobal> DiskFileStore<R> {
         let ready = Vec::new(rt.alloc());
         DiskFileStore {
             rt,
+            is_input_taken: false,
             failures: 0,
             reason: None,
             ready,
@@ -160,6 +168,26 @@ fn read_fault(fault: WholeFault, failures: &mut u64) -> FileStoreFault
 }
 
 impl<R: Machine + AllocGlobal> DiskFileStore<R> {
+    /// Opens the file of this `name`, or standard input if the name is `-`. A second reader of standard input would get
+    /// what the first one left, so it is refused.
+    ///
+    /// # Errors
+    ///
+    /// Returns `ResourceBusy` if standard input was opened before, and any other error as the system gives it.
+    fn open(&mut self, name: &str) -> io::Result<R::File>
+        ensures failures { self.new.failures ≡ self.old.failures }
+        ensures log { self.new.log ≡ self.old.log }
+    {
+        if name != INPUT {
+            return fs::open(&self.rt, name);
+        }
+        if self.is_input_taken {
+            return Err(Error::from(ErrorKind::ResourceBusy));
+        }
+        self.is_input_taken = true;
+        fs::open(&self.rt, INPUT_PATH)
+    }
+
     /// Reads the file of this `name` whole. Reading stops once more than `MAX_FILE` bytes have come. A file that the
     /// system says is larger isn't read at all.
     fn read_file(&mut self, alloc: Global, name: &str) -> Result<Vec<u8>, FileStoreFault>
@@ -167,7 +195,7 @@ impl<R: Machine + AllocGlobal> DiskFileStore<R> {
         ensures counted { CountsFailures self.old.failures self.new.failures result }
         ensures same { self.new.log ≡ self.old.log }
     {
-        let file = match fs::open(&self.rt, name) {
+        let file = match self.open(name) {
             Ok(file) => file,
             Err(error) => {
                 self.reason = Some(error.kind());
@@ -215,7 +243,7 @@ impl<R: Machine + AllocGlobal> FileStore for DiskFileStore<R> {
         _alloc: Global,
         name: &str,
     ) -> Result<FileReader<R::File>, FileStoreFault> {
-        match fs::open(&self.rt, name) {
+        match self.open(name) {
             Ok(file) => Ok(FileReader::new(file, self.log.are_kept())),
             Err(error) => {
                 self.reason = Some(error.kind());
