@@ -147,7 +147,7 @@ fn explain_census(
         ),
         (Pl94Kind::NoCounties, _, _) => explain_state(out, text),
         (Pl94Kind::NoBlocks, _, _) => out.push_str(
-            "countygroups: give --geo the state's whole geographic header, which has its blocks; that in data/nc2020 has none\n",
+            "countygroups: give --geo the state's whole geographic header, which has its blocks; the header in data/nc2020 has none\n",
         ),
         (Pl94Kind::NoRecord, _, _) => writeln!(
             out,

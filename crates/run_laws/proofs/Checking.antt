@@ -1,5 +1,5 @@
 -- A check of a certificate answers what the certificate shows, unless it is cut off.
-use Rattle.std.proofs.Common.{◌≡◌, ◌≤◌, ◌⊎◌, ℕ, Bool, true, false, List, Option, Some, None, inl, inr, refl, sym, ap, subst, ◌∙◌}
+use Rattle.std.proofs.Common.{◌≡◌, ◌≤◌, ◌⊎◌, ℕ, Bool, List, Option, Some, None, inl, inr, refl, sym, ap, subst, ◌∙◌}
 use Rattle.std.specs.Prelude.{Ok, Err, codes}
 use Rattle.county_problem.specs.ProblemValue.{ProblemValue, problem_of}
 use Rattle.grouping_laws.specs.Grouping.{Grouping}
@@ -32,6 +32,7 @@ use Rattle.run_laws.proofs.Repeating.{EndsBy, bind_ends, value_ends, given_begin
 use Rattle.run_laws.proofs.SameProblem.{IsTabled, tabled_again}
 use Rattle.run_laws.proofs.Shown.{IsStopped, at_name, shown_or_cut, cut_shown, stopped_shown}
 use Rattle.cli_words.specs.declared.words.Form.{Form}
+use Rattle.cli_words.specs.declared.words.Form.TheVariants.{Codes, Names, Object}
 
 -- a check with these names gives its answer, or its budget is too small
 abbrev pub Says : Answers → Form → Option (List CountyName) → Answered → Type 0
@@ -40,8 +41,9 @@ Says answers form named a = (a ≡ answers form named) ⊎ (a ≡ line_in form b
 -- the report of an outcome that is best
 pub best_report : (form : Form) (v : ProblemValue) (named : Option (List CountyName)) (g : held.Grouping)
     → outcome_in form v named (outcome.Best g) ≡ report_in form v named (codes "best") g.groups.items
-best_report false v named g = refl
-best_report true v named g = refl
+best_report Codes v named g = refl
+best_report Names v named g = refl
+best_report Object v named g = refl
 
 -- what is said of a verdict that says so
 said_best : (form : Form) (t : Tabled) (g : Grouping) (verdict : Verdict) → SaysBest g verdict

@@ -1,5 +1,5 @@
 -- Every list by a certificate that `solve` stored lists all best groupings.
-use Rattle.std.proofs.Common.{◌≡◌, ◌≤◌, ◌⊎◌, ℕ, Bool, true, false, List, map, Option, Some, None, inl, inr, refl, sym, ap, subst, ◌∙◌, arith}
+use Rattle.std.proofs.Common.{◌≡◌, ◌≤◌, ◌⊎◌, ℕ, Bool, List, map, Option, Some, None, inl, inr, refl, sym, ap, subst, ◌∙◌, arith}
 use Rattle.std.specs.Prelude.{Ok, Err}
 use Rattle.county_problem.specs.ProblemValue.{ProblemValue, problem_of}
 use Rattle.grouping_laws.specs.Grouping.{Grouping}
@@ -45,6 +45,7 @@ use Rattle.run_laws.proofs.ListTells.{listing_status}
 use Rattle.run_laws.proofs.Listings.{never_open}
 use Rattle.run_laws.proofs.Agrees.{HasSaid, has_said, stored_later, stored_first, other_status}
 use Rattle.cli_words.specs.declared.words.Form.{Form}
+use Rattle.cli_words.specs.declared.words.Form.TheVariants.{Codes, Names, Object}
 
 -- what a list of a problem says by a complete certificate, if a grouping's number is asked for
 record SaysAll (form : Form) (v : ProblemValue) (named : Option (List CountyName)) (which : Option Grouping) (a : Answered) : Type 0 where
@@ -69,8 +70,9 @@ ListsSay v text =
 
 -- that no grouping has the number is a line
 none_line : (form : Form) → shown_in form no_such_grouping ≡ line_in form no_such_grouping
-none_line false = refl
-none_line true = refl
+none_line Codes = refl
+none_line Names = refl
+none_line Object = refl
 
 -- what is said of a text that spells a certificate with a complete tree
 module _ (v : ProblemValue) (text : List ℕ) (c : Certificate) (g : Grouping) (spelling : IsSpelling text c) (is : IsCertificate (problem_of v) c.round c.tree)
