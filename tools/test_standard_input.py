@@ -73,7 +73,7 @@ class StandardInput(OfAFolder):
 
     def test_it_is_read_once(self) -> None:
         done = self.run_given(SEGMENT, *self.with_input("geo", "segment"))
-        self.assertEqual((done.returncode, done.stdout), (5, "device geo Device\n"))
+        self.assertEqual((done.returncode, done.stdout), (5, "device - Device\n"))
         self.assertIn(ONCE, done.stderr)
 
     def test_a_file_of_that_name_is_not_read(self) -> None:
