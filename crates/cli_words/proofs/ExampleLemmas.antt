@@ -1,12 +1,13 @@
 -- What the definitions of `specs/Words.antt` say of words that are written out.
-use Rattle.std.proofs.Common.{◌≡◌, true, false, refl, inl, inr, List, [], ◌∷◌, ◌++◌, Some, codes, option_map}
+use Rattle.std.proofs.Common.{◌≡◌, ℕ, true, false, refl, inl, inr, List, [], ◌∷◌, ◌++◌, Some, None, codes, option_map}
 use Rattle.clap.specs.Words.{Text, first_of}
 use Rattle.clap.specs.Takes.{is_given}
 use Rattle.clap.specs.declared.error.kind.ErrorKind.TheVariants as kind
 use Rattle.clap.proofs.OnLiterals.{clap_on_literals}
 use Rattle.cli_words.specs.Command.{countygroups}
+use Rattle.cli_words.specs.Tolerance.{least_whole, tolerance_in}
 use Rattle.cli_words.specs.Words.{HaveOptionsFault, faults_of, subcommand_in, takes_words}
-use Rattle.cli_words.specs.declared.end.OptionsFault.TheVariants.{CountyFiles, PeopleAndCensus}
+use Rattle.cli_words.specs.declared.end.OptionsFault.TheVariants.{CountyFiles, PeopleAndCensus, Tolerance as NoTolerance, ToleranceAndPart}
 use Rattle.cli_words.proofs.TogetherLemmas.{differ}
 
 abbrev files : List Text
@@ -188,3 +189,99 @@ no_number : faults_of (codes "piece" ∷ codes "--geo=a" ∷ codes "--segment=b"
     ≡ kind.MissingRequiredArgument ∷ []
 unfolding clap_on_literals countygroups faults_of
 no_number = refl
+
+-- `--names` at `solve` and at `size`, which doesn't have it
+names : option_map (λ p. first_of (codes "names") p.1) (subcommand_in (solved ++ codes "--names" ∷ [])) ≡ Some (Some (codes "true"))
+unfolding clap_on_literals countygroups subcommand_in
+names = refl
+
+names_of_size : faults_of (files ++ codes "--chamber=120" ∷ codes "--names" ∷ []) ≡ kind.UnknownArgument ∷ []
+unfolding clap_on_literals countygroups faults_of
+names_of_size = refl
+
+-- a tolerance beside its part, and one whose text writes none
+beside_part : HaveOptionsFault (files ++ codes "--chamber=120" ∷ codes "--tolerance=5%" ∷ codes "--part=1" ∷ [])
+unfolding clap_on_literals countygroups subcommand_in
+beside_part = (ToleranceAndPart, (refl, inl refl))
+
+not_written : HaveOptionsFault (files ++ codes "--chamber=120" ∷ codes "--tolerance=five" ∷ [])
+unfolding clap_on_literals countygroups subcommand_in tolerance_in least_whole
+not_written = (NoTolerance, (refl, refl))
+
+-- ---- the tolerances that texts write
+
+abbrev writes : Text → ℕ → ℕ → Type 0
+writes text part whole = tolerance_in text ≡ Some (record { numerator = part; denominator = whole })
+
+abbrev writes_none : Text → Type 0
+writes_none text = tolerance_in text ≡ None
+
+percent : writes (codes "5%") 1 20
+unfolding tolerance_in least_whole
+percent = refl
+
+half_percent : writes (codes "4.5%") 9 200
+unfolding tolerance_in least_whole
+half_percent = refl
+
+decimal : writes (codes "0.045") 9 200
+unfolding tolerance_in least_whole
+decimal = refl
+
+fraction : writes (codes "1/20") 1 20
+unfolding tolerance_in least_whole
+fraction = refl
+
+not_in_lowest_terms : writes (codes "2/40") 1 20
+unfolding tolerance_in least_whole
+not_in_lowest_terms = refl
+
+zero : writes (codes "0") 0 1
+unfolding tolerance_in least_whole
+zero = refl
+
+-- more than a half is no fault of the words, as at `--part` and `--of`
+more_than_all : writes (codes "101%") 101 100
+unfolding tolerance_in least_whole
+more_than_all = refl
+
+-- the part is at most 500, and the whole at most 1,000
+great_part : writes_none (codes "501%")
+unfolding tolerance_in least_whole
+great_part = refl
+
+great_whole : writes_none (codes "1/1001")
+unfolding tolerance_in least_whole
+great_whole = refl
+
+no_denominator : writes_none (codes "1/0")
+unfolding tolerance_in least_whole
+no_denominator = refl
+
+blank : writes_none (codes "5 %")
+unfolding tolerance_in least_whole
+blank = refl
+
+empty : writes_none []
+unfolding tolerance_in least_whole
+empty = refl
+
+negative : writes_none (codes "-1/20")
+unfolding tolerance_in least_whole
+negative = refl
+
+no_digit_before_the_point : writes_none (codes ".05")
+unfolding tolerance_in least_whole
+no_digit_before_the_point = refl
+
+percent_of_a_fraction : writes_none (codes "1/20%")
+unfolding tolerance_in least_whole
+percent_of_a_fraction = refl
+
+nine_digits : writes (codes "000000001/000000020") 1 20
+unfolding tolerance_in least_whole
+nine_digits = refl
+
+ten_digits : writes_none (codes "0000000001/20")
+unfolding tolerance_in least_whole
+ten_digits = refl

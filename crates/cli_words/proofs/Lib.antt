@@ -8,4 +8,5 @@ pub mod CountygroupsLemmas
 pub mod NumberLemmas
 pub mod ReadLemmas
 pub mod TogetherLemmas
+pub mod ToleranceLemmas
 mod ExampleLemmas

@@ -3,19 +3,22 @@ use Rattle.std.proofs.Common.{◌++◌, ◌∷◌, [], ◌≡◌, ◌⊎◌, ◌
 use Rattle.std.specs.Prelude.{find, option_and_then, option_map, pos, slice_get}
 use Rattle.std.specs.Str.{bytes_eq}
 use Rattle.std.specs.Borrow.{Bor}
-use Rattle.std.specs.Option.{IsSomeAnd}
+use Rattle.std.specs.Option.{IsSomeAnd, option_map_or}
 use Rattle.std.specs.Str.Parse.{ExplainsUnsignedError, HasUnsignedDigitsIfOk, ParsesUnsigned, signed_digits_value}
 use Rattle.std.specs.declared.num.ParseIntError.{ParseIntError}
 use Rattle.clap.specs.Lexer.{without_minus}
-use Rattle.clap.specs.Matches.{ReadsOne, first_value, one_text}
-use Rattle.clap.specs.Facts.{parser_of_value}
+use Rattle.clap.specs.Matches.{ReadsOne, first_value, matched_of, one_text}
+use Rattle.clap.specs.Facts.{explicit_source, parser_of_value}
 use Rattle.clap.specs.Values.{Accepts, read_as, reading_of}
 use Rattle.clap.specs.Takes.{is_given}
 use Rattle.clap.specs.Walk.{Row, Rule, Text, first_of, row_text, rows_of}
 use Rattle.clap.specs.declared.builder.value_parser.ValueParser.{ValueParser}
 use Rattle.clap.specs.declared.builder.value_parser.ValueParser.TheVariants.{Signed, Unsigned}
 use Rattle.clap.specs.declared.parser.matches.Found.{Found}
+use Rattle.clap.specs.declared.parser.matches.MatchedArg.{MatchedArg}
+use Rattle.clap.specs.declared.parser.matches.ValueSource.{ValueSource}
 use Rattle.clap.proofs.CallerLemmas.{some_of_text}
+use Rattle.clap.proofs.TakesLemmas.{present_row}
 use Rattle.clap.proofs.WalkLemmas.{first_value-rows, one_text-rows}
 use Rattle.cli_words.specs.Options.{HasNone, HasValue, HasValues, Spells}
 use Rattle.cli_words.specs.Words.{GivesItsNumber, GivesNumber, GivesText}
@@ -119,6 +122,23 @@ module _ (f : Found) (a : Rule) (bare : slice_get a.defaults 0 ≡ None) (k low 
       subst (GivesItsNumber a.id (rows_of f)) (sym read.1) (given_value f a bare h, number_given f a h read.0 read.4)
   its_number_given (inr h) =
       subst (GivesItsNumber a.id (rows_of f)) (sym (none (one_text-rows f a.id ∙ one_of_none a.id (find (λ (x : Row). bytes_eq x.id a.id) (rows_of f)) h.none))) h.absent
+
+module _ (f : Found) (id : Text) where
+  -- an option is given where its value comes from the words
+  pub source_given : (s : ValueSource) → option_and_then (λ a. a.source) (matched_of f id) ≡ Some s → is_given id (rows_of f) ≡ explicit_source (Some s)
+  source_given s is = sym (present_row f id) ∙ go (matched_of f id) is
+    where
+      go : (o : Option MatchedArg) → option_and_then (λ a. a.source) o ≡ Some s → option_map_or (λ a. explicit_source a.source) o false ≡ explicit_source (Some s)
+      go None e = cc
+      go (Some a) e = ap explicit_source e
+
+  -- where that is not known, it is given if it has an entry
+  pub entry_given : option_and_then (λ a. a.source) (matched_of f id) ≡ None → is_given id (rows_of f) ≡ is_some (matched_of f id)
+  entry_given is = sym (present_row f id) ∙ go (matched_of f id) is
+    where
+      go : (o : Option MatchedArg) → option_and_then (λ a. a.source) o ≡ None → option_map_or (λ a. explicit_source a.source) o false ≡ is_some o
+      go None e = refl
+      go (Some a) e = ap explicit_source e
 
 -- the values of the first of these options
 pub front_values : (options more : List Rule) (rows : List Row) → HasValues (options ++ more) rows → HasValues options rows

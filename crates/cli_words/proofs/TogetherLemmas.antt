@@ -5,9 +5,10 @@ use Rattle.std.specs.Option.{IsSomeAnd}
 use Rattle.std.specs.Str.{bytes_eq}
 use Rattle.std.proofs.lemmas.Slice.Eq.{bytes_eq-Decides}
 use Rattle.clap.specs.Words.{Row, Shape, Text}
-use Rattle.cli_words.specs.Command.{audit_options, census_options, check_options, county_options, judge_options, list_options, piece_options, share_options, size_options, solve_options, subcommands, text_option, worker_options}
+use Rattle.county_codes.specs.declared.tolerance.Tolerance.{Tolerance}
+use Rattle.cli_words.specs.Command.{audit_options, census_options, check_options, common_options, county_options, judge_options, list_options, piece_options, share_options, size_options, solve_options, subcommands, text_option, worker_options}
 use Rattle.cli_words.specs.Options.{HasCommand, HasItsValue, HasValues}
-use Rattle.cli_words.specs.Words.{AreUnpaired, AskAndStore, GivesCountiesOnce, GivesPeopleAndCensus, GivesRoundWords, GivesStored, GivesText, HasOptionsFault, IsOptionsFault, LacksCountyFiles, LacksLimit, SaysAudit, SaysBoard, SaysCommand, SaysList, SaysOptions}
+use Rattle.cli_words.specs.Words.{AreUnpaired, AskAndStore, GivesCountiesOnce, GivesPeopleAndCensus, GivesRoundWords, GivesStored, GivesText, GivesToleranceOnce, HasOptionsFault, IsOptionsFault, LacksCountyFiles, LacksLimit, SaysAudit, SaysBoard, SaysCommand, SaysList, SaysOptions}
 use Rattle.cli_words.specs.declared.words.AuditWords.{AuditWords}
 use Rattle.cli_words.specs.declared.words.BoardWords.{BoardWords}
 use Rattle.cli_words.specs.declared.words.CommandWords.{CommandWords}
@@ -18,7 +19,7 @@ use Rattle.cli_words.specs.declared.words.RoundWords.{RoundWords}
 use Rattle.cli_words.specs.declared.words.RoundWords.TheVariants.{Plain, Wide}
 use Rattle.cli_words.specs.declared.words.StoredWords.{StoredWords}
 use Rattle.cli_words.specs.declared.end.OptionsFault.{OptionsFault}
-use Rattle.cli_words.specs.declared.end.OptionsFault.TheVariants.{CountyFiles, Depth, NumberOrOut, PeopleAndCensus, WhichAndStored}
+use Rattle.cli_words.specs.declared.end.OptionsFault.TheVariants.{CountyFiles, Depth, NumberOrOut, PeopleAndCensus, Tolerance as NoTolerance, ToleranceAndPart, WhichAndStored}
 use Rattle.cli_words.proofs.KeyLemmas.{All-from_recursion, find-All}
 use Rattle.cli_words.proofs.ReadLemmas.{behind_values, front_values}
 
@@ -37,7 +38,15 @@ module _ (rows : List Row) where
 
   each_has_record : AllByRecursion HasRecord subcommands
   each_has_record =
-      (λ h. (behind_values (take 14 (county_options ++ solve_options)) (drop 14 (county_options ++ solve_options)) rows h).0, (λ h. (behind_values (take 12 (county_options ++ check_options)) (drop 12 (county_options ++ check_options)) rows h).0, (λ h. (behind_values (take 13 (county_options ++ judge_options)) (drop 13 (county_options ++ judge_options)) rows h).0, (λ h. (behind_values (take 15 (county_options ++ list_options)) (drop 15 (county_options ++ list_options)) rows h).0, (λ h. (behind_values (take 7 (county_options ++ size_options)) (drop 7 (county_options ++ size_options)) rows h).0, (λ h. (behind_values (take 13 (census_options ++ audit_options)) (drop 13 (census_options ++ audit_options)) rows h).0, (λ h. (behind_values (take 13 (county_options ++ share_options)) (drop 13 (county_options ++ share_options)) rows h).0, (λ h. (behind_values (take 12 (county_options ++ piece_options)) (drop 12 (county_options ++ piece_options)) rows h).0, (λ h. (behind_values (take 10 (county_options ++ worker_options)) (drop 10 (county_options ++ worker_options)) rows h).0, tt)))))))))
+      (λ h. (behind_values (take 15 (county_options ++ solve_options)) (drop 15 (county_options ++ solve_options)) rows h).0, (λ h. (behind_values (take 13 (county_options ++ check_options)) (drop 13 (county_options ++ check_options)) rows h).0, (λ h. (behind_values (take 14 (county_options ++ judge_options)) (drop 14 (county_options ++ judge_options)) rows h).0, (λ h. (behind_values (take 16 (county_options ++ list_options)) (drop 16 (county_options ++ list_options)) rows h).0, (λ h. (behind_values (take 8 (county_options ++ size_options)) (drop 8 (county_options ++ size_options)) rows h).0, (λ h. (behind_values (take 14 (census_options ++ audit_options)) (drop 14 (census_options ++ audit_options)) rows h).0, (λ h. (behind_values (take 14 (county_options ++ share_options)) (drop 14 (county_options ++ share_options)) rows h).0, (λ h. (behind_values (take 13 (county_options ++ piece_options)) (drop 13 (county_options ++ piece_options)) rows h).0, (λ h. (behind_values (take 11 (county_options ++ worker_options)) (drop 11 (county_options ++ worker_options)) rows h).0, tt)))))))))
+
+  -- the options of each subcommand have those that each has
+  abbrev HasCommon : Shape → Type 0
+  HasCommon s = HasValues s.rules rows → HasValues common_options rows
+
+  each_has_common : AllByRecursion HasCommon subcommands
+  each_has_common =
+      (λ h. front_values common_options (drop 5 solve_options) rows (behind_values county_options solve_options rows h), (λ h. front_values common_options (drop 5 check_options) rows (behind_values county_options check_options rows h), (λ h. front_values common_options (drop 5 judge_options) rows (behind_values county_options judge_options rows h), (λ h. front_values common_options (drop 5 list_options) rows (behind_values county_options list_options rows h), (λ h. front_values common_options (drop 5 size_options) rows (behind_values county_options size_options rows h), (λ h. front_values common_options (drop 5 audit_options) rows (behind_values census_options audit_options rows h), (λ h. front_values common_options (drop 5 share_options) rows (behind_values county_options share_options rows h), (λ h. front_values common_options (drop 5 piece_options) rows (behind_values county_options piece_options rows h), (λ h. front_values common_options (drop 5 worker_options) rows (behind_values county_options worker_options rows h), tt)))))))))
 
 module _ (p : Text × List Row) (has : HasCommand p) where
   -- what holds of the subcommand that the name finds
@@ -56,6 +65,9 @@ module _ (p : Text × List Row) (has : HasCommand p) where
 
   pub record_value : HasItsValue p.1 (text_option (codes "record"))
   record_value = let found = found_has (HasRecord p.1) (each_has_record p.1) in found.3 found.2
+
+  pub common_values : HasValues common_options p.1
+  common_values = let found = found_has (HasCommon p.1) (each_has_common p.1) in found.3 found.2
 
 -- texts of which a test says that they differ
 pub differ : (a b : Text) → bytes_eq a b ≡ false → a ≡ b → ⊥
@@ -105,30 +117,33 @@ limited : (rows : List Row) (round : RoundWords) → GivesRoundWords rows round 
 limited rows (Plain limit depth) given lacks = true≢false (sym given.0 ∙ lacks.1)
 limited rows (Wide limit) given lacks = true≢false (sym lacks.0 ∙ given.1)
 
--- the options of a command go together, if the files of the counties do
+-- the options of a command go together, if the files of the counties and the tolerance do
 pub go_together : (p : Text × List Row) (command : CommandWords) → SaysOptions p command → (p.0 ≢ codes "audit" → LacksCountyFiles p.1 → ⊥)
-    → (p.0 ≢ codes "audit" → GivesPeopleAndCensus p.1 → ⊥) → HasOptionsFault p → ⊥
-go_together p command said enough once (CountyFiles, fault) = enough fault.0 fault.1
-go_together p command said enough once (PeopleAndCensus, fault) = once fault.0 fault.1
-go_together p command said enough once (NumberOrOut, fault) =
+    → (p.0 ≢ codes "audit" → GivesPeopleAndCensus p.1 → ⊥) → (tolerance : Tolerance) → GivesToleranceOnce p.1 tolerance → HasOptionsFault p → ⊥
+go_together p command said enough once tolerance given (CountyFiles, fault) = enough fault.0 fault.1
+go_together p command said enough once tolerance given (PeopleAndCensus, fault) = once fault.0 fault.1
+go_together p command said enough once tolerance given (NoTolerance, fault) = given.written fault
+go_together p command said enough once tolerance given (ToleranceAndPart, fault) = given.once fault
+go_together p command said enough once tolerance given (NumberOrOut, fault) =
     let list = list_says p command said fault.0 in
     paired p.1 list.0.stored list.1.stored fault.1
-go_together p command said enough once (WhichAndStored, fault) =
+go_together p command said enough once tolerance given (WhichAndStored, fault) =
     let list = list_says p command said fault.0 in
     asked p.1 list.0 list.1 fault.1
-go_together p command said enough once (Depth, fault) =
+go_together p command said enough once tolerance given (Depth, fault) =
     let board = board_says p command said fault.0 in
     limited p.1 board.0.round board.1.round fault.1
 
--- what holds of a subcommand other than `audit`, whose files of the counties are given once
-pub command_said : (p : Text × List Row) (counties : CountyWords) → GivesCountiesOnce p.1 counties → (r : Result CommandWords OptionsFault)
-    → MatchResult r (SaysOptions p) (IsOptionsFault p) → MatchResult r (SaysCommand p) (IsOptionsFault p)
-command_said p counties given (Ok command) said =
-    record { options = said; together = go_together p command said (λ other. given.enough) (λ other. given.once) }
-command_said p counties given (Err fault) is = is
+-- what holds of a subcommand other than `audit`, whose files of the counties and whose tolerance are given once
+pub command_said : (p : Text × List Row) (counties : CountyWords) → GivesCountiesOnce p.1 counties → (tolerance : Tolerance) → GivesToleranceOnce p.1 tolerance
+    → (r : Result CommandWords OptionsFault) → MatchResult r (SaysOptions p) (IsOptionsFault p) → MatchResult r (SaysCommand p) (IsOptionsFault p)
+command_said p counties given tolerance by (Ok command) said =
+    record { options = said; together = go_together p command said (λ other. given.enough) (λ other. given.once) tolerance by }
+command_said p counties given tolerance by (Err fault) is = is
 
-pub audit_said : (p : Text × List Row) (words : AuditWords) → p.0 ≡ codes "audit" → SaysAudit p.1 words → SaysCommand p (Audit words)
-audit_said p words is said = record {
+pub audit_said : (p : Text × List Row) (words : AuditWords) → p.0 ≡ codes "audit" → (tolerance : Tolerance) → GivesToleranceOnce p.1 tolerance → SaysAudit p.1 words
+    → SaysCommand p (Audit words)
+audit_said p words is tolerance by said = record {
   options = (is, said);
-  together = go_together p (Audit words) (is, said) (λ other lacks. other is) (λ other both. other is);
+  together = go_together p (Audit words) (is, said) (λ other lacks. other is) (λ other both. other is) tolerance by;
 }

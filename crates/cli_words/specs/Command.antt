@@ -48,6 +48,10 @@ chamber_option = of_number 1 1000 (required (text_option (codes "chamber")))
 abbrev pub state_option : Rule
 state_option = with_default (codes "37") (of_number 0 99 (text_option (codes "state")))
 
+-- `--tolerance TOLERANCE`, the tolerance as a fraction, a decimal or a percentage, which need not be given
+abbrev pub tolerance_option : Rule
+tolerance_option = text_option (codes "tolerance")
+
 -- `--part PART`, the part of the tolerance, by default 1
 abbrev pub part_option : Rule
 part_option = with_default (codes "1") (of_number 0 500 (text_option (codes "part")))
@@ -78,10 +82,10 @@ abbrev pub census_options : List Rule
 census_options =
     required (text_option (codes "geo")) ∷ required (text_option (codes "segment")) ∷ text_option (codes "people") ∷ []
 
--- the options of each subcommand that need no further file: the number of seats, the state, and the two numbers of the
--- tolerance
+-- the options of each subcommand that need no further file: the number of seats, the state, the tolerance, and the two
+-- numbers that give it where `--tolerance` doesn't
 abbrev pub common_options : List Rule
-common_options = chamber_option ∷ state_option ∷ part_option ∷ whole_option ∷ []
+common_options = chamber_option ∷ state_option ∷ tolerance_option ∷ part_option ∷ whole_option ∷ []
 
 -- the options that give a problem, but for the files of the counties: those of each subcommand, the file of adjacency,
 -- and those of links and of withdrawn sets, which need not be given

@@ -10,6 +10,7 @@ use Rattle.clap.specs.declared.error.kind.ErrorKind.{ErrorKind}
 use Rattle.clap.specs.declared.error.kind.ErrorKind.TheVariants.{DisplayHelp, DisplayVersion, OutOfMemory}
 use Rattle.cli_words.specs.Command.{countygroups}
 use Rattle.cli_words.specs.Options.{Spells}
+use Rattle.cli_words.specs.Tolerance.{tolerance_in}
 use Rattle.cli_words.specs.declared.words.CommandWords.{CommandWords}
 use Rattle.cli_words.specs.declared.words.CommandWords.TheVariants.{Audit, Check, Worker, Judge}
 use Rattle.cli_words.specs.declared.words.CommandWords.TheVariants.{List as ListCommand, Piece, Share, Size, Solve}
@@ -36,7 +37,7 @@ use Rattle.cli_words.specs.declared.words.SolveWords.{SolveWords}
 use Rattle.cli_words.specs.declared.words.StoredWords.{StoredWords}
 use Rattle.cli_words.specs.declared.end.OptionsFault.{OptionsFault}
 use Rattle.cli_words.specs.declared.end.OptionsFault.TheVariants.{CountyFiles, Depth, NumberOrOut, PeopleAndCensus}
-use Rattle.cli_words.specs.declared.end.OptionsFault.TheVariants.{WhichAndStored}
+use Rattle.cli_words.specs.declared.end.OptionsFault.TheVariants.{Tolerance as NoTolerance, ToleranceAndPart, WhichAndStored}
 use Rattle.cli_words.specs.declared.end.WordsEnd.{WordsEnd}
 use Rattle.cli_words.specs.declared.end.WordsEnd.TheVariants.{Help, Version, Usage, Memory}
 
@@ -66,16 +67,27 @@ faults_of words = fault_of countygroups (words_read words)
 abbrev pub GivesNumber : Text → List Row → ℕ → Type 0
 GivesNumber name rows n = IsSomeAnd (first_of name rows) (λ text. Spells text n)
 
--- The values of a subcommand's options say which tolerance is meant: a part, 0 to 500, of a whole, 1 to 1,000.
+-- The values of `--part` and `--of` are a tolerance: a part, 0 to 500, of a whole, 1 to 1,000.
 -- If the words don't give the part, it is 1. If they don't give the whole, it is 20.
 -- The part may be more than half of the whole: that is no fault of the words.
-pub record SaysTolerance (rows : List Row) (tolerance : Tolerance) : Type 0 where
+pub record GivesPartAndWhole (rows : List Row) (tolerance : Tolerance) : Type 0 where
   pub part : GivesNumber (codes "part") rows tolerance.numerator
   pub most : tolerance.numerator ≤ 500
   pub default_part : is_given (codes "part") rows ≡ false → tolerance.numerator ≡ 1
   pub whole : GivesNumber (codes "of") rows tolerance.denominator
   pub range : (1 ≤ tolerance.denominator) × (tolerance.denominator ≤ 1000)
   pub default_whole : is_given (codes "of") rows ≡ false → tolerance.denominator ≡ 20
+
+-- the value of `--tolerance` writes this tolerance, or none
+abbrev pub WritesTolerance : List Row → Option Tolerance → Type 0
+WritesTolerance rows tolerance = IsSomeAnd (first_of (codes "tolerance") rows) (λ text. tolerance_in text ≡ tolerance)
+
+-- The values of a subcommand's options say which tolerance is meant: the one that the value of `--tolerance` writes
+-- exactly where the words give it, and else the one of `--part` and `--of`.
+abbrev pub SaysTolerance : List Row → Tolerance → Type 0
+SaysTolerance rows tolerance =
+    ((is_given (codes "tolerance") rows ≡ true) × WritesTolerance rows (Some tolerance))
+    ⊎ ((is_given (codes "tolerance") rows ≡ false) × GivesPartAndWhole rows tolerance)
 
 -- what the words give of an option that need not be given: its text, or none exactly where they don't give it
 abbrev pub GivesText : Text → List Row → Option (Bor Text) → Type 0
@@ -106,10 +118,11 @@ GivesCounties rows (Census words) = (is_given (codes "people") rows ≡ false) �
 GivesCounties rows (People name) =
     (is_given (codes "people") rows ≡ true) × (first_of (codes "people") rows ≡ Some name.now)
 
--- the values of a subcommand's options say which files give the counties, the file of the record, and the form of the
--- answer
+-- the values of a subcommand's options say which files give the counties, the tolerance, the file of the record, and
+-- the form of the answer
 pub record SaysShared (rows : List Row) (words : SharedWords) : Type 0 where
   pub counties : GivesCounties rows words.counties
+  pub tolerance : SaysTolerance rows words.tolerance
   pub record_file : GivesText (codes "record") rows words.record_file
   pub form : words.form ≡ form_of (is_set (first_of (codes "json") rows)) (is_set (first_of (codes "names") rows))
 
@@ -271,6 +284,28 @@ IsCountiesFault rows CountyFiles = LacksCountyFiles rows
 IsCountiesFault rows PeopleAndCensus = GivesPeopleAndCensus rows
 IsCountiesFault rows _ = ⊥
 
+-- the words give a tolerance whose text writes none
+abbrev pub GivesNoTolerance : List Row → Type 0
+GivesNoTolerance rows = (is_given (codes "tolerance") rows ≡ true) × WritesTolerance rows None
+
+-- the words give the tolerance beside its part or its whole
+abbrev pub GivesToleranceAndPart : List Row → Type 0
+GivesToleranceAndPart rows =
+    (is_given (codes "tolerance") rows ≡ true)
+    × ((is_given (codes "part") rows ≡ true) ⊎ (is_given (codes "of") rows ≡ true))
+
+-- the words give the tolerance once: by a text that writes it, or by its part and its whole
+pub record GivesToleranceOnce (rows : List Row) (tolerance : Tolerance) : Type 0 where
+  pub says : SaysTolerance rows tolerance
+  pub written : GivesNoTolerance rows → ⊥
+  pub once : GivesToleranceAndPart rows → ⊥
+
+-- what is wrong with the tolerance that the words give
+abbrev pub IsToleranceFault : List Row → OptionsFault → Type 0
+IsToleranceFault rows NoTolerance = GivesNoTolerance rows
+IsToleranceFault rows ToleranceAndPart = GivesToleranceAndPart rows
+IsToleranceFault rows _ = ⊥
+
 -- the words give the number of a grouping without a file, or a file without a number
 abbrev pub AreUnpaired : List Row → Type 0
 AreUnpaired rows = is_given (codes "number") rows ≢ is_given (codes "out") rows
@@ -286,11 +321,14 @@ abbrev pub LacksLimit : List Row → Type 0
 LacksLimit rows = (is_given (codes "depth") rows ≡ true) × (is_given (codes "limit") rows ≡ false)
 
 -- which options don't go together: at all subcommands but `audit`, neither `--people` nor both of `--geo` and
--- `--segment`, or `--people` beside one of them; at `list`, one of `--number` and `--out` alone, or `--which` beside
+-- `--segment`, or `--people` beside one of them; at all subcommands, a `--tolerance` whose text writes none, or
+-- `--tolerance` beside `--part` or `--of`; at `list`, one of `--number` and `--out` alone, or `--which` beside
 -- both; at `share` and `piece`, `--depth` without `--limit`
 abbrev pub IsOptionsFault : Text × List Row → OptionsFault → Type 0
 IsOptionsFault p CountyFiles = (p.0 ≢ codes "audit") × LacksCountyFiles p.1
 IsOptionsFault p PeopleAndCensus = (p.0 ≢ codes "audit") × GivesPeopleAndCensus p.1
+IsOptionsFault p NoTolerance = GivesNoTolerance p.1
+IsOptionsFault p ToleranceAndPart = GivesToleranceAndPart p.1
 IsOptionsFault p NumberOrOut = (p.0 ≡ codes "list") × AreUnpaired p.1
 IsOptionsFault p WhichAndStored = (p.0 ≡ codes "list") × AskAndStore p.1
 IsOptionsFault p Depth =

@@ -1,7 +1,7 @@
 //! The command `countygroups`, as `clap` parses it.
 ghost use Rattle.std.specs.Prelude.{◌≡◌, ◌++◌, IfOk, codes, false};
 ghost use Rattle.clap.specs.Words.{app_of, rule_of};
-ghost use Rattle.cli_words.specs.Command.{AddsCommand, AddsOption, HasMore, HasShape, IsBare, audit_options, census_options, certificate_options, chamber_option, check_options, common_options, countygroups, countygroups_alone, county_options, depth_option, flag_option, grouping_options, json_option, judge_options, limit_option, list_options, names_option, number_option, of_steps, part_option, piece_options, problem_options, required, share_options, size_options, solve_options, state_option, subcommand, text_option, whole_option, with_counties, worker_options};
+ghost use Rattle.cli_words.specs.Command.{AddsCommand, AddsOption, HasMore, HasShape, IsBare, audit_options, census_options, certificate_options, chamber_option, check_options, common_options, countygroups, countygroups_alone, county_options, depth_option, flag_option, grouping_options, json_option, judge_options, limit_option, list_options, names_option, number_option, of_steps, part_option, piece_options, problem_options, required, share_options, size_options, solve_options, state_option, subcommand, text_option, tolerance_option, whole_option, with_counties, worker_options};
 
 use crate::help;
 use crate::help::OptionHelp;
@@ -54,6 +54,14 @@ fn state_option<'a>(alloc: Global) -> Arg<'a>
     text_option(alloc, help::PROBLEM, "state", help::STATE)
         .value_parser(value_parser!(u8).range(0..=99))
         .default_value("37")
+}
+
+/// Creates the option `--tolerance TOLERANCE`.
+fn tolerance_option<'a>(alloc: Global) -> Arg<'a>
+    ensures rule { rule_of result ≡ tolerance_option }
+    ensures local { result.global ≡ false }
+{
+    text_option(alloc, help::PROBLEM, "tolerance", help::TOLERANCE)
 }
 
 /// Creates the option `--part PART`, the part of the tolerance, from 0 to 500. The default is 1.
@@ -215,6 +223,7 @@ fn with_common_options<'a>(alloc: Global, command: Command<'a>) -> Result<Comman
 {
     let made = with_option(Ok(command), chamber_option(alloc));
     let made = with_option(made, state_option(alloc));
+    let made = with_option(made, tolerance_option(alloc));
     let made = with_option(made, part_option(alloc));
     with_option(made, whole_option(alloc))
 }

@@ -32,6 +32,10 @@ pub(crate) enum OptionsFault {
     CountyFiles,
     /// At a subcommand other than `audit`, `--people` is given beside `--geo` or `--segment`.
     PeopleAndCensus,
+    /// The text of `--tolerance` writes no tolerance.
+    Tolerance,
+    /// `--tolerance` is given beside `--part` or `--of`.
+    ToleranceAndPart,
     /// One of `--number` and `--out` of `list` is given without the other.
     NumberOrOut,
     /// `--which` of `list` is given beside `--number` and `--out`.
@@ -50,6 +54,21 @@ For more information, try '--help'.
 /// The text of usage where the file of the people is given beside a census file.
 const PEOPLE_AND_CENSUS: &str = "\
 error: '--people <FILE>' can't be used with '--geo <FILE>' or '--segment <FILE>', except by `audit`
+
+For more information, try '--help'.
+";
+
+/// The text of usage where the text of `--tolerance` writes no tolerance.
+const TOLERANCE: &str = "\
+error: invalid value for '--tolerance <TOLERANCE>': give a percentage, a decimal or a fraction in lowest terms of at \
+most 500/1000, as 5%, 0.05 or 1/20
+
+For more information, try '--help'.
+";
+
+/// The text of usage where `--tolerance` is given beside `--part` or `--of`.
+const TOLERANCE_AND_PART: &str = "\
+error: '--tolerance <TOLERANCE>' can't be used with '--part <PART>' or '--of <OF>'
 
 For more information, try '--help'.
 ";
@@ -83,6 +102,8 @@ impl WordsEnd {
         let text = match fault {
             OptionsFault::CountyFiles => COUNTY_FILES,
             OptionsFault::PeopleAndCensus => PEOPLE_AND_CENSUS,
+            OptionsFault::Tolerance => TOLERANCE,
+            OptionsFault::ToleranceAndPart => TOLERANCE_AND_PART,
             OptionsFault::NumberOrOut => NUMBER_OR_OUT,
             OptionsFault::WhichAndStored => WHICH_AND_STORED,
             OptionsFault::Depth => DEPTH,

@@ -345,19 +345,28 @@ pub(crate) const STATE: OptionHelp<'static> = OptionHelp {
     long: "The state's FIPS code, 0 to 99. North Carolina's is 37.",
 };
 
+/// What help says of `--tolerance`.
+pub(crate) const TOLERANCE: OptionHelp<'static> = OptionHelp {
+    value_name: "TOLERANCE",
+    short: "How far a group may be from the ideal population, as 5%, 0.05 or 1/20",
+    long: "How far a group may be from the ideal population, as 5%, 0.05 or 1/20. In lowest terms\n\
+        the fraction has a part of at most 500, a whole of at most 1000, and is at most a half.\n\
+        If you don't give it, it is 1/20, five percent.",
+};
+
 /// What help says of `--part`.
 pub(crate) const PART: OptionHelp<'static> = OptionHelp {
     value_name: "PART",
-    short: "The PART of the tolerance, the fraction PART/OF, 0 to 500",
-    long: "What part of the ideal population a district may miss, as a fraction PART/OF: 0 to\n\
-        500. If you give neither number, the fraction is 1/20, five percent.",
+    short: "The same as --tolerance PART/OF, 0 to 500",
+    long: "--part PART and --of OF are the same as --tolerance PART/OF. PART is 0 to 500.",
 };
 
 /// What help says of `--of`.
 pub(crate) const WHOLE: OptionHelp<'static> = OptionHelp {
     value_name: "OF",
-    short: "The OF of that fraction, 1 to 1000, at least twice PART",
-    long: "The OF of the fraction PART/OF that --part tells, 1 to 1000, and at least twice PART.",
+    short: "The same as --tolerance PART/OF, 1 to 1000",
+    long: "--part PART and --of OF are the same as --tolerance PART/OF. OF is 1 to 1000, and at\n\
+        least twice PART.",
 };
 
 /// What help says of `--adjacency`.

@@ -23,6 +23,7 @@
 mod command;
 mod end;
 mod help;
+mod tolerance_text;
 mod values;
 mod version;
 mod words;

@@ -2,10 +2,11 @@
 ghost use Rattle.std.specs.Prelude.{◌≡◌, ◌≤◌, Some, codes, false};
 ghost use Rattle.clap.specs.{Takes.is_given, Words.{first_of, found_of, rows_of}};
 ghost use Rattle.cli_words.specs.Command.{chamber_option, depth_option, limit_option, number_option, of_steps, part_option, required, state_option, text_option, whole_option};
-ghost use Rattle.cli_words.specs.{Options.HasItsValue, Words.{GivesItsNumber, GivesNumber, GivesText, SaysTolerance, form_of, is_set}};
+ghost use Rattle.cli_words.specs.{Options.HasItsValue, Words.{GivesItsNumber, GivesNumber, GivesPartAndWhole, GivesText, form_of, is_set}};
 
 use crate::words::Form;
 use clap::ArgMatches;
+use clap::parser::ValueSource;
 use county_codes::Tolerance;
 
 /// Reads the path that the option `name` gives, which is required.
@@ -22,6 +23,17 @@ pub(crate) fn path_or_none<'a>(found: &ArgMatches<'a>, name: &str) -> Option<&'a
     ensures { GivesText name.now (rows_of (found_of found.now)) result }
 {
     found.get_str(name)
+}
+
+/// Returns whether the words give the option `name`. A default doesn't count.
+pub(crate) fn is_given<'a>(found: &ArgMatches<'a>, name: &str) -> bool
+    ensures { result ≡ is_given name.now (rows_of (found_of found.now)) }
+{
+    match found.value_source(name) {
+        Some(ValueSource::CommandLine) => true,
+        Some(ValueSource::DefaultValue) => false,
+        None => found.contains_id(name),
+    }
 }
 
 /// Reads whether the flag `name` is set. It isn't where the subcommand hasn't that flag.
@@ -96,12 +108,12 @@ pub(crate) fn state<'a>(found: &ArgMatches<'a>) -> u8
     found.get_one::<u8>("state").unwrap()
 }
 
-/// Reads the tolerance from the values `found`. Its numerator is the value of `--part`, and its denominator that of
-/// `--of`.
-pub(crate) fn tolerance<'a>(found: &ArgMatches<'a>) -> Tolerance
+/// Reads the tolerance from the values `found` of `--part`, which is its numerator, and `--of`, which is its
+/// denominator.
+pub(crate) fn part_and_whole<'a>(found: &ArgMatches<'a>) -> Tolerance
     requires part { HasItsValue (rows_of (found_of found.now)) part_option }
     requires whole { HasItsValue (rows_of (found_of found.now)) whole_option }
-    ensures { SaysTolerance (rows_of (found_of found.now)) result }
+    ensures { GivesPartAndWhole (rows_of (found_of found.now)) result }
 {
     Tolerance {
         numerator: found.get_one::<u16>("part").unwrap(),

@@ -4,14 +4,15 @@ ghost use Rattle.std.specs.Option.{IsSomeAnd};
 ghost use Rattle.clap.specs.{Walk.texts, Words.{FailsBy, first_of, found_of, kind_of, rows_of, subcommand_rows_of}};
 ghost use Rattle.cli_words.specs.Command.{audit_options, census_options, certificate_options, check_options, common_options, county_options, worker_options, grouping_options, judge_options, list_options, depth_option, limit_option, of_steps, piece_options, problem_options, share_options, size_options, solve_options, text_option};
 ghost use Rattle.cli_words.specs.Options.{HasCommand, HasItsValue, HasValues};
-ghost use Rattle.cli_words.specs.Words.{AreUnpaired, EndsFor, EndsTaken, GivesCensus, GivesCounties, GivesCountiesOnce, GivesRoundWords, GivesStored, GivesText, IsCountiesFault, IsOptionsFault, LacksLimit, Means, SaysAudit, SaysBoard, SaysCertificate, SaysCheck, SaysCommand, SaysCommon, SaysOptions, SaysWorker, SaysJudge, SaysList, SaysPiece, SaysProblem, SaysShare, SaysShared, SaysSolve, faults_of, subcommand_in, takes_words, words_read};
+ghost use Rattle.cli_words.specs.Words.{AreUnpaired, EndsFor, EndsTaken, GivesCensus, GivesCounties, GivesCountiesOnce, GivesRoundWords, GivesStored, GivesText, GivesToleranceOnce, IsCountiesFault, IsOptionsFault, IsToleranceFault, LacksLimit, Means, SaysAudit, SaysBoard, SaysCertificate, SaysCheck, SaysCommand, SaysCommon, SaysOptions, SaysWorker, SaysJudge, SaysList, SaysPiece, SaysProblem, SaysShare, SaysShared, SaysSolve, SaysTolerance, faults_of, subcommand_in, takes_words, words_read};
 ghost use Rattle.cli_words.specs.declared.end.OptionsFault.TheVariants.{Depth, NumberOrOut};
 
 use crate::command::program;
 use crate::end::{OptionsFault, WordsEnd};
+use crate::tolerance_text::tolerance_in;
 use crate::values::{
-    chamber, depth, form, limit, number, number_or_none, path, path_or_none, state, steps,
-    tolerance,
+    chamber, depth, form, is_given, limit, number, number_or_none, part_and_whole, path,
+    path_or_none, state, steps,
 };
 use clap::error::ErrorKind;
 use clap::{ArgMatches, Error};
@@ -78,6 +79,8 @@ pub enum Form {
 pub(crate) struct SharedWords<'a> {
     /// The files that give the counties.
     counties: CountyWords<'a>,
+    /// The tolerance.
+    tolerance: Tolerance,
     /// The name of the file that the record of the run is written to, where the words give one.
     record_file: Option<&'a str>,
     /// The form of the answer.
@@ -95,7 +98,8 @@ pub struct CommonWords<'a> {
     pub state: u8,
     /// The tolerance: a part, from 0 to 500, of a whole, from 1 to 1000.
     ///
-    /// If the words give no part, it is 1. If they give no whole, it is 20.
+    /// If the words give `--tolerance`, it is the fraction that its text writes, in lowest terms. Else it is the part
+    /// over the whole that they give: if they give no part, it is 1, and if they give no whole, it is 20.
     /// The part may be more than half of the whole: a problem refuses such a tolerance.
     pub tolerance: Tolerance,
     /// The name of the file that the record of the run is written to, where the words give one.
@@ -303,6 +307,30 @@ fn county_words<'a>(found: &ArgMatches<'a>) -> Result<CountyWords<'a>, OptionsFa
     }
 }
 
+/// Reads the tolerance from `found`, the values of the options of a subcommand: that of the text of `--tolerance` if the
+/// words give it, and else that of `--part` and `--of`. Returns the fault `ToleranceAndPart` if `--tolerance` is given
+/// beside `--part` or `--of`. Returns `Tolerance` if it is given alone and its text writes no tolerance.
+fn tolerance_words<'a>(found: &ArgMatches<'a>) -> Result<Tolerance, OptionsFault>
+    requires { HasValues common_options (rows_of (found_of found.now)) }
+    ensures { MatchResult
+        result
+        (GivesToleranceOnce (rows_of (found_of found.now)))
+        (IsToleranceFault (rows_of (found_of found.now))) }
+{
+    match path_or_none(found, "tolerance") {
+        None => Ok(part_and_whole(found)),
+        Some(text) => {
+            if is_given(found, "part") || is_given(found, "of") {
+                return Err(OptionsFault::ToleranceAndPart);
+            }
+            match tolerance_in(text) {
+                Some(tolerance) => Ok(tolerance),
+                None => Err(OptionsFault::Tolerance),
+            }
+        }
+    }
+}
+
 /// Returns the files that give the counties to `audit`, whose census files are `census`: the file of the people if
 /// `found` has one, and else the census files.
 fn audit_county_words<'a>(found: &ArgMatches<'a>, census: CensusWords<'a>) -> CountyWords<'a>
@@ -326,7 +354,7 @@ fn common_words<'a>(found: &ArgMatches<'a>, shared: SharedWords<'a>) -> CommonWo
         counties: shared.counties,
         chamber: chamber(found),
         state: state(found),
-        tolerance: tolerance(found),
+        tolerance: shared.tolerance,
         record_file: shared.record_file,
         form: shared.form,
     }
@@ -419,9 +447,10 @@ fn check_words<'a>(found: &ArgMatches<'a>, shared: SharedWords<'a>) -> CheckWord
     }
 }
 
-/// Reads from `found` the values of the options of `audit`.
-fn audit_words<'a>(found: &ArgMatches<'a>) -> AuditWords<'a>
-    requires { HasValues (census_options ++ audit_options) (rows_of (found_of found.now)) }
+/// Reads from `found` the values of the options of `audit`, whose tolerance is `tolerance`.
+fn audit_words<'a>(found: &ArgMatches<'a>, tolerance: Tolerance) -> AuditWords<'a>
+    requires values { HasValues (census_options ++ audit_options) (rows_of (found_of found.now)) }
+    requires tolerance { SaysTolerance (rows_of (found_of found.now)) tolerance }
     ensures { SaysAudit (rows_of (found_of found.now)) result }
 {
     let census = CensusWords {
@@ -430,6 +459,7 @@ fn audit_words<'a>(found: &ArgMatches<'a>) -> AuditWords<'a>
     };
     let shared = SharedWords {
         counties: audit_county_words(found, census),
+        tolerance,
         record_file: path_or_none(found, "record"),
         form: form(found),
     };
@@ -652,18 +682,23 @@ fn command_words_with<'a>(
 }
 
 /// Reads the command of the subcommand called `name` from the values of its options. Returns a fault if they don't go
-/// together. A fault of the files that give the counties comes before any other.
+/// together. A fault of the files that give the counties comes first, then one of the tolerance, and then any other.
 fn command_words<'a>(name: &str, found: &ArgMatches<'a>) -> Result<CommandWords<'a>, OptionsFault>
     requires { HasCommand (name.now, rows_of (found_of found.now)) }
     ensures { MatchResult result (SaysCommand (name.now, rows_of (found_of found.now))) (IsOptionsFault (name.now, rows_of (found_of found.now))) }
 {
     match name {
-        "audit" => Ok(CommandWords::Audit(audit_words(found))),
+        "audit" => {
+            let tolerance = tolerance_words(found)?;
+            Ok(CommandWords::Audit(audit_words(found, tolerance)))
+        }
         _ => {
             let counties = county_words(found)?;
+            let tolerance = tolerance_words(found)?;
             let record_file = path_or_none(found, "record");
             let shared = SharedWords {
                 counties,
+                tolerance,
                 record_file,
                 form: form(found),
             };
@@ -717,7 +752,8 @@ fn matches_in<'a>(alloc: Global, words: &'a [&'a str]) -> Result<ArgMatches<'a>,
 /// Words that `clap` doesn't take end in `Help` or `Version` if they ask for that before anything is wrong, and else in
 /// `Usage`. The word `help` alone asks for help. Words that `clap` takes end in `Usage` too if their options don't go
 /// together. For each subcommand but `audit` that is `--people` beside `--geo` or `--segment`, or none of the three, or
-/// one census file alone. For `list` it is one of `--number` and `--out` without the other, or `--which` beside both.
+/// one census file alone. For each subcommand it is a `--tolerance` whose text writes none, or `--tolerance` beside
+/// `--part` or `--of`. For `list` it is one of `--number` and `--out` without the other, or `--which` beside both.
 /// For `share` and `piece` it is `--depth` without `--limit`. `Memory` may come for any words.
 pub fn parse<'a>(alloc: Global, words: &'a [&'a str]) -> Result<CommandWords<'a>, WordsEnd>
     // The command is what the words mean.

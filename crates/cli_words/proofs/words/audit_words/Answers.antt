@@ -5,4 +5,4 @@ use Rattle.cli_words.proofs.ReadLemmas.{front_values}
 use Rattle.cli_words.proofs.words.audit_words.Goals as goal
 
 pub problem_words-requires-clause-values : goal.problem_words-requires-clause-values
-problem_words-requires-clause-values c = front_values problem_options (drop 7 audit_options) (rows_of (found_of c.args.found.now)) c.requires.1.1.1
+problem_words-requires-clause-values c = front_values problem_options (drop 8 audit_options) (rows_of (found_of c.args.found.now)) c.requires.values.1.1.1

@@ -5,4 +5,4 @@ use Rattle.cli_words.proofs.ReadLemmas.{front_values}
 use Rattle.cli_words.proofs.words.grouping_words.Goals as goal
 
 pub problem_words-problem-requires-clause-values : goal.problem_words-problem-requires-clause-values
-problem_words-problem-requires-clause-values c = front_values problem_options (drop 7 grouping_options) (rows_of (found_of c.args.found.now)) c.requires.values
+problem_words-problem-requires-clause-values c = front_values problem_options (drop 8 grouping_options) (rows_of (found_of c.args.found.now)) c.requires.values

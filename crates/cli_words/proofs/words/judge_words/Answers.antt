@@ -5,4 +5,4 @@ use Rattle.cli_words.proofs.ReadLemmas.{front_values}
 use Rattle.cli_words.proofs.words.judge_words.Goals as goal
 
 pub grouping_words-requires-clause-values : goal.grouping_words-requires-clause-values
-grouping_words-requires-clause-values c = front_values grouping_options (drop 8 judge_options) (rows_of (found_of c.args.found.now)) c.requires.values
+grouping_words-requires-clause-values c = front_values grouping_options (drop 9 judge_options) (rows_of (found_of c.args.found.now)) c.requires.values

@@ -5,4 +5,4 @@ use Rattle.cli_words.proofs.ReadLemmas.{front_values}
 use Rattle.cli_words.proofs.words.list_words_with.Goals as goal
 
 pub certificate_words-requires-clause-values : goal.certificate_words-requires-clause-values
-certificate_words-requires-clause-values c = front_values certificate_options (drop 8 list_options) (rows_of (found_of c.args.found.now)) c.requires.values
+certificate_words-requires-clause-values c = front_values certificate_options (drop 9 list_options) (rows_of (found_of c.args.found.now)) c.requires.values

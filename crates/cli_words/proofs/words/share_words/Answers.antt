@@ -5,4 +5,4 @@ use Rattle.cli_words.proofs.ReadLemmas.{front_values}
 use Rattle.cli_words.proofs.words.share_words.Goals as goal
 
 pub board_words-requires-clause-values : goal.board_words-requires-clause-values
-board_words-requires-clause-values c = front_values grouping_options (drop 8 share_options) (rows_of (found_of c.args.found.now)) c.requires.values
+board_words-requires-clause-values c = front_values grouping_options (drop 9 share_options) (rows_of (found_of c.args.found.now)) c.requires.values

@@ -5,4 +5,4 @@ use Rattle.cli_words.proofs.ReadLemmas.{front_values}
 use Rattle.cli_words.proofs.words.solve_words.Goals as goal
 
 pub problem_words-requires-clause-values : goal.problem_words-requires-clause-values
-problem_words-requires-clause-values c = front_values problem_options (drop 7 solve_options) (rows_of (found_of c.args.found.now)) c.requires.values
+problem_words-requires-clause-values c = front_values problem_options (drop 8 solve_options) (rows_of (found_of c.args.found.now)) c.requires.values

@@ -1,7 +1,7 @@
 use Rattle.std.proofs.Common.{refl, codes, lit<}
 use Rattle.clap.specs.Words.{found_of}
 use Rattle.cli_words.proofs.ReadLemmas.{signed_read, signed_said}
-use Rattle.cli_words.proofs.values.tolerance.Goals as goal
+use Rattle.cli_words.proofs.values.part_and_whole.Goals as goal
 
 pub unwrap-requires : goal.unwrap-requires
 unwrap-requires c = rw (signed_read (found_of c.args.found.now) _ c.requires.part 16 0 500 c.get_one.result c.get_one.ensures.value (lit< tt) refl).1 refl
