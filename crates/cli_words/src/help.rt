@@ -60,8 +60,8 @@ Exit status:
      piece was refused
   5  a file could not be read or stored, memory was refused, or the answer could not be written
 
-A file's name is its path: `/dev/stdin` is standard input, and `-` a file of that name. Without any
-word a case is read from standard input: the words on its first line, then each file after a line
+A file's name is its path. For one file that is read, `-` is standard input. Without any word a
+case is read from standard input: the words on its first line, then each file after a line
 `file NAME`.";
 
 /// What `solve --help` ends with.
