@@ -15,7 +15,6 @@ use Rattle.people_table.specs.Listed.{people_list, named_people_list}
 use Rattle.people_table.specs.declared.fault.PeopleFault.{PeopleFault}
 use Rattle.grouping_table.specs.Table.{unnamed_counties as without_names}
 
-
 -- names don't change the counties
 same_counties : (names : List CodeName) (counties : List County) → without_names (with_names names counties) ≡ counties
 same_counties names [] = refl
