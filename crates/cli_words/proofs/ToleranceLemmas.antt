@@ -1,5 +1,5 @@
 -- What a text of a tolerance writes: its numbers, and its fraction in lowest terms.
-use Rattle.std.proofs.Common.{◌≡◌, ◌⊎◌, ◌∙◌, ◌+◌, ◌-◌, ◌*◌, ◌/◌, ◌%◌, ◌<◌, ◌≤◌, ◌^◌, ◌==◌, ℕ, Bool, cond, true, false, zero, suc, refl, sym, ap, subst, inl, inr, arith, List, [], ◌∷◌, length, Option, Some, None, IfSome, Result, Ok, rules, true≢false}
+use Rattle.std.proofs.Common.{◌≡◌, ◌⊎◌, ◌∙◌, ◌+◌, ◌-◌, ◌*◌, ◌/◌, ◌%◌, ◌<◌, ◌≤◌, ℕ, Bool, cond, true, false, zero, suc, refl, sym, ap, subst, inl, inr, arith, List, length, Option, Some, None, IfSome, Result, Ok, rules}
 use Rattle.std.specs.Char.{is_ascii_digit}
 use Rattle.std.specs.List.{find, list_all, range_with_len}
 use Rattle.std.specs.Option.{option_and_then}
@@ -9,7 +9,6 @@ use Rattle.std.proofs.Math.Nat.{div-add-mod, mul-le-mul_left, le-mul_of_pos_righ
 use Rattle.std.proofs.lemmas.Bool.{cases_lt, eqb-true, ne_eqb}
 use Rattle.std.proofs.lemmas.Bool.Decides.{nat_tests}
 use Rattle.std.proofs.lemmas.Str.Parse.{IsNumeralModel, digits_value_short, numerals_by_value, parse_gives}
-use Rattle.county_codes.specs.declared.tolerance.Tolerance.{Tolerance}
 use Rattle.cli_words.specs.Tolerance.{at_whole, is_whole_number, least_whole, number_in, parts_of, tolerance_of}
 
 -- ---- numbers

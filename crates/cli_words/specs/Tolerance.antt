@@ -1,5 +1,5 @@
 -- The tolerance that a text writes: a fraction, a decimal or a percentage.
-use Rattle.std.specs.Prelude.{◌+◌, ◌-◌, ◌*◌, ◌/◌, ◌%◌, ◌^◌, ◌==◌, ◌&&◌, ℕ, Bool, cond, List, [], ◌∷◌, Option, Some, None, length, nat_le, nat_lt}
+use Rattle.std.specs.Prelude.{◌+◌, ◌-◌, ◌*◌, ◌/◌, ◌%◌, ◌^◌, ◌==◌, ◌&&◌, ℕ, Bool, cond, Option, Some, None, length, nat_le, nat_lt}
 use Rattle.std.specs.Char.{is_ascii_digit}
 use Rattle.std.specs.List.{after_first, before_first, find, list_all, position_or_len, range_with_len}
 use Rattle.std.specs.Option.{option_and_then, option_map}
