@@ -521,6 +521,11 @@ def districts_by(words: Words, files: Files, counties: Set[str]) -> Dict[bytes, 
     return districts
 
 
+def label_field(label: bytes) -> bytes:
+    """Returns the field of a district's label, after a single quote if it would be a formula."""
+    return b"'" + label if label[:1] in (b"=", b"+", b"-", b"@") else label
+
+
 def districts_table_of(words: Words, files: Files) -> bytes:
     """Returns the table of the districts that an audit stores beside its findings."""
     groups = enumerate(grouping_by(words, files, "--grouping"), 1)
@@ -534,7 +539,7 @@ def districts_table_of(words: Words, files: Files) -> bytes:
         counties = sorted({it[:5] for it in districts[label]})
         its_sets = {label_of[it] for it in counties}
         numbers = (sum(people[it] for it in districts[label]), least, greatest)
-        fields = [label, *(b"%d" % it for it in numbers)]
+        fields = [label_field(label), *(b"%d" % it for it in numbers)]
         fields.append(b" ".join(it.label for it in sets if it.label in its_sets))
         fields.append(" ".join(counties).encode())
         lines.append(table_line(fields))

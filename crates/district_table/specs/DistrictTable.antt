@@ -1,5 +1,6 @@
 -- The table of a plan's districts.
-use Rattle.std.specs.Prelude.{◌≡◌, ℕ, List, [], ◌∷◌, ◌++◌, map, flat_map, codes, decimal}
+use Rattle.std.specs.Prelude.{◌≡◌, ℕ, ◌==◌, ◌||◌, Bool, List, [], ◌∷◌, ◌++◌, map, flat_map, codes, decimal}
+use Rattle.std.specs.Prelude.{if◌then◌else◌}
 use Rattle.std.specs.List.{join_with_byte}
 use Rattle.county_codes.specs.Digits.{five_digits}
 use Rattle.grouping_laws.specs.Problem.{Problem}
@@ -18,11 +19,24 @@ set_label (Withdrawn number) = codes "W" ++ decimal number
 abbrev pub with_blanks : List (List ℕ) → List ℕ
 with_blanks words = join_with_byte 32 words
 
+-- `=`, `+`, `-` or `@`, with which a formula of a spreadsheet begins
+abbrev pub begins_formula : ℕ → Bool
+begins_formula byte = (byte == 61) || (byte == 43) || ((byte == 45) || (byte == 64))
+
+-- a single quote before a label that a spreadsheet would take for a formula, and nothing before any other
+abbrev pub label_mark : List ℕ → List ℕ
+label_mark [] = []
+label_mark (b ∷ bs) = if begins_formula b then codes "'" else []
+
+-- the field of a label, which a spreadsheet shows as it is
+abbrev pub label_field : List ℕ → List ℕ
+label_field label = label_mark label ++ label
+
 -- a district's label and its people, the least and the greatest people of a district, and its sets and counties
 abbrev pub district_fields : ℕ × ℕ → District → List (List ℕ)
 district_fields bounds d =
-    d.label ∷ decimal d.people ∷ decimal bounds.0 ∷ decimal bounds.1 ∷ with_blanks (map set_label d.sets.items)
-    ∷ with_blanks (map five_digits d.counties.items) ∷ []
+    label_field d.label ∷ decimal d.people ∷ decimal bounds.0 ∷ decimal bounds.1
+    ∷ with_blanks (map set_label d.sets.items) ∷ with_blanks (map five_digits d.counties.items) ∷ []
 
 -- the names of the fields
 abbrev pub districts_header : List ℕ

@@ -5,6 +5,7 @@ ghost use Rattle.county_codes.specs.Digits.{five_digits};
 ghost use Rattle.county_problem.specs.ProblemValue.{problem_of};
 ghost use Rattle.grouping_table.specs.Quoting.{line_text};
 ghost use Rattle.district_table.specs.DistrictTable.{set_label, with_blanks, district_fields, district_lines, IsDistrictsText};
+ghost use Rattle.district_table.specs.DistrictTable.{begins_formula as is_formula_start, label_mark as mark_of_label};
 
 use baf_auditor::{District, Set};
 use county_codes::{CountyCode, push_code, push_codes};
@@ -64,6 +65,23 @@ fn push_counties(out: &mut Vec<u8>, counties: &[CountyCode]) -> Result<(), Alloc
     }
 }
 
+/// Returns whether `byte` is one with which a formula of a spreadsheet begins.
+fn begins_formula(byte: u8) -> bool
+    ensures { result ≡ is_formula_start byte }
+{
+    byte == b'=' || byte == b'+' || byte == b'-' || byte == b'@'
+}
+
+/// Returns a single quote if a spreadsheet would take `label` for a formula, and else nothing.
+fn label_mark(label: &[u8]) -> &[u8]
+    ensures { result.now ≡ mark_of_label label.now }
+{
+    match label {
+        [first, ..] if begins_formula(*first) => b"'",
+        _ => b"",
+    }
+}
+
 /// Returns the line of `district`. The people of a district are to be from `bounds.0` to `bounds.1`.
 fn district_line(
     alloc: Global,
@@ -78,6 +96,8 @@ fn district_line(
     let people = people.format(district.people).as_bytes();
     let least = least.format(bounds.0).as_bytes();
     let greatest = greatest.format(bounds.1).as_bytes();
+    let mut label = Vec::from_slice(alloc, label_mark(district.label.as_bytes()))?;
+    label.extend_from_slice(district.label.as_bytes())?;
     let mut sets = Vec::new(alloc);
     push_set_labels(&mut sets, &district.sets)?;
     let mut counties = Vec::new(alloc);
@@ -85,7 +105,7 @@ fn district_line(
     csv_line(
         alloc,
         &[
-            district.label.as_bytes(),
+            label.as_slice(),
             people,
             least,
             greatest,
@@ -114,7 +134,9 @@ fn push_districts(
 /// Returns the table of `districts`, a comma-separated text (RFC 4180). It has a header, and a line for each district.
 /// A line has the district's label and its people. Then come the least and the greatest people that suit one seat of
 /// `problem`. The last two fields have the labels of the district's sets and the codes of its counties, with a blank
-/// between two. The label of a group is its number. The label of a withdrawn set is `W` and its number.
+/// between two. The label of a group is its number. The label of a withdrawn set is `W` and its number. A single quote
+/// stands before a district's label that begins with `=`, `+`, `-` or `@`, because a spreadsheet would take it for a
+/// formula (OWASP, "CSV Injection").
 ///
 /// The districts stand in the order in which they are given, and so do the sets and the counties of each.
 ///
