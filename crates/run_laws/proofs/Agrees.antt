@@ -78,9 +78,9 @@ pub record AgreesAs (files : Files) (words : SolveWords) (stored : List NamedFil
   pub proof : IsStoredFirst words.certificate (λ text. ChecksAs files words.problem text answers) stored
 
 module _ (files : Files) (words : SolveWords) (stored : List NamedFile) (a : Answered) (h : HasSaid files words stored a) where
-  -- the names of the counties, if the answer is an object
-  pub object_names : AreNamesIf (has_names words.problem.common.form) files words.problem.common h.t.named
-  object_names = names_shown files words.problem.common words.table h.t.named h.reads.names
+  -- the names of the counties, if the answer has them
+  pub shown_names : AreNamesIf (has_names words.problem.common.form) files words.problem.common h.t.named
+  shown_names = names_shown files words.problem.common words.table h.t.named h.reads.names
 
   pub answer_is : (s : Solved) → h.s ≡ s → a ≡ s.answer
   answer_is s e = h.said ∙ ap (λ (x : Solved). x.answer) e
@@ -107,7 +107,7 @@ module _ (files : Files) (words : SolveWords) (stored : List NamedFile) (a : Ans
     best_said h.t.problem g.groups.items,
     record {
       tell = (h.t.problem, inl (g.groups.items, refl));
-      one = (h.t.named, object_names, answer_is _ said.2 ∙ ap success (best_report words.problem.common.form h.t.problem h.t.named g));
+      one = (h.t.named, shown_names, answer_is _ said.2 ∙ ap success (best_report words.problem.common.form h.t.problem h.t.named g));
       proof = stored_proof said.0 (best_said h.t.problem g.groups.items) (λ form named. omega arith)
           (λ budget form t r same checked. checked_best h.t.problem said.0 budget form t same r checked g.groups.items
           (λ verdict. texts.agrees.best (problem_of h.t.problem) said.0 (certificate_of c) g.groups.items budget verdict said.1 is.1.proves is.1.target_is))
@@ -118,7 +118,7 @@ module _ (files : Files) (words : SolveWords) (stored : List NamedFile) (a : Ans
     impossible_said h.t.problem,
     record {
       tell = (h.t.problem, inr refl);
-      one = (h.t.named, object_names, answer_is _ said.2);
+      one = (h.t.named, shown_names, answer_is _ said.2);
       proof = stored_proof said.0 (impossible_said h.t.problem) (λ form named. omega arith)
           (λ budget form t r same checked. checked_impossible h.t.problem said.0 budget form t same r checked
           (λ verdict. texts.agrees.impossible (problem_of h.t.problem) said.0 (certificate_of c) budget verdict said.1 is.1.proves is.1.target_is))

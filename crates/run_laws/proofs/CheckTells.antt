@@ -28,7 +28,7 @@ module _ (files : Files) (words : CheckWords) (stored : List NamedFile) (a : Ans
   problem : IsProblemOfFiles files words.check.problem t.problem
   problem = problem_of_files files words.check.problem t.problem reads.reads
 
-  -- the names of the counties, if the answer is an object
+  -- the names of the counties, if the answer has them
   named_are : AreNamesIf (has_names words.check.problem.common.form) files words.check.problem.common t.named
   named_are = names_shown files words.check.problem.common words.table t.named reads.names
 

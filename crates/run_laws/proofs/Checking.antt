@@ -105,7 +105,7 @@ ChecksSay v text answers =
 module _ (others : Files) (check : CheckWords) (v : ProblemValue) (text : List ℕ) (answers : Answers) (low : AreLow answers)
     (reads : ReadsProblem others check.check.problem v) (certificate : others check.check.certificate.now ≡ Some text)
     (checked : ChecksSay v text answers) where
-  -- whether its answer is an object, and whether it reads the names of the counties
+  -- the form of its answer, and whether it reads the names of the counties
   abbrev form : Form
   form = check.check.problem.common.form
 

@@ -66,7 +66,7 @@ said_so form t g budget (Some text) a lawful by = go by.verdict by.right by.said
     go Budget right said = inl (inl said)
 
 module _ (files : Files) (words : JudgeWords) where
-  -- whether the answer is an object, and whether the names of the counties are read
+  -- the form of the answer, and whether the names of the counties are read
   abbrev form : Form
   form = words.problem.common.form
 

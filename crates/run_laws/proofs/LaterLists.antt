@@ -109,7 +109,7 @@ module _ (v : ProblemValue) (text : List ℕ) (c : Certificate) (g : Grouping) (
 module _ (others : Files) (list : ListWords) (which : Option Grouping) (v : ProblemValue) (text : List ℕ)
     (reads : ReadsProblem others list.check.problem v) (certificate : others list.check.certificate.now ≡ Some text)
     (which_is : IsGroupingIfNamed others list.which which) (listed : ListsSay v text) where
-  -- whether its answer is an object, and whether it reads the names of the counties
+  -- the form of its answer, and whether it reads the names of the counties
   abbrev form : Form
   form = list.check.problem.common.form
 

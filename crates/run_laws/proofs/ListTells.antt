@@ -71,7 +71,7 @@ listing_status form v named groupings (Some g) = number_is (number_in_list g gro
 -- what was said, after all files were stored
 module _ (files : Files) (words : ListWords) (stored : List NamedFile) (a : Answered) (s : Listed) (h : HasListed files words s)
     (all : stored ≡ listed_files words s) (said : a ≡ s.answer) (low : a.status ≤ 3) where
-  -- whether the answer is an object, and then the names of the counties
+  -- the form of the answer, and the names of the counties if it has them
   abbrev form : Form
   form = words.check.problem.common.form
 

@@ -1,4 +1,4 @@
--- Answers as they are shown: a text or an object.
+-- Answers as they are shown in their form.
 use Rattle.std.proofs.Common.{◌≡◌, ◌≤◌, ◌⊎◌, ℕ, Bool, true, false, List, Option, inl, inr, refl, sym, ap, subst, ◌∙◌, arith}
 use Rattle.std.specs.Prelude.{◌&&◌, codes, nat_eq, not}
 use Rattle.std.specs.Cmp.Lexicographic.{pointwise}

@@ -24,7 +24,7 @@ use Rattle.run_laws.specs.Run.{CommandRun}
 use Rattle.run_laws.specs.Headline.{Tells}
 use Rattle.run_laws.proofs.Ending.{same_status}
 use Rattle.run_laws.proofs.FilesRead.{problem_of_files, stored_between, table_between}
-use Rattle.run_laws.proofs.Agrees.{HasSaid, has_said, object_names}
+use Rattle.run_laws.proofs.Agrees.{HasSaid, has_said, shown_names}
 
 module _ (files : Files) (words : SolveWords) (stored : List NamedFile) (a : Answered) (h : HasSaid files words stored a) where
   problem : IsProblemOfFiles files words.problem h.t.problem
@@ -55,9 +55,9 @@ module _ (files : Files) (words : SolveWords) (stored : List NamedFile) (a : Ans
       stored_between words.events (λ t. t ≡ text) text h.s.events (before_table ++ table) [] stored refl is
       (all_behind ∙ sym (append_assoc before_table table events) ∙ ap (λ l. (before_table ++ table) ++ l) (sym (append-nil events)))
 
-  -- the names of the counties, if the answer is an object
+  -- the names of the counties, if the answer has them
   named_are : AreNamesIf (has_names words.problem.common.form) files words.problem.common h.t.named
-  named_are = object_names files words stored a h
+  named_are = shown_names files words stored a h
 
   -- an answer that is open, with the steps that were allowed
   open_answer : (found : Option held.Grouping) (steps : ℕ) → steps ≡ words.steps

@@ -65,11 +65,12 @@ abbrev pub IsUnnamed : Form → Bool → Answered → Type 0
 IsUnnamed form false a = ⊥
 IsUnnamed form true a = (line : ℕ) × (a ≡ shown_in form (named_answer (BadName line)))
 
--- what a check answers, in its form: of the names of the counties, of which an object tells
+-- what a check answers, in its form, by the names of the counties
 abbrev pub Answers : Type 0
 Answers = Form → Option (List CountyName) → Answered
 
--- The answer is one of these, in the form that the words ask for: an object has the names of the counties of the files.
+-- The answer is one of these, in the form that the words ask for. If the form has the names of the counties, they are
+-- those of the files.
 abbrev pub IsOneOf : Answers → Files → ProblemWords → Answered → Type 0
 IsOneOf answers files words a =
     (named : Option (List CountyName)) × AreNamesIf (has_names words.common.form) files words.common named

@@ -3,14 +3,14 @@
 ghost use Rattle.run_laws.specs.{Agreement.RunsAgree, Headline.RunsTell, Loads.RunsAreOfTheirLoads};
 
 /// Ties the certificate that `solve` or `share` stored to later runs with the same bytes for the problem. If `solve`
-/// ends with status 0 or 1, `check` gives the same answer to its certificate, each in its form: a text or an object of
-/// JSON. If it ends with status 0, `list` lists all best groupings by the certificate: it is never open. If `share` ends
-/// with status 0, `check` says of its certificate that the board's target is best. `share` with another status stores
-/// nothing.
+/// ends with status 0 or 1, `check` gives the same answer to its certificate, each in its form: a text with codes or
+/// names, or an object of JSON. If it ends with status 0, `list` lists all best groupings by the certificate: it is
+/// never open. If `share` ends with status 0, `check` says of its certificate that the board's target is best. `share`
+/// with another status stores nothing.
 ///
 /// The later run may be cut off because its budget is too small, because a file could not be had, or because memory was
-/// refused. If a table or an object is asked for, a county's NAME may be refused. `list` may find no grouping of the
-/// number that is asked for.
+/// refused. If the names of the counties are read, one may be refused. `list` may find no grouping of the number that
+/// is asked for.
 pub fn runs_agree()
     ensures { RunsAgree }
 {}
