@@ -156,6 +156,7 @@ def runs_of(case: cases.Case) -> Iterator[Tuple[Words, Files, bytes]]:
     """Yields the runs of a case that need no program and ask for no help.
 
     Of each: its words, its files, and the wanted text with its exit line, without what it stores.
+    Of a run over files of a folder, standard input is the file `-`.
     """
     for given, wanted in case.cut():
         wanted_lines = wanted.splitlines(keepends=True)
@@ -163,6 +164,8 @@ def runs_of(case: cases.Case) -> Iterator[Tuple[Words, Files, bytes]]:
         if runs == [[]]:
             words, files = case_parts(given)
             runs = [words]
+        else:
+            files[check.INPUT] = given
         has_stored = False
         for words in runs:
             lasts = (i for i, it in enumerate(wanted_lines) if it.startswith(b"exit "))
