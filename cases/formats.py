@@ -2,7 +2,8 @@
 
 Each table is made anew here from the files of a run, and from its report where it has one. The
 number behind a listing is found anew too. Of a record everything is compared but the version. The
-object of a run with `--json` is compared with that of its text (`json_answers.py`).
+object of a run with `--json` is compared with that of its text (`json_answers.py`). A text with
+`--names` becomes one without names, if these are the names of the run's files.
 """
 from __future__ import annotations
 
@@ -217,6 +218,17 @@ def number_by(words: Words, option: str, otherwise: int) -> int:
     return otherwise if word is None else int(word)
 
 
+def tolerance_by(words: Words) -> Tuple[int, int]:
+    """Returns the part and the whole of the tolerance of a run.
+
+    Those of `--tolerance` are in lowest terms, and those of `--part` and `--of` as they are given.
+    """
+    text = named_by(words, "--tolerance")
+    if text is not None:
+        return check.tolerance(text)
+    return number_by(words, "--part", 1), number_by(words, "--of", 20)
+
+
 def read_group(fields: List[bytes]) -> SetOfCounties:
     """Reads the seats and the codes of a group."""
     return check.number(fields[0], 0, 65535, "BadSeats"), [check.code(it) for it in fields[1:]]
@@ -264,17 +276,73 @@ def names_by(words: Words, files: Files) -> Dict[str, bytes]:
     return names
 
 
+# ---- the text of a run with names ----
+
+# The commands that take `--names`.
+NAMED = ("solve", "check", "judge", "list")
+COUNTIES = b" counties "
+
+
+def takes_names(words: Words) -> bool:
+    """Returns whether the words ask for names, if they are words of a command."""
+    return bool(words) and words[0] in NAMED and check.NAMES in words[1:]
+
+
+def asks_for_names(words: Words) -> bool:
+    """Returns whether the words ask for a text with names, if they are words of a command."""
+    return takes_names(words) and not json_answers.asks_for_object(words)
+
+
+def codes_before(named: bytes, names: Mapping[str, bytes]) -> bytes:
+    """Returns the codes of counties that stand with their names, as a line has them without.
+
+    Raises `NoAnswer` if the names are others.
+    """
+    codes: List[bytes] = []
+    left = b", " + named
+    while left:
+        code = left[2:7]
+        name = re.sub(rb"[\0-\x1f\x7f]", b" ", names.get(code.decode("latin-1"), b""))
+        county = b", " + code + b" " * bool(name) + name
+        codes.append(code)
+        left, before = left[len(county) :], left[: len(county)]
+        is_right = check.is_code(code) and before == county
+        if not is_right or left and not left.startswith(b", "):
+            raise json_answers.NoAnswer(f"{(before + left)[:120]!r} isn't {county!r}")
+    return b" ".join(codes)
+
+
+def without_names(words: Words, files: Files, text: bytes) -> bytes:
+    """Returns the text of a run with `--names` as it is without them.
+
+    Raises `NoAnswer` if the names are others than those of the run's files.
+    """
+    lines = text.split(b"\n")
+    if not any(it.startswith(b"group ") for it in lines):
+        return text
+    names = names_by(words, files)
+    for place, line in enumerate(lines):
+        head, mark, named = line.partition(COUNTIES)
+        if head.startswith(b"group ") and mark:
+            lines[place] = head + mark + codes_before(named, names)
+    return b"\n".join(lines)
+
+
 # ---- the object of a run ----
 
 
 def object_line(words: Words, files: Files, text: str) -> bytes:
-    """Returns the line that a run with `--json` prints, by the text that it prints without."""
-    numbers = (("--part", 1), ("--of", 20))
-    tolerance = [number_by(words, option, otherwise) for option, otherwise in numbers]
+    """Returns the line that a run with `--json` prints, by the text that it prints without.
+
+    That text has names if the words ask for them, and for no object.
+    """
+    if asks_for_names(words):
+        text = os.fsdecode(without_names(words, files, os.fsencode(text)))
     names: Optional[Dict[str, str]] = None
     if words[0] in json_answers.WITH_NAMES and text.startswith("people "):
         names = {code: name.decode() for code, name in names_by(words, files).items()}
-    return json_answers.compact(json_answers.object_of(words[0], text, tolerance, names))
+    made = json_answers.object_of(words[0], text, tolerance_by(words), names)
+    return json_answers.compact(made)
 
 
 def wrong_object(words: Words, files: Files, line: bytes) -> Optional[str]:
@@ -503,7 +571,7 @@ def assignments_in(text: bytes) -> List[Tuple[str, bytes]]:
 def district_bounds(words: Words, files: Files) -> Tuple[int, int]:
     """Returns the least and the greatest people of one seat."""
     total, chamber = sum(people_by(words, files).values()), number_by(words, "--chamber", 0)
-    part, whole = number_by(words, "--part", 1), number_by(words, "--of", 20)
+    part, whole = tolerance_by(words)
     least = -(-(whole - part) * total // (whole * chamber))
     return least, (whole + part) * total // (whole * chamber)
 

@@ -16,6 +16,7 @@ A program gets it as a case on standard input, or as files in a folder. A find i
     format      the text isn't one that the command writes with this status (TEXTS of formats.py),
                 or the status is none that docs/formats.md names
     object      with `--json` the line isn't the object of its text, or an answer is no object
+    names       with `--names` a group's line hasn't the names of its counties behind their codes
     listing     a listing doesn't tell as many groupings as it says, or they don't ascend, or the
                 number behind it isn't that of the grouping of `--which`
     stored      a file afterwards is neither as it was nor whole in its format, another file lies
@@ -24,6 +25,8 @@ A program gets it as a case on standard input, or as files in a folder. A find i
     checker     tools/check.py contradicts `check`, `list`, `judge` where it says best, or a
                 certificate that `solve` or `share` stored (if it answers within seconds)
     programs    two programs answer otherwise
+    words       the program answers otherwise without `--names`, or with `--part` and `--of` in the
+                place of `--tolerance`
     pipes       the program answers otherwise, or stores other files, where the files that it reads
                 are pipes, which it can read once. Some runs that are given as files are asked so;
                 none of `audit`, which reads two files twice
@@ -31,7 +34,9 @@ A program gets it as a case on standard input, or as files in a folder. A find i
 If each program stores tables and records (`--table`, `--groupings`, `--districts`, `--record`),
 some runs are asked for them. Each table is made anew from the files and the report. If each has
 `--which`, some lists are asked for the number of a grouping, and if each has `--json`, some runs
-for an object. An object is made a text, which is judged as that of any run.
+for an object, as with `--names` for names. An object is made a text, which is judged as that of any
+run, and so is a text with names. If each has `--tolerance`, some runs say their tolerance so. If
+each reads standard input as the file `-`, some runs have a file there.
 
 A program that `rt try` built tells bad accesses, sums that wrap and a false `prove!`. A search gets
 few steps and a check a small budget, so that a turn is short. The same seed and turn make the same
@@ -68,16 +73,17 @@ from typing import Sequence, Tuple, Union
 HERE = os.path.dirname(os.path.realpath(__file__))
 sys.path[:0] = [HERE, f"{HERE}/../tools"]
 import cases  # noqa: E402
+import check  # noqa: E402
 import compare_checkers  # noqa: E402
 import given_files  # noqa: E402
 import json_answers  # noqa: E402
 import program_runs  # noqa: E402
 import sample_listings  # noqa: E402
-from formats import TEXTS, are_resuming, assignments_in, districts_table_of  # noqa: E402
-from formats import groupings_in  # noqa: E402
-from formats import groupings_table_of, is_certificate, is_grouping, is_of_format  # noqa: E402
-from formats import is_record, is_told, read_lines, table_of  # noqa: E402
-from formats import sum_of, wrong_listing, wrong_object, wrong_record  # noqa: E402
+from formats import NAMED, TEXTS, are_resuming, asks_for_names, assignments_in  # noqa: E402
+from formats import districts_table_of, groupings_in, groupings_table_of  # noqa: E402
+from formats import is_certificate, is_grouping, is_of_format, is_record, is_told  # noqa: E402
+from formats import read_lines, sum_of, table_of, takes_names, tolerance_by  # noqa: E402
+from formats import without_names, wrong_listing, wrong_object, wrong_record  # noqa: E402
 from script_words import ScriptWords  # noqa: E402
 from sweeps import named_by  # noqa: E402
 
@@ -109,7 +115,11 @@ MORE = {
     "record": "solve",
     "which": "list",
     "json": "size",
+    "names": "solve",
+    "tolerance": "size",
 }
+# The name of standard input, which some runs get besides, if each program reads it so.
+INPUT = "-"
 # The options that keep a turn short, by the command.
 LIMITS: Dict[str, Tuple[str, ...]] = {
     "solve": ("--steps", "300"),
@@ -125,6 +135,11 @@ NUMBERS = (
     " 256000000 256000001 4294967295 4294967296 18446744073709551615 18446744073709551616"
     " 4294967296000000000000 007 -1 +1 1.0 1e3"
 ).split()
+TOLERANCES = (
+    "5% 0.05 1/20 2/40 0 0% 0/7 10% 4.5% 0.045 1/2 50% 51% 101% 3/5 500 501 1/1000 1/1001 0.1%"
+    " 0.05% 1/0 0/0 .05 5. 5%% 1/3% 5%/2 1/2/3 -1/20 +5% 0000000001/20 999999999/999999999 1e-2"
+    " \u0665%"
+).split()
 BYTES = [b"\n", b"\r", b"\r\n", b" ", b"  ", b"|", b":", b",", b"-", b"+", b"\0", b"\t", b"\x7f"]
 BYTES += [b"\xff", b"\xc3", b"\xe2\x80\x8b", b"\xef\xbb\xbf", b"0", b"9", b"x"]
 # The options of files that are changed most often.
@@ -135,8 +150,8 @@ NUMBER_OPTIONS += ["--round", "--steps"]
 FILE_OPTIONS = ["--links", "--withdrawn", "--certificate", "--out", "--events", "--which"]
 FILE_OPTIONS += ["--groupings", "--districts"]
 # The options of a check that the second checker is given.
-CHECK_OPTIONS = ["--geo", "--segment", "--chamber", "--state", "--part", "--of", "--adjacency"]
-CHECK_OPTIONS += ["--people", "--links", "--withdrawn", "--certificate", "--table"]
+CHECK_OPTIONS = ["--geo", "--segment", "--chamber", "--state", "--part", "--of", "--tolerance"]
+CHECK_OPTIONS += ["--adjacency", "--people", "--links", "--withdrawn", "--certificate", "--table"]
 
 # ---- what is changed ----
 
@@ -165,9 +180,13 @@ class Given:
         return text
 
     def all_files(self) -> Files:
-        """Returns the files by their names, and standard input by the system's name for it."""
-        given = self.text() if self.is_told else self.stdin
-        return {"/dev/stdin": given, **self.files}
+        """Returns the files by their names, and standard input by its names.
+
+        In a case `-` is a file of that name.
+        """
+        if self.is_told:
+            return {"/dev/stdin": self.text(), **self.files}
+        return {"/dev/stdin": self.stdin, **self.files, INPUT: self.stdin}
 
     def named(self) -> List[Tuple[int, str]]:
         """Returns the options that name a file which is there, each behind its place."""
@@ -294,19 +313,69 @@ def add_outputs(run: Given, options: Iterable[str], chance: random.Random) -> No
         if option == "which":
             add_which(run, is_free, chance)
         elif option == "json":
-            add_json(run, chance)
+            add_flag(run, check.OBJECT, json_answers.COMMANDS, chance)
+        elif option == "names":
+            add_flag(run, check.NAMES, NAMED, chance)
+        elif option == "tolerance":
+            add_tolerance(run, chance)
+        elif option == INPUT:
+            add_input(run, chance)
         elif is_free and run.words[0] in STORING[option] and chance.random() < 0.3:
             other = chance.choice(run.words[1:] or [option])
             name = chance.choice((option, option, f"\\\u00e9{option}", other))
             run.words = [*run.words, f"--{option}", name]
 
 
-def add_json(run: Given, chance: random.Random) -> None:
-    """Has a run print an object, most often behind its other words."""
-    can_ask = run.whole is None and run.words[0] in json_answers.COMMANDS
-    if can_ask and "--json" not in run.words and chance.random() < 0.3:
+def add_flag(run: Given, flag: str, commands: Sequence[str], chance: random.Random) -> None:
+    """Has a run of one of these commands get a flag, most often behind its other words."""
+    can_ask = run.whole is None and run.words[0] in commands
+    if can_ask and flag not in run.words and chance.random() < 0.3:
         place = len(run.words) if chance.random() < 0.8 else 1
-        run.words = [*run.words[:place], "--json", *run.words[place:]]
+        run.words = [*run.words[:place], flag, *run.words[place:]]
+
+
+def texts_of_tolerance(part: int, whole: int) -> List[str]:
+    """Returns texts that write this tolerance: fractions, decimals and percentages."""
+    texts = [f"{part * times}/{whole * times}" for times in (1, 2, 7)]
+    for sign, times in (("", 1), ("%", 100)):
+        for places in range(6):
+            digits, left = divmod(part * times * 10**places, whole)
+            before, behind = divmod(digits, 10**places)
+            if left == 0:
+                texts.append(f"{before}.{behind:0{places}}{sign}" if places else f"{before}{sign}")
+    return texts
+
+
+def add_tolerance(run: Given, chance: random.Random) -> None:
+    """Has a run say its tolerance as a text, which most often writes the same one."""
+    is_said = named_by(run.words, "--tolerance") is not None
+    if run.whole is not None or is_said or chance.random() < 0.8:
+        return
+    texts, words = TOLERANCES, run.words
+    if chance.random() < 0.7:
+        with contextlib.suppress(ValueError, ZeroDivisionError):
+            texts = texts_of_tolerance(*tolerance_by(words))
+    if chance.random() < 0.9:
+        words = words_without(words_without(words, "--part"), "--of")
+    run.words = [*words, "--tolerance", chance.choice(texts)]
+
+
+def add_input(run: Given, chance: random.Random) -> None:
+    """Has a run read a file from standard input, under the name `-`.
+
+    If the run is told, the file gets this name, and is one of the case as before.
+    """
+    names = read_once(run)
+    is_free = run.whole is None and run.words[0] not in ("audit", "worker") and not run.stdin
+    if not names or not is_free or INPUT in run.words or chance.random() < 0.8:
+        return
+    name = chance.choice(names)
+    run.words = [INPUT if it == name else it for it in run.words]
+    held = run.files.pop(name)
+    if run.is_told:
+        run.files = as_told({**run.files, INPUT: held})
+    else:
+        run.stdin = held
 
 
 def add_which(run: Given, is_free: bool, chance: random.Random) -> None:
@@ -402,7 +471,8 @@ def changed_words(words: Words, chance: random.Random) -> Words:
         place = chance.choice(options)
         words += words[place : place + 2]
     elif way == 6:
-        words += [chance.choice(NUMBER_OPTIONS), chance.choice(NUMBERS)]
+        option = chance.choice([*NUMBER_OPTIONS, "--tolerance"])
+        words += [option, chance.choice(TOLERANCES if option == "--tolerance" else NUMBERS)]
     elif options:
         option = chance.choice(FILE_OPTIONS)
         words += [option, word_behind(words, chance.choice(options)) if words[-1] else ""]
@@ -549,8 +619,9 @@ MILD_CHANGES: Tuple[Change, ...] = (with_changed_number, with_another_code, with
 class Made:
     """What a run made: its text, its status, standard error, and the files afterwards.
 
-    Of a told run, those are the files that its text shows as stored. If it printed an object, that
-    is its `line`, the text is that of the object, and `fault` is what is wrong with it.
+    Of a told run, those are the files that its text shows as stored. If it printed an object or a
+    text with names, that is its `line`. The text is then that of the object, or the one without
+    names, and `fault` is what is wrong with what it printed.
     """
 
     text: bytes
@@ -561,7 +632,7 @@ class Made:
     fault: Optional[str] = None
 
     def printed(self) -> bytes:
-        """Returns what the run printed: its object, or its text."""
+        """Returns what the run printed: its object, its text with names, or its text."""
         return self.text if self.line is None else self.line
 
 
@@ -572,7 +643,9 @@ def is_alone(text: bytes, status: int) -> bool:
 
 
 def with_text(run: Given, made: Made) -> Made:
-    """Returns what a run made, with texts in the place of its objects."""
+    """Returns what a run made, with texts in the place of its objects and of texts with names."""
+    if asks_for_names(run.words) and made.status < 128:
+        return with_codes(run, made)
     if not json_answers.asks_for_object(run.words) or made.text.startswith(b"refused case "):
         return made
     if is_alone(made.text, made.status) or made.status >= 128:
@@ -582,6 +655,17 @@ def with_text(run: Given, made: Made) -> Made:
     return dataclasses.replace(
         made, text=text, line=made.text, told=told_with_text(made.told), fault=fault
     )
+
+
+def with_codes(run: Given, made: Made) -> Made:
+    """Returns what a run made, with texts without names in the place of those with names."""
+    head, mark, answer = made.told.partition(ANSWER_IS)
+    try:
+        text = without_names(run.words, run.all_files(), made.text)
+        answer = without_names(run.words, run.all_files(), answer)
+    except (json_answers.NoAnswer, check.End, check.Fault, ValueError, KeyError) as error:
+        return dataclasses.replace(made, fault=f"names: {error}")
+    return dataclasses.replace(made, text=text, line=made.text, told=head + mark + answer)
 
 
 def told_with_text(told: bytes) -> bytes:
@@ -622,8 +706,11 @@ def pipes_of(run: Given) -> List[str]:
 
     They are those that it reads once, if it is given as files.
     """
-    if run.is_told or run.words[0] == "audit":
-        return []
+    return [] if run.is_told or run.words[0] == "audit" else read_once(run)
+
+
+def read_once(run: Given) -> List[str]:
+    """Returns the files of a run that the words name once, and not as one to store."""
     named = [os.path.normpath(word.split("=", 1)[-1]) for word in run.words if word]
     names = {run.words[place + 1] for place, _ in run.named()}
     names -= {*outputs_of(run.words).values()}
@@ -646,6 +733,47 @@ def wrong_pipes(run: Given, plain: Made, piped: Made) -> Optional[str]:
             return f"pipes: {name} is {stored_told(of_pipes)}; of plain files {stored_told(held)}"
     why = wrong_outputs(run, piped)
     return f"pipes: {why}" if why is not None else None
+
+
+def in_other_words(run: Given) -> Optional[Given]:
+    """Returns the run without `--names` and with its tolerance as `--part` and `--of`.
+
+    Returns None if the words have neither `--names` nor `--tolerance`, or if these aren't words of
+    the command.
+    """
+    text, words = named_by(run.words, "--tolerance"), list(run.words)
+    if run.whole is not None or text is None and not asks_for_names(words):
+        return None
+    if asks_for_names(words):
+        words = [it for it in words if it != check.NAMES]
+    if text is not None:
+        try:
+            part, whole = check.tolerance(text)
+        except check.Fault:
+            return None
+        words = words_without([it for it in words if it != f"--tolerance={text}"], "--tolerance")
+        words += ["--part", str(part), "--of", str(whole)]
+    return dataclasses.replace(run, words=words)
+
+
+def wrong_words(run: Given, made: Made, other: Made) -> Optional[str]:
+    """Returns what is wrong with a run beside the same one in other words, or None.
+
+    Both are to have the same answer and store the same files, but for their records, which have the
+    words. A name that isn't UTF-8 is a fault only if names are read.
+    """
+    is_apart = made.status == 2 or made.text.startswith((b"memory\n", b"refused geo BadName "))
+    if is_apart or other.text == b"memory\n":
+        return None
+    line = made.text if asks_for_names(run.words) else made.printed()
+    if (line, made.status) != (other.printed(), other.status):
+        return f"words: {answer_told(made)}; in other words {answer_told(other)}"
+    record = outputs_of(run.words).get("record")
+    for name in sorted({*made.files, *other.files} - {record}):
+        held, of_other = made.files.get(name), other.files.get(name)
+        if held != of_other:
+            return f"words: {name} is {stored_told(held)}; in other words {stored_told(of_other)}"
+    return None
 
 
 def stored_told(held: Optional[bytes]) -> str:
@@ -823,7 +951,7 @@ def words_of_check(words: Words) -> Words:
     """Returns the words of a check of the same problem and certificate.
 
     Of a list the table of all groupings becomes a table: with either, names are read. They are read
-    for an object, too.
+    for an object and for a text with names, too.
     """
     kept = ["check"]
     for option in CHECK_OPTIONS:
@@ -831,7 +959,8 @@ def words_of_check(words: Words) -> Words:
         kept += [option, name] if name is not None else []
     groupings = named_by(words, "--groupings") if words[0] == "list" else None
     kept += ["--table", groupings] if groupings is not None else []
-    return kept + (["--json"] if json_answers.asks_for_object(words) else [])
+    kept += [check.OBJECT] if json_answers.asks_for_object(words) else []
+    return kept + ([check.NAMES] if takes_names(words) else [])
 
 
 def asked_of_second(run: Given, made: Made) -> Optional[Tuple[Words, Files]]:
@@ -848,12 +977,12 @@ def asked_of_second(run: Given, made: Made) -> Optional[Tuple[Words, Files]]:
         return None
     kept = words_of_check(run.words)
     if command in ("check", "list") or command == "judge" and b"answer best\n" in made.text:
-        return kept, run.files
+        return kept, run.all_files()
     is_alone = [word for _, word in named_words(run.words)].count(certificate) == 1
     before = run.files.get(certificate)
     stored = made.files.get(certificate, before)
     if command in ("solve", "share") and is_alone and stored is not None and stored != before:
-        return kept, {**run.files, certificate: stored}
+        return kept, {**run.all_files(), certificate: stored}
     return None
 
 
@@ -897,9 +1026,10 @@ def has_agreed(run: Given, made: Made, found: Answer) -> bool:
     """Returns whether what a run made agrees with the answer of the second checker.
 
     The objects of a check are to be the same. Of other commands the texts of objects are compared.
+    Texts with names are compared with their names.
     """
-    command = run.words[0]
-    if command == "check" or made.line is None or found[1] is None:
+    command, is_object = run.words[0], json_answers.asks_for_object(run.words)
+    if command == "check" or made.line is None or not is_object or found[1] is None:
         return agrees(command, made.printed(), made.status, found)
     text = json_answers.text_of(found[0]).encode()
     return agrees(command, made.text, made.status, (text, found[1]))
@@ -988,6 +1118,9 @@ def tests() -> Tests:
     yield from tests_of_stored_files()
     yield from tests_of_endings()
     yield from tests_of_objects()
+    yield from tests_of_names()
+    yield from tests_of_tolerances()
+    yield from tests_of_input()
     yield from tests_of_second()
     yield from tests_of_pipes()
     yield from tests_of_places()
@@ -1182,8 +1315,126 @@ def tests_of_asked_objects(run: Given, line: bytes) -> Tests:
     yield "other names of a check", has_agreed(checked, said, renamed), False
     asked = [Given("size --geo g".split(), {}) for _ in range(100)]
     for turn, one in enumerate(asked):
-        add_json(one, random.Random(turn))
+        add_flag(one, "--json", json_answers.COMMANDS, random.Random(turn))
     yield "some runs ask", {it.words.count("--json") for it in asked}, {0, 1}
+
+
+# A people file, and a text with its names.
+NAMED_PEOPLE = '37001,1,"Ash, 37003 B"\n37003,2,B\tC\x7f\n37005,3,\n37007,4,Do\u00f1a\n'.encode()
+WITH_NAMES = (
+    "people 10\nchamber 1\nseats left 1\ncounties 4\nanswer best\ncounts 1 0 1\n"
+    "group 1 seats 1 people 4 counties 37007 Do\u00f1a\n"
+    "group 2 seats 1 people 6 counties 37001 Ash, 37003 B, 37003 B C , 37005\n"
+).encode()
+
+
+def tests_of_names() -> Tests:
+    """Yields tests of texts with names."""
+    run = Given("solve --people p --names --certificate c".split(), {"p": NAMED_PEOPLE})
+    limits = argparse.Namespace(limit=20, memory=1024)
+
+    def of(text: bytes, status: int = 0, told: bytes = b"") -> Tuple[bytes, Optional[str]]:
+        """Returns the text without names of a run, and how what is wrong with it begins."""
+        made = with_text(run, Made(text, status, told, {}))
+        why = wrong_ending(run, made, limits)
+        return made.text, why and why[:6]
+
+    head, _, _ = WITH_NAMES.partition(b"group 1")
+    text = head + b"group 1 seats 1 people 4 counties 37007\n"
+    text += b"group 2 seats 1 people 6 counties 37001 37003 37005\n"
+    yield "a text with names", of(WITH_NAMES), (text, None)
+    failed = b"countygroups: x\n" + ANSWER_IS + WITH_NAMES
+    yield "names behind a failed store", of(b"device c Device\n", 5, failed)[1], None
+    wrong_ones = {
+        "without them": text,
+        "no name of the last county": WITH_NAMES.replace(b" Do\xc3\xb1a", b""),
+        "another name": WITH_NAMES.replace(b"B C ", b"Ashe"),
+        "a control character": WITH_NAMES.replace(b"B C", b"B\tC"),
+        "a name of a nameless county": WITH_NAMES.replace(b"37005\n", b"37005 A\n"),
+        "a blank behind a nameless county": WITH_NAMES.replace(b"37005\n", b"37005 \n"),
+        "no comma": WITH_NAMES.replace(b"C , 37005", b"C  37005"),
+        "a comma behind the last county": WITH_NAMES.replace(b"37005\n", b"37005, \n"),
+    }
+    for name, wrong in wrong_ones.items():
+        yield f"names with {name}", of(wrong)[1], "names:"
+    for other in (b"budget\n", b"refused people BadName line 1\n", b"memory\n", b""):
+        made = with_text(run, Made(other, 3, b"", {}))
+        yield f"what has no names, {other!r}", (made.text, made.fault), (other, None)
+    made = with_text(run, Made(WITH_NAMES, 0, b"", {}))
+    yield "the second checker has the names", has_agreed(run, made, (WITH_NAMES, 0)), True
+    yield "other names of the second checker", has_agreed(run, made, (text, 0)), False
+    words = words_of_check(run.words)
+    yield "the words of a check", words, "check --people p --certificate c --names".split()
+    both = Given([*run.words, "--json"], run.files)
+    yield "no names beside an object", asks_for_names(both.words), False
+    yield "no names of a size table", asks_for_names(["size", "--names"]), False
+
+
+def tests_of_tolerances() -> Tests:
+    """Yields tests of tolerances as texts, and of runs in other words."""
+    for part, whole in ((1, 20), (2, 40), (0, 1), (9, 200), (1, 3), (500, 1), (1, 1000)):
+        texts = texts_of_tolerance(part, whole)
+        common = check.tolerance(f"{part}/{whole}")
+        yield f"texts of {part}/{whole}", {check.tolerance(it) for it in texts}, {common}
+    found = {"1/20", "0.05", "5%", "5.0%", "0.050"} - {*texts_of_tolerance(1, 20)}
+    yield "the forms of a twentieth", found, set()
+    made = [Given("size --geo g --part 1 --of 10".split(), {}) for _ in range(300)]
+    for turn, run in enumerate(made):
+        add_tolerance(run, random.Random(turn))
+    said = {named_by(it.words, "--tolerance") for it in made}
+    yield "some runs say theirs", {None, "10%", "0.1", "1/10"} - said, set()
+    yield "some beside a part", any({"--part", "--tolerance"} <= {*it.words} for it in made), True
+    yield from tests_of_other_words()
+
+
+def tests_of_other_words() -> Tests:
+    """Yields tests of runs in other words."""
+
+    def of(words: str) -> Optional[str]:
+        """Returns the other words of a run."""
+        other = in_other_words(Given(words.split(), {}))
+        return None if other is None else " ".join(other.words)
+
+    wanted = "size --geo g --part 1 --of 20"
+    yield "a tolerance", of("size --tolerance 5% --geo g"), wanted
+    yield "it in one word", of("size --tolerance=0.05 --geo g"), wanted
+    yield "names", of("list --geo g --names --which w"), "list --geo g --which w"
+    both = "solve --names --tolerance 4.5% --json"
+    yield "an object keeps the flag", of(both), "solve --names --json --part 9 --of 200"
+    for words in ("size --geo g --part 1", "size --names", "list --tolerance 5%%"):
+        yield f"no other words, {words}", of(words), None
+    run = Given("list --tolerance 10% --record r --out o".split(), {})
+    one, other = Made(b"a\n", 0, b"", {"r": b"x"}), Made(b"a\n", 0, b"", {"r": b"y"})
+    yield "the same in other words", wrong_words(run, one, other), None
+    wanted = "words: o is `z`; in other words not there"
+    one.files["o"] = b"z"
+    yield "another file in other words", wrong_words(run, one, other), wanted
+    other = Made(b"b\n", 0, b"", {})
+    wanted = "words: status 0, `a\\n`; in other words status 0, `b\\n`"
+    yield "another answer in other words", wrong_words(run, one, other), wanted
+    refused = Made(b"error: x\n", 2, b"", {})
+    yield "words that are none", wrong_words(run, refused, other), None
+
+
+def tests_of_input() -> Tests:
+    """Yields tests of runs that read a file from standard input."""
+    words, files = "check --geo g --segment s --table g --links l".split(), {"g": b"x", "s": b"y"}
+    made = [Given([*words], {**files}, b"", turn % 2 == 0) for turn in range(100)]
+    for turn, run in enumerate(made):
+        add_input(run, random.Random(turn))
+    others = [it for it in made if INPUT in it.words]
+    yield "some runs read it", 0 < len(others) < 50, True
+    wanted = "check --geo g --segment - --table g --links l"
+    yield "a file that is read once", {" ".join(it.words) for it in others}, {wanted}
+    told = [it for it in others if it.is_told]
+    yield "it is a file of a case", {it.files.get(INPUT) for it in told}, {b"y"}
+    in_folder = [it for it in others if not it.is_told]
+    found = {(it.stdin, *it.files, it.all_files()[INPUT]) for it in in_folder}
+    yield "it is standard input in a folder", found, {(b"y", "g", b"y")}
+    audit = [Given(["audit", *words[1:]], {**files}, b"", False) for _ in range(50)]
+    for turn, run in enumerate(audit):
+        add_input(run, random.Random(turn))
+    yield "none of an audit", any(INPUT in it.words for it in audit), False
 
 
 def tests_of_second() -> Tests:
@@ -1712,6 +1963,13 @@ def has_option(program: str, command: str, option: str) -> bool:
     return re.search(rb" --%s\s" % option.encode(), ran.stdout) is not None
 
 
+def reads_input(program: str) -> bool:
+    """Returns whether a program reads standard input as the file `-`."""
+    asked = [program, "size", "--people", INPUT, "--chamber", "1"]
+    held = b"37001,1\n"
+    return subprocess.run(asked, input=held, capture_output=True, check=False).returncode == 0
+
+
 def chance_of(asked: argparse.Namespace, turn: int, what: str = "") -> random.Random:
     """Returns what picks at random in a turn: the change, the outputs or the pipes."""
     return random.Random(f"{asked.seed} {turn}{what}")
@@ -1764,6 +2022,10 @@ class Tally:
             why = wrong_pipes(run, runs[0], made_by(programs[0], run, room, asked, pipes))
             if why is not None:
                 faults, wanted = [why], (runs[0].printed(), runs[0].status)
+        other = None if faults else in_other_words(run)
+        if other is not None:
+            why = wrong_words(run, runs[0], made_by(programs[0], other, room, asked))
+            faults = [why] if why is not None else []
         for made in runs:
             self.statuses[made.status] += 1
         self.finds += bool(faults)
@@ -1797,6 +2059,7 @@ def fuzz(asked: argparse.Namespace, room: str) -> int:
     for option, command in MORE.items():
         if all(has_option(program, command, option) for program in programs):
             options.append(option)
+    options += [INPUT] if all(map(reads_input, programs)) else []
     # (a machine that is busy gives a run little of its time)
     program_runs.SECONDS = 100 * asked.limit
     began, turn = time.time(), asked.turn or 0

@@ -4,10 +4,12 @@ It is for whoever doesn't trust the proof tool and reads this file in its place.
 
 usage: check.py (--geo FILE --segment FILE | --people FILE) [--state CODE] --chamber SEATS
                 --adjacency FILE --certificate FILE [--links FILE] [--withdrawn FILE]
-                [--part PART] [--of WHOLE] [--json]
+                [--tolerance TOLERANCE | [--part PART] [--of WHOLE]] [--names] [--json]
 
 It reads the files of `countygroups check` and prints the same text with the same exit status, or
 with --json the same object. It has no budget and stores no file, so it takes no words for these.
+TOLERANCE is a fraction, a decimal or a percentage, as 1/20, 0.05 or 5%. With --names the names of
+the counties stand behind their codes. The FILE `-` is standard input, which is read once.
 
 What it shares with the program: nothing. What is a proof it has from
 `docs/reference/definitions.md`, whose words it uses, and the texts from
@@ -24,6 +26,7 @@ the problem is refused, 5 a file can't be read.
 """
 from __future__ import annotations
 
+import fractions
 import functools
 import itertools
 import json
@@ -32,6 +35,7 @@ import re
 import sys
 from typing import (
     Any,
+    BinaryIO,
     Callable,
     Dict,
     FrozenSet,
@@ -804,8 +808,34 @@ def judge(problem: Problem, certificate: Certificate) -> None:
 # ---- the command ----
 
 
-def report(problem: Problem, grouping: Optional[List[SeatsAndCodes]]) -> str:
-    """Returns the text of a best grouping, or that there is none."""
+def codes_alone(codes: List[str]) -> str:
+    """Returns the codes of counties as a group's line has them."""
+    return " ".join(codes)
+
+
+def with_names(names: Dict[str, str]) -> Callable[[List[str]], str]:
+    """Returns a writer of the codes of counties, with the name of each behind its code.
+
+    A name that is empty is left out. A control character of ASCII in a name becomes a blank.
+    """
+
+    def write(codes: List[str]) -> str:
+        """Returns the codes and the names of a group's line."""
+        shown = (re.sub("[\0-\x1f\x7f]", " ", names[it]) for it in codes)
+        return ", ".join(f"{it} {name}" if name else it for it, name in zip(codes, shown))
+
+    return write
+
+
+def report(
+    problem: Problem,
+    grouping: Optional[List[SeatsAndCodes]],
+    write: Callable[[List[str]], str] = codes_alone,
+) -> str:
+    """Returns the text of a best grouping, or that there is none.
+
+    `write` returns the counties of a group by their codes.
+    """
     part, whole = problem.window
     text = f"people {problem.total}\nchamber {problem.chamber}\n"
     text += f"window {part} {whole}\n" * (part * 20 != whole)
@@ -817,7 +847,7 @@ def report(problem: Problem, grouping: Optional[List[SeatsAndCodes]]) -> str:
     text += f"answer best\ncounts {' '.join(counts) or 'none'}\n"
     for place, (seats, codes) in enumerate(grouping, 1):
         people = sum(problem.people[it] for it in codes)
-        text += f"group {place} seats {seats} people {people} counties {' '.join(codes)}\n"
+        text += f"group {place} seats {seats} people {people} counties {write(codes)}\n"
     return text
 
 
@@ -852,55 +882,106 @@ def object_line(members: Dict[str, object]) -> str:
     return json.dumps(members, separators=(",", ":"), ensure_ascii=False) + "\n"
 
 
-def load(name: str) -> bytes:
-    """Reads the bytes of a file of the machine. Ends the run if it can't, or it is too large."""
-    try:
-        with open(name, "rb") as file:
-            text = file.read(FILE_BYTES + 1)
-    except OSError as error:
-        kind = "Missing" if isinstance(error, FileNotFoundError) else "Device"
-        raise End(f"device {name} {kind}", 5) from None
-    if len(text) > FILE_BYTES:
-        raise End(f"device {name} TooLarge", 5)
-    return text
+class Machine:
+    """The files of the machine. The name `-` is standard input, which can be read once."""
+
+    def __init__(self) -> None:
+        self.is_input_read = False
+
+    def open(self, name: str) -> BinaryIO:
+        """Opens a file. Raises an `OSError` if it can't, or if standard input was read before."""
+        if name != INPUT:
+            return open(name, "rb")
+        if self.is_input_read:
+            raise OSError("standard input was read before")
+        self.is_input_read = True
+        return open(0, "rb", closefd=False)
+
+    def load(self, name: str) -> bytes:
+        """Reads the bytes of a file. Ends the run if it can't, or if the file is too large."""
+        try:
+            with self.open(name) as file:
+                text = file.read(FILE_BYTES + 1)
+        except OSError as error:
+            kind = "Missing" if isinstance(error, FileNotFoundError) else "Device"
+            raise End(f"device {name} {kind}", 5) from None
+        if len(text) > FILE_BYTES:
+            raise End(f"device {name} TooLarge", 5)
+        return text
 
 
 NEEDED = ("adjacency", "certificate")
 CENSUS_FILES = ("geo", "segment")
 FILES = (*NEEDED, *CENSUS_FILES, "people", "links", "withdrawn")
-RANGES = {"chamber": (1, 1000), "state": (0, 99), "part": (0, 500), "of": (1, 1000)}
-OBJECT = "--json"
+PARTS, WHOLES = (0, 500), (1, 1000)
+RANGES = {"chamber": (1, 1000), "state": (0, 99), "part": PARTS, "of": WHOLES}
+TOLERANCE = "tolerance"
+# The options without a value.
+OBJECT, NAMES = "--json", "--names"
+FLAGS = (OBJECT, NAMES)
+# The name of standard input.
+INPUT = "-"
 
 
-def options_of(words: List[str]) -> Tuple[Dict[str, str], Dict[str, int]]:
-    """Returns the names of the files and the numbers of the command, by their options.
+def tolerance(text: str) -> Tuple[int, int]:
+    """Returns the part and the whole of the tolerance that a text writes, in lowest terms.
 
-    Each option has one value and stands once. `--json` may stand among them once, without a value.
+    Raises a fault if the text writes none.
+    """
+    digits = "([0-9]{1,9})"
+    found = re.fullmatch(rf"{digits}(?:/{digits}|(?:\.{digits})?(%?))", text)
+    if found is None:
+        raise Fault("")
+    before, below, behind, percent = found.groups("")
+    whole = int(below) if below else 10 ** len(behind) * (100 if percent else 1)
+    need(whole > 0, "")
+    value = fractions.Fraction(int(before + behind), whole)
+    need(value.numerator <= PARTS[1] and value.denominator <= WHOLES[1], "")
+    return value.numerator, value.denominator
+
+
+def values_of(words: List[str]) -> Dict[str, str]:
+    """Returns the values of the command's words by their options.
+
+    Each option has one value and stands once. Each flag may stand among them once, without a value.
     Raises a fault if these are no words of the command.
     """
-    files: Dict[str, str] = {}
-    numbers: Dict[str, int] = {}
-    need(words.count(OBJECT) <= 1, "")
+    values: Dict[str, str] = {}
+    need(all(words.count(flag) <= 1 for flag in FLAGS), "")
     left = iter(words)
     for word in left:
-        if word == OBJECT:
+        if word in FLAGS:
             continue
         name, equals, behind = word[2:].partition("=")
         value: Optional[str] = behind
         if not equals:
             value = next(left, None)
-        need(word.startswith("--") and name not in files and name not in numbers, "")
-        if value is None or value == OBJECT or name not in (*FILES, *RANGES):
+        need(word.startswith("--") and name not in values, "")
+        if value is None or value in FLAGS or name not in (*FILES, *RANGES, TOLERANCE):
             raise Fault("")
-        if name in RANGES:
-            numbers[name] = number(re.sub(r"^\+", "", value).encode(), *RANGES[name])
-        else:
-            files[name] = value
-    given = {*files, *numbers}
-    needed = (*NEEDED, "chamber", *(() if "people" in given else CENSUS_FILES))
-    need(given.issuperset(needed), "")
-    need("people" not in given or given.isdisjoint(CENSUS_FILES), "")
-    return files, {"state": 37, "part": 1, "of": 20, **numbers}
+        values[name] = value
+    return values
+
+
+def options_of(words: List[str]) -> Tuple[Dict[str, str], Dict[str, int]]:
+    """Returns the names of the files and the numbers of the command, by their options.
+
+    The tolerance is the numbers `part` and `of`. Raises a fault if these are no words of the
+    command.
+    """
+    values = values_of(words)
+    needed = (*NEEDED, "chamber", *(() if "people" in values else CENSUS_FILES))
+    need(values.keys() >= {*needed}, "")
+    need("people" not in values or values.keys().isdisjoint(CENSUS_FILES), "")
+    files = {name: value for name, value in values.items() if name in FILES}
+    numbers = {"state": 37, "part": 1, "of": 20}
+    for name in RANGES:
+        if name in values:
+            numbers[name] = number(re.sub(r"^\+", "", values[name]).encode(), *RANGES[name])
+    if TOLERANCE in values:
+        need(values.keys().isdisjoint(("part", "of")), "")
+        numbers["part"], numbers["of"] = tolerance(values[TOLERANCE])
+    return files, numbers
 
 
 def adjacent_pairs(pairs: Set[Pair], links: Dict[Pair, bool], listed: Dict[str, int]) -> Set[Pair]:
@@ -951,15 +1032,16 @@ def answer(
 
     The files are loaded and read in one order, and the first fault is the answer. With `has_names`
     the names in the geographic header are read too, as the program does for a table. They are read
-    for an object.
+    for an object, and for a text that shows them.
     """
     try:
         files, numbers = options_of(words)
     except Fault:
         return "", 2
-    has_object = OBJECT in words
+    has_object, shows_names = OBJECT in words, NAMES in words
+    has_names = has_names or has_object or shows_names
     try:
-        problem, names = read_problem(files, numbers, load, has_names or has_object)
+        problem, names = read_problem(files, numbers, load, has_names)
         certificate = read_certificate(load(files["certificate"]))
         judge(problem, certificate)
     except Fault as fault:
@@ -970,7 +1052,8 @@ def answer(
         target, status = certificate.target, 0 if certificate.target is not None else 1
         if has_object:
             return object_line(report_object(problem, target, names)), status
-        return report(problem, target), status
+        write = with_names(names) if shows_names else codes_alone
+        return report(problem, target, write), status
     return object_line({"message": line}) if has_object else f"{line}\n", status
 
 
@@ -979,7 +1062,7 @@ def main() -> int:
     if not {"--help", "-h"}.isdisjoint(sys.argv[1:]):
         print(__doc__, end="")
         return 0
-    text, status = answer(sys.argv[1:], load)
+    text, status = answer(sys.argv[1:], Machine().load)
     sys.stdout.buffer.write(os.fsencode(text))
     if status == 2:
         sys.stderr.write(__doc__.split("\n\n")[1] + "\n")

@@ -17,9 +17,9 @@ all counties, and in a size table those of each.
 --all takes the cases of millions of lines too, which take minutes, but for those that bound the
 memory: the second checker holds a whole text.
 --program FILE makes certificates of North Carolina's two chambers (data/nc2020; --chamber: of
-these) too. Both checkers check them, once more with --json, and each of them with one line changed
-at random, N times (--mutations, 20 unless said otherwise; --seed, 1). Then they check those by the
-counts of 2010 and of 2000.
+these) too. Both checkers check them, once more with --json and once with --names, and each of them
+with one line changed at random, N times (--mutations, 20 unless said otherwise; --seed, 1). Then
+they check those by the counts of 2010 and of 2000.
 --states beside it makes certificates of the chambers of ten states (data/states) too, if the
 program answers best within its default steps. Both checkers check them as they are, and a line has
 the seconds of processor time of each. The second checker takes minutes for the longest.
@@ -90,7 +90,7 @@ def words_of_second(words: Words) -> Tuple[Words, bool]:
     kept, dropped, left = words[:1], {""}, iter(words[1:])
     for word in left:
         option, equals, value = word.partition("=")
-        has_value = not equals and word != check.OBJECT
+        has_value = not equals and word not in check.FLAGS
         pair = [word, *itertools.islice(left, 1)] if has_value else [word]
         value = value if equals else "".join(pair[1:])
         is_whole = bool(equals) or len(pair) == 2
@@ -156,6 +156,7 @@ def runs_of(case: cases.Case) -> Iterator[Tuple[Words, Files, bytes]]:
     """Yields the runs of a case that need no program and ask for no help.
 
     Of each: its words, its files, and the wanted text with its exit line, without what it stores.
+    Of a run over files of a folder, standard input is the file `-`.
     """
     for given, wanted in case.cut():
         wanted_lines = wanted.splitlines(keepends=True)
@@ -163,6 +164,8 @@ def runs_of(case: cases.Case) -> Iterator[Tuple[Words, Files, bytes]]:
         if runs == [[]]:
             words, files = case_parts(given)
             runs = [words]
+        else:
+            files[check.INPUT] = given
         has_stored = False
         for words in runs:
             lasts = (i for i, it in enumerate(wanted_lines) if it.startswith(b"exit "))
@@ -358,8 +361,9 @@ def compare_chamber(program: str, chamber: int, asked: argparse.Namespace, tally
         began = time.time()
         tally.add(f"chamber {chamber}", both_checkers(program, ["check", *common], room)[0])
         took = time.time() - began
-        as_object = ["check", *common, "--json"]
-        tally.add(f"chamber {chamber} as an object", both_checkers(program, as_object, room)[0])
+        for how, flag in (("as an object", check.OBJECT), ("with names", check.NAMES)):
+            words = ["check", *common, flag]
+            tally.add(f"chamber {chamber} {how}", both_checkers(program, words, room)[0])
         print(f"chamber {chamber}: both checkers took {took:.0f} seconds", flush=True)
         with open(f"{room}/certificate", "rb") as file:
             whole = file.read()

@@ -12,6 +12,7 @@ import os
 import re
 import subprocess
 import sys
+import tempfile
 import unittest
 from typing import Dict, List, Optional, Tuple
 from unittest import mock
@@ -243,6 +244,181 @@ class Objects(OfTheCase):
         self.assertEqual(self.answer([*self.words, "--links", "--json"], self.files), ("", 2))
 
 
+class Names(OfTheCase):
+    """The text of `--names`, written by hand from its rules."""
+
+    HEAD = "people 200\nchamber 2\nseats left 2\ncounties 3\nanswer best\ncounts 0 0 1\n"
+    GROUP = "group 1 seats 2 people 200 counties "
+
+    def test_names_behind_codes(self) -> None:
+        """A comma follows each county but the last, also behind one without a name."""
+        for names, wanted in (
+            (("A County", "B", "C"), "37001 A County, 37003 B, 37005 C"),
+            (("", "B", ""), "37001, 37003 B, 37005"),
+            (("", "", ""), "37001, 37003, 37005"),
+            (
+                ("a\tb", "\x1b[1m\x7f\x01", "Do\u00f1a\u0085"),
+                "37001 a b, 37003  [1m  , 37005 Do\u00f1a\u0085",
+            ),
+            (("group 1", "37003", " "), "37001 group 1, 37003 37003, 37005  "),
+        ):
+            lines = zip((37001, 37003, 37005), (50, 100, 50), names)
+            people = "".join(f"{it}|{count}|{name}\n" for it, count, name in lines).encode()
+            text = f"{self.HEAD}{self.GROUP}{wanted}\n"
+            self.assertEqual(self.run_with(people, "--names"), (text, 0), names)
+
+    def test_names_of_the_census_files(self) -> None:
+        """A name that isn't UTF-8 is a fault, as for an object."""
+        line = self.files["geo"].splitlines()[0]
+        for name, wanted in (
+            (b"Ash\xc3\xa9", f"{self.HEAD}{self.GROUP}37001 Ash\u00e9, 37003, 37005\n"),
+            (b"\xff", "refused geo BadName line 1\n"),
+        ):
+            geo = self.files["geo"].replace(line, line + b"|" * (87 - line.count(b"|")) + name)
+            found = self.answer([*self.words, "--names"], {**self.files, "geo": geo})
+            self.assertEqual(found[0], wanted)
+
+    def test_beside_json(self) -> None:
+        """The object is the same."""
+        wanted = self.run_with(PEOPLE, "--json")
+        for words in (["--json", "--names"], ["--names", "--json"]):
+            self.assertEqual(self.run_with(PEOPLE, *words), wanted)
+
+    def test_texts_without_groups(self) -> None:
+        """Any other text is the same."""
+        name = self.words[self.words.index("--certificate") + 1]
+        held = self.files[name]
+        self.files[name] = b""
+        self.assertEqual(self.run_with(PEOPLE, "--names"), ("no Text CutShort line 1\n", 1))
+        self.files[name] = held
+        found = self.run_with(PEOPLE + b"37007", "--names")
+        self.assertEqual(found, ("refused people BadLine line 4\n", 4))
+
+    def test_words_that_are_none(self) -> None:
+        for words in (["--names", "--names"], ["--names=1"], ["--links", "--names"]):
+            self.assertEqual(self.run_with(PEOPLE, *words), ("", 2), words)
+
+
+class Tolerances(OfTheCase):
+    """The texts of `--tolerance`, by their rules."""
+
+    def test_texts_that_write_a_tolerance(self) -> None:
+        for text, wanted in (
+            ("5%", (1, 20)),
+            ("0.05", (1, 20)),
+            ("1/20", (1, 20)),
+            ("2/40", (1, 20)),
+            ("005/00100", (1, 20)),
+            ("5.000%", (1, 20)),
+            ("0.045", (9, 200)),
+            ("4.5%", (9, 200)),
+            ("0", (0, 1)),
+            ("0/7", (0, 1)),
+            ("0.0%", (0, 1)),
+            ("000000000.000000000%", (0, 1)),
+            ("1/2", (1, 2)),
+            ("101%", (101, 100)),
+            ("500", (500, 1)),
+            ("50000%", (500, 1)),
+            ("1/1000", (1, 1000)),
+            ("0.001", (1, 1000)),
+            ("0.1%", (1, 1000)),
+            ("499/1000", (499, 1000)),
+            ("999999999/999999999", (1, 1)),
+            ("000000001/000000020", (1, 20)),
+            ("0.050000000", (1, 20)),
+        ):
+            self.assertEqual(check.tolerance(text), wanted, text)
+
+    def test_texts_that_write_none(self) -> None:
+        texts = ["", ".05", "5.", "5 %", " 5%", "5% ", "5%\n", "-1/20", "+5%", "5%%", "%", "1/3%"]
+        texts += ["1%/3", "1/0", "0/0", "1/", "/20", "1/2/3", "1//2", "0.5/1", "1/0.5", "1.2.3"]
+        texts += ["501", "501/1", "50100%", "501/1000", "1/1001", "0.0005", "0.05%", "1/999999999"]
+        texts += ["0000000001/20", "1/0000000020", "0000000000", "0.0000000000", "1e-2", "1,5%"]
+        texts += ["\u0665%", "\u00b2", "five", "1/20x", "0x1"]
+        for text in texts:
+            with self.assertRaises(check.Fault, msg=text):
+                check.tolerance(text)
+            self.assertEqual(self.run_with(PEOPLE, "--tolerance", text), ("", 2), text)
+
+    def test_the_same_as_part_and_of(self) -> None:
+        """A twentieth has no line, another tolerance one, and above a half it is refused."""
+        wanted = self.run_with(PEOPLE)
+        for text in ("5%", "0.05", "1/20", "2/40"):
+            self.assertEqual(self.run_with(PEOPLE, "--tolerance", text), wanted)
+            self.assertEqual(self.run_with(PEOPLE, f"--tolerance={text}"), wanted)
+        tenth = self.run_with(PEOPLE, "--part", "1", "--of", "10")
+        self.assertEqual(tenth, ("no WrongWindow line 1\n", 1))
+        self.assertEqual(self.run_with(PEOPLE, "--tolerance", "10%"), tenth)
+        for text in ("51%", "3/5", "500"):
+            found = self.run_with(PEOPLE, "--tolerance", text)
+            self.assertEqual(found, ("refused problem BadWindow\n", 4))
+        self.assertEqual(self.run_with(PEOPLE, "--tolerance", "1/2")[1], 1)
+
+    def test_lowest_terms_in_a_report_and_an_object(self) -> None:
+        """A certificate of two fortieths is one of a twentieth."""
+        name = self.words[self.words.index("--certificate") + 1]
+        held = self.files[name].replace(b"certificate 1\n", b"certificate 2\nwindow 1 10\n")
+        self.files[name] = held
+        found = self.run_with(PEOPLE, "--tolerance", "0.10")
+        self.assertEqual(found[0].splitlines()[:3], ["people 200", "chamber 2", "window 1 10"])
+        found = self.run_with(PEOPLE, "--tolerance", "2/20", "--json")
+        self.assertEqual(json.loads(found[0])["tolerance"], [1, 10])
+
+    def test_words_that_are_none(self) -> None:
+        for words in (
+            ["--tolerance", "5%", "--part", "1"],
+            ["--of", "20", "--tolerance", "5%"],
+            ["--tolerance", "5%", "--tolerance", "5%"],
+            ["--tolerance"],
+        ):
+            self.assertEqual(self.run_with(PEOPLE, *words), ("", 2), words)
+
+
+class StandardInput(OfTheCase):
+    """The file of the name `-`, which is standard input."""
+
+    def run_given(self, given: bytes, *names: str) -> Tuple[str, int]:
+        """Returns what the script prints in a folder with the case's files, and its status.
+
+        Standard input has the bytes `given`, and `-` stands in place of the files of these names.
+        """
+        words = ["-" if it in names else it for it in self.words]
+        with tempfile.TemporaryDirectory(prefix="check-") as folder:
+            for name, held in {**self.files, "-": b"no table"}.items():
+                with open(os.path.join(folder, name), "wb") as file:
+                    file.write(held)
+            command = [sys.executable, os.path.realpath(check.__file__), *words]
+            ran = subprocess.run(
+                command, cwd=folder, input=given, stdout=subprocess.PIPE, check=False
+            )
+        return ran.stdout.decode(), ran.returncode
+
+    def test_each_file(self) -> None:
+        wanted = self.answer(self.words, self.files)
+        self.assertEqual(wanted[1], 0)
+        for name, held in self.files.items():
+            self.assertEqual(self.run_given(held, name), wanted, name)
+
+    def test_a_people_file(self) -> None:
+        self.words = self.by_people
+        self.assertEqual(self.run_given(PEOPLE, "people"), self.run_with(PEOPLE))
+
+    def test_it_is_read_once(self) -> None:
+        for names in (("geo", "seg"), ("seg", "adj")):
+            found = self.run_given(self.files["seg"], *names)
+            self.assertEqual(found, ("device - Device\n", 5), names)
+
+    def test_it_is_no_file_of_the_folder(self) -> None:
+        """What is read is refused as a file is."""
+        self.assertEqual(self.run_given(b"", "geo"), ("refused geo NoCounties line 0\n", 4))
+
+    def test_a_file_of_a_case(self) -> None:
+        words = ["-" if it == "geo" else it for it in self.words]
+        files = {**self.files, "-": self.files["geo"]}
+        self.assertEqual(self.answer(words, files), self.answer(self.words, self.files))
+
+
 class Words(Files):
     """The words of the command, and its help."""
 
@@ -257,7 +433,8 @@ class Words(Files):
             self.assertEqual((ran.returncode, ran.stdout, ran.stderr), (0, check.__doc__, ""))
 
     def test_the_help_names_the_options_that_are_taken(self) -> None:
-        taken = {check.OBJECT, *(f"--{name}" for name in (*check.FILES, *check.RANGES))}
+        names = (*check.FILES, *check.RANGES, check.TOLERANCE)
+        taken = {*check.FLAGS, *(f"--{name}" for name in names)}
         self.assertEqual({*OPTION.findall(check.__doc__ or "")}, taken)
 
     def test_wrong_words(self) -> None:
@@ -287,6 +464,12 @@ class Comparing(unittest.TestCase):
             (["check", "--budget", str(2**64)], ["check", "--budget", str(2**64)], False),
             (["check", "--geo", "--budget", "5"], ["check", "--geo", "--budget", "5"], False),
             (["check", "--json", "--budget", "5"], ["check", "--json"], False),
+            (["check", "--names", "--budget", "5"], ["check", "--names"], False),
+            (
+                ["check", "--budget", "5", "--tolerance", "5%"],
+                ["check", "--tolerance", "5%"],
+                False,
+            ),
             (["check", "--table", "t", "--json"], ["check", "--json"], True),
         ):
             self.assertEqual(words_of_second(words), (wanted, has_names), words)
