@@ -2,7 +2,7 @@
 from __future__ import annotations
 
 import unicodedata
-from typing import Dict, List, Optional
+from typing import Dict, List, Optional, Tuple
 
 from census_counties import CensusCounty
 from refusal import Refused
@@ -10,6 +10,9 @@ from table_columns import joined_name
 from table_input import Table, is_digits, plain_code, shown
 
 CODE_DIGITS = 5
+# What a county is, behind its name.
+KINDS = frozenset("county parish borough municipality municipio city".split())
+HEADER_WORDS = "the geographic header"
 
 
 def is_county(text: str) -> bool:
@@ -23,6 +26,16 @@ def joined_county_name(name: str) -> str:
     return joined_name("".join(sign for sign in bare if not unicodedata.combining(sign)))
 
 
+def names_of(name: str) -> Tuple[str, ...]:
+    """Returns what a county of this name is called, such as `Wake` and `Wake County`, or nothing.
+
+    What stands behind a comma, such as the state, is left out.
+    """
+    whole = name.split(",")[0].strip()
+    stem, _, kind = whole.rpartition(" ")
+    return tuple(filter(None, (stem, whole))) if kind.lower() in KINDS else (whole,) * bool(whole)
+
+
 def codes_by_name(counties: Dict[str, CensusCounty]) -> Dict[str, List[str]]:
     """Returns the codes of the counties of each name, with and without what they are."""
     found: Dict[str, List[str]] = {}
@@ -33,17 +46,25 @@ def codes_by_name(counties: Dict[str, CensusCounty]) -> Dict[str, List[str]]:
 
 
 class CountyNames:
-    """What a county may be called: its code, its code in a state, or its name in a header."""
+    """What a county may be called: its code, its code in a state, or its name in a file.
 
-    def __init__(self, state: Optional[str], counties: Optional[Dict[str, CensusCounty]]) -> None:
-        self.counties = counties
+    `source` says what file that is, in words.
+    """
+
+    def __init__(
+        self,
+        state: Optional[str],
+        counties: Optional[Dict[str, CensusCounty]],
+        source: str = HEADER_WORDS,
+    ) -> None:
+        self.counties, self.source = counties, source
         self.by_name = codes_by_name(counties or {})
         self.state = state or (next(iter(counties))[:2] if counties else None)
 
     def code_of(self, table: Table, number: int, text: str) -> str:
         """Returns the code of a county: five digits, or four where a leading zero may be lost.
 
-        Raises `Refused` if the field is no county, or if --state or --geo is needed to tell it.
+        Raises `Refused` if the field is no county, or if --state, --geo or --people has to tell it.
         """
         code, place = plain_code(text), table.place(number)
         if is_digits(code, CODE_DIGITS - 1, CODE_DIGITS):
@@ -57,7 +78,8 @@ class CountyNames:
             raise Refused(f"{place} has no county.")
         if self.counties is None:
             told = f"{place} has {shown(code)}, which is no county's code"
-            raise Refused(f"{told}: if it is a name, give the geographic header by --geo.")
+            remedy = "give the geographic header by --geo, or a people file by --people"
+            raise Refused(f"{told}: if it is a name, {remedy}.")
         return self.code_of_name(place, code)
 
     def code_of_name(self, place: str, name: str) -> str:
@@ -68,11 +90,11 @@ class CountyNames:
         if codes:
             several = " and ".join(sorted(codes))
             raise Refused(f"{place} has {shown(name)}, which is a name of {several}.")
-        raise Refused(f"{place} has {shown(name)}, which the geographic header doesn't have.")
+        raise Refused(f"{place} has {shown(name)}, which {self.source} doesn't have.")
 
     def check_listed(self, table: Table, rows: Dict[str, int]) -> None:
-        """Raises `Refused` if a county of a table isn't in the geographic header."""
+        """Raises `Refused` if a county of a table isn't in the file of the names."""
         for code, number in rows.items():
             if self.counties is not None and code not in self.counties:
                 told = f"{table.place(number)} has county {code}"
-                raise Refused(f"{told}, which the geographic header doesn't have.")
+                raise Refused(f"{told}, which {self.source} doesn't have.")

@@ -2,8 +2,9 @@
 """Makes the grouping text of `countygroups judge` of a table of counties with their groups.
 
 usage: python3 tools/grouping.py FILE [--county COLUMN] [--group COLUMN] [--seats COLUMN]
-                                 [--state CODE] [--geo GEO] [--segment SEGMENT --chamber SEATS]
-                                 [--part PART] [--of OF] [--member NAME] [--out OUT]
+                                 [--state CODE] [--geo GEO | --people PEOPLE]
+                                 [--segment SEGMENT] [--chamber SEATS] [--part PART] [--of OF]
+                                 [--member NAME] [--out OUT]
 
 FILE has a line for each county with the label of its group. It is a text with commas, semicolons,
 tabs or pipes, in UTF-8, UTF-16 or Latin-1, or the DBF of a shapefile. It may be packed by gzip or
@@ -13,12 +14,13 @@ COUNTY, NAME and the like, groups by GROUP, CLUSTER and the like, seats by SEATS
 columns needs no header.
 
 A county is a GEOID of five digits. With --state CODE, the state's FIPS code, it may be the county's
-code of one to three digits. With --geo GEO, the geographic header, it may be a name, as `Wake` or
-`Wake County`. A county without a group is left out, as one of a withdrawn set has to be.
+code of one to three digits. With --geo GEO, the geographic header, or --people PEOPLE, a people
+file, it may be a name, as `Wake` or `Wake County`. A county without a group is left out, as one of
+a withdrawn set has to be.
 
-If FILE has no seats, they are chosen by the people of the groups. Then --segment SEGMENT is segment
-1, and --chamber SEATS the number of seats. --part PART and --of OF are the tolerance, 1/20 if
-neither is given. If no number suits the people of a group, the nearest is written, and standard
+If FILE has no seats, they are chosen by the people of the groups: those of --people PEOPLE, or of
+--geo GEO with --segment SEGMENT, segment 1. --chamber SEATS is then the number of seats. --part
+PART and --of OF are the tolerance, 1/20 if neither is given. If no number suits the people of a group, the nearest is written, and standard
 error says so. `judge` says what is wrong with the grouping.
 
 --member NAME chooses the table of a zip, if the zip has several.
@@ -39,11 +41,12 @@ import re
 import sys
 from dataclasses import dataclass, field
 from fractions import Fraction
-from typing import Dict, Iterable, List, Optional, Tuple
+from typing import Dict, Iterable, List, NamedTuple, Optional, Tuple
 
-from census_counties import read_counties, read_people
-from county_names import CODE_DIGITS, CountyNames, is_county
+from census_counties import CensusCounty, read_counties, read_people
+from county_names import CODE_DIGITS, HEADER_WORDS, CountyNames, is_county
 from county_table import HEADER
+from people_file import read_people_file
 from refusal import Refused
 from script_words import ScriptWords, number_from
 from seat_numbers import Chamber, choose_seats
@@ -265,7 +268,8 @@ def parser() -> argparse.ArgumentParser:
     made.add_argument("file", metavar="FILE")
     for name in ("county", "group", "seats"):
         made.add_argument(f"--{name}", metavar="COLUMN")
-    for name, word in (("geo", "GEO"), ("segment", "SEGMENT"), ("member", "NAME"), ("out", "OUT")):
+    made.add_counts()
+    for name, word in (("member", "NAME"), ("out", "OUT")):
         made.add_argument(f"--{name}", metavar=word)
     made.add_argument("--state", metavar="CODE", type=number_from(0, 99))
     made.add_argument("--chamber", metavar="SEATS", type=number_from(1, 1000))
@@ -274,25 +278,56 @@ def parser() -> argparse.ArgumentParser:
     return made
 
 
+class Counts(NamedTuple):
+    """The counties that the words give, their people if a people file has them, and the file."""
+
+    counties: Optional[Dict[str, CensusCounty]]
+    people: Optional[Dict[str, int]]
+    source: str
+
+
+def given_counts(asked: argparse.Namespace, state: Optional[str]) -> Counts:
+    """Returns the counties of --people with their people, or those of --geo, or none.
+
+    `state` has the two digits of the state.
+
+    Raises `Refused` if a file can't be used.
+    """
+    if asked.people is not None:
+        return Counts(*read_people_file(asked.people, state), "the people file")
+    counties = read_counties(asked.geo, state) if asked.geo is not None else None
+    return Counts(counties, None, HEADER_WORDS)
+
+
+def wanted_people(asked: argparse.Namespace, table: Table, counts: Counts) -> Dict[str, int]:
+    """Returns the people of each county. Raises `Refused` if the words don't tell the seats."""
+    if asked.chamber is not None:
+        if counts.people is not None:
+            return counts.people
+        if counts.counties is not None and asked.segment is not None:
+            return read_people(asked.segment, counts.counties)
+    told = "has no column of seats: choose one by --seats, or give --chamber"
+    raise Refused(f"{table.name} {told} with --geo and --segment or with --people.")
+
+
 def made_groups(asked: argparse.Namespace) -> Tuple[str, List[str]]:
     """Returns the grouping text that the words ask for, and what the user has to know.
 
     Raises `Refused` if a file can't be used, or if neither the table nor the words tell the seats.
     """
     state = None if asked.state is None else f"{asked.state:02}"
-    counties = read_counties(asked.geo, state) if asked.geo is not None else None
+    counts = given_counts(asked, state)
     table = read_table(asked.file, asked.member, is_county)
     key, value = key_and_value(table, COUNTIES, GROUPS, (asked.county, asked.group), is_county)
     seats = seats_place(table, asked.seats)
-    found = read_groups(table, (key, value, seats), CountyNames(state, counties))
+    found = read_groups(
+        table, (key, value, seats), CountyNames(state, counts.counties, counts.source)
+    )
     notes: List[str] = []
     if seats is not None:
         check_seats(table, found)
-    elif counties is None or asked.segment is None or asked.chamber is None:
-        told = "has no column of seats: choose one by --seats"
-        raise Refused(f"{table.name} {told}, or give --geo, --segment and --chamber.")
     else:
-        people = read_people(asked.segment, counties)
+        people = wanted_people(asked, table, counts)
         notes = chosen_seats(found, people, chamber_of(asked, people))
     ordered = [found.groups[label] for label in sorted(found.groups, key=label_order)]
     return grouping_text(ordered), notes_on(table, found) + notes
@@ -302,7 +337,7 @@ def chamber_of(asked: argparse.Namespace, people: Dict[str, int]) -> Chamber:
     """Returns the chamber that the words name. Raises `Refused` if the state has no people."""
     total = sum(people.values())
     if total == 0:
-        raise Refused(f"The counties of {asked.segment} have no people.")
+        raise Refused(f"The counties of {asked.people or asked.segment} have no people.")
     return Chamber(asked.chamber, total, Fraction(asked.part, asked.of))
 
 
@@ -317,6 +352,8 @@ def main(words: List[str]) -> int:
     """Makes the grouping text, and returns the status."""
     made = parser()
     asked = made.parse_args(words)
+    if asked.people is not None and (asked.geo is not None or asked.segment is not None):
+        made.error("give --geo and --segment, or --people")
     if 2 * asked.part > asked.of:
         made.error("the tolerance --part/--of may be a half at most")
     try:
