@@ -9,15 +9,20 @@ from refusal import Refused
 from table_columns import joined_name
 from table_input import Table, is_digits, plain_code, shown
 
-CODE_DIGITS = 5
+CODE_DIGITS, BLOCK_DIGITS = 5, 15
 # What a county is, behind its name.
 KINDS = frozenset("county parish borough municipality municipio city".split())
 HEADER_WORDS = "the geographic header"
 
 
 def is_county(text: str) -> bool:
-    """Returns whether a field is a county's whole code, so that its row is no header."""
-    return is_digits(plain_code(text), CODE_DIGITS)
+    """Returns whether a field is the whole code of a county or of a block, so no header."""
+    return is_digits(plain_code(text), CODE_DIGITS, BLOCK_DIGITS)
+
+
+def is_block(text: str) -> bool:
+    """Returns whether a field is the code of a block, of which a leading zero may be lost."""
+    return is_digits(plain_code(text), BLOCK_DIGITS - 1, BLOCK_DIGITS)
 
 
 def joined_county_name(name: str) -> str:
@@ -62,13 +67,19 @@ class CountyNames:
         self.state = state or (next(iter(counties))[:2] if counties else None)
 
     def code_of(self, table: Table, number: int, text: str) -> str:
-        """Returns the code of a county: five digits, or four where a leading zero may be lost.
+        """Returns the code of a county, also that of a block's.
 
+        It has five digits, or four where a leading zero may be lost.
         Raises `Refused` if the field is no county, or if --state, --geo or --people has to tell it.
         """
         code, place = plain_code(text), table.place(number)
         if is_digits(code, CODE_DIGITS - 1, CODE_DIGITS):
             return code
+        if is_block(code):
+            return code[: CODE_DIGITS - BLOCK_DIGITS]
+        if code.isdecimal() and len(code) > CODE_DIGITS:
+            told = f"{place} has {shown(code)}, which is no code of a county or a block"
+            raise Refused(f"{told}: export the groups by counties or by blocks.")
         if is_digits(code, 1, 2, 3):
             if self.state is None:
                 told = f"{place} has the county {shown(code)} without its state"

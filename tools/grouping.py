@@ -15,13 +15,15 @@ columns needs no header.
 
 A county is a GEOID of five digits. With --state CODE, the state's FIPS code, it may be the county's
 code of one to three digits. With --geo GEO, the geographic header, or --people PEOPLE, a people
-file, it may be a name, as `Wake` or `Wake County`. A county without a group is left out, as one of
-a withdrawn set has to be.
+file, it may be a name, as `Wake` or `Wake County`. The lines may also be those of blocks, if all of
+a county are in one group. A county without a group is left out, as one of a withdrawn set has to
+be.
 
 If FILE has no seats, they are chosen by the people of the groups: those of --people PEOPLE, or of
 --geo GEO with --segment SEGMENT, segment 1. --chamber SEATS is then the number of seats. --part
-PART and --of OF are the tolerance, 1/20 if neither is given. If no number suits the people of a group, the nearest is written, and standard
-error says so. `judge` says what is wrong with the grouping.
+PART and --of OF are the tolerance, 1/20 if neither is given. If no number suits the people of a
+group, the nearest is written, and standard error says so. `judge` says what is wrong with the
+grouping.
 
 --member NAME chooses the table of a zip, if the zip has several.
 --out OUT stores the text there. Without it the text is printed. The groups stand in the order of
@@ -44,7 +46,7 @@ from fractions import Fraction
 from typing import Dict, Iterable, List, NamedTuple, Optional, Tuple
 
 from census_counties import CensusCounty, read_counties, read_people
-from county_names import CODE_DIGITS, HEADER_WORDS, CountyNames, is_county
+from county_names import CODE_DIGITS, HEADER_WORDS, CountyNames, is_block, is_county
 from county_table import HEADER
 from people_file import read_people_file
 from refusal import Refused
@@ -124,10 +126,14 @@ class Group:
 
 @dataclass
 class CountyGroups:
-    """The groups by their labels, the row of each county, and the counties without a group."""
+    """The groups by their labels, the row of each county, and the counties without a group.
+
+    `of_blocks` has the label of each county that rows of blocks name.
+    """
 
     groups: Dict[str, Group] = field(default_factory=dict)
     rows: Dict[str, int] = field(default_factory=dict)
+    of_blocks: Dict[str, str] = field(default_factory=dict)
     left_out: List[str] = field(default_factory=list)
     leading_zeros: int = 0
 
@@ -179,11 +185,10 @@ def read_groups(
     for number, fields in table.rows:
         code = names.code_of(table, number, fields[county_place])
         codes.take(number, code)
-        if code in found.rows:
-            told = f"{table.place(number)} has county {code}"
-            raise Refused(f"{told}, which {table.unit} {found.rows[code]} has already.")
-        found.rows[code] = number
         label = group_label(table, fields[group_place])
+        if is_repeated(table, number, found, code, label, is_block(fields[county_place])):
+            continue
+        found.rows[code] = number
         if not label:
             found.left_out.append(code)
             continue
@@ -198,6 +203,28 @@ def read_groups(
         raise Refused(f"No {table.unit} of {table.name} has a group.")
     names.check_listed(table, found.rows)
     return found
+
+
+def is_repeated(
+    table: Table, number: int, found: CountyGroups, code: str, label: str, is_of_block: bool
+) -> bool:
+    """Returns whether a row is that of a further block of a county in the same group.
+
+    Raises `Refused` if the county has another group, or if it isn't named by blocks alone.
+    """
+    if code not in found.rows:
+        if is_of_block:
+            found.of_blocks[code] = label
+        return False
+    before = f"{table.unit} {found.rows[code]}"
+    if not is_of_block or code not in found.of_blocks:
+        told = f"{table.place(number)} has county {code}"
+        raise Refused(f"{told}, which {before} has already.")
+    if label != found.of_blocks[code]:
+        told = f"{table.place(number)} has a block of county {code} in group {shown(label)}"
+        other = f"and {before} has one in {shown(found.of_blocks[code])}"
+        raise Refused(f"{told}, {other}: a group has whole counties.")
+    return True
 
 
 def with_zeros(found: CountyGroups) -> None:

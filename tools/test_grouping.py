@@ -249,6 +249,28 @@ class Tables(Made):
         seats = "County,Cluster,Seats\nAlder,1,9\n"
         self.assertEqual(self.made(seats, *words[:2], "--state", "37").text, "9|37001\n")
 
+    def test_blocks(self) -> None:
+        """The rows of a county's blocks say its group, if they say the same."""
+        head = "GEOID20,Group,Seats\n"
+        text = head + "370010201001000,1,1\n370010201001001,1,1\n370030201001000,,\n"
+        told = ["table: counties 1, groups 1, seats 1."]
+        told.append("Counties without a group, or of a withdrawn set: 37003.")
+        self.assertEqual(self.made(text), Ran(0, "1|37001\n", told))
+        self.assertEqual(self.made("370010201001000,1\n370010201001001,1\n").status, 1)
+        zeros = head + "10010201001000,1,1\n10010201001001,1,1\n"
+        self.assertEqual(self.made(zeros).text, "1|01001\n")
+        for lines, sentence in {
+            "370010201001000,1,1\n370010201001001,2,1\n": "Line 3 of table has a block of county "
+            "37001 in group `2`, and line 2 has one in `1`: a group has whole counties.",
+            "370010201001000,1,1\n37001,1,1\n": "Line 3 of table has county 37001, which line 2 "
+            "has already.",
+            "37001,1,1\n370010201001000,1,1\n": "Line 3 of table has county 37001, which line 2 "
+            "has already.",
+            "37001000012,1,1\n": "Line 2 of table has `37001000012`, which is no code of a county "
+            "or a block: export the groups by counties or by blocks.",
+        }.items():
+            self.refused(head + lines, sentence)
+
     def test_seats_that_dont_suit(self) -> None:
         """The ideal is 100: one seat suits 95 to 105 people, and two suit 190 to 210."""
         files = {"--geo": path_geo(), "--segment": PATH_SEGMENT}
