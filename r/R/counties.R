@@ -83,7 +83,11 @@ people_of <- function(counties, people, labels) {
   } else {
     found <- column_of(counties, people, people_column)
     if (is.null(found)) {
-      stop_input("There is no column \"people\": say by `people =` where the people stand.")
+      told <- paste(names(counties), collapse = ", ")
+      stop_input(
+        "There is no column \"people\": say by `people =` where the people stand. The columns are ",
+        told, "."
+      )
     }
   }
   words <- trimws(as.character(found))

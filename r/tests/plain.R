@@ -312,7 +312,7 @@ test("inputs: dual graph in JSON", {
   forms <- c(near, paste0("\"links\": ", ends), paste0("\"edges\": ", ends))
   paths <- vapply(forms, function(form) stored(paste0(nodes, form)), "")
   with_json(paths, borders_in, for (path in paths) {
-    expect_equal(borders_in(path), cbind(1, 2))
+    expect_equal(suppressWarnings(borders_in(path)), cbind(1, 2))
     graph <- read_dual_graph(path)
     expect_equal(graph$nodes$TOTPOP, c(1129410, 171415, 7))
     expect_equal(row.names(graph$nodes), c("4", "x", "6"))
