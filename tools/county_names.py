@@ -38,7 +38,8 @@ def names_of(name: str) -> Tuple[str, ...]:
     """
     whole = name.split(",")[0].strip()
     stem, _, kind = whole.rpartition(" ")
-    return tuple(filter(None, (stem, whole))) if kind.lower() in KINDS else (whole,) * bool(whole)
+    names = (stem, whole) if kind.lower() in KINDS else (whole,)
+    return tuple(filter(None, names))
 
 
 def codes_by_name(counties: Dict[str, CensusCounty]) -> Dict[str, List[str]]:

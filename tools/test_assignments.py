@@ -320,6 +320,8 @@ class Refusals(Made):
             "3.71010E+14,1": f"Line 3 of plan has the block `3.71010E+14`, {lost}.",
             "37183-01-07,1": f"Line 3 of plan has `37183-01-07`, {digits}: {help_told}.",
             "37001000001,1": f"Line 3 of plan has `37001000001`, {digits}: {help_told}.",
+            "37001,1": f"Line 3 of plan has `37001`, {digits}: if the lines are counties, "
+            "tools/grouping.py takes them.",
             ",1": "Line 3 of plan has no block.",
             "٣70010001001000,1": f"Line 3 of plan has `٣70010001001000`, {digits}: {help_told}.",
         }.items():
