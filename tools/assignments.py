@@ -43,7 +43,7 @@ from storing import put
 from table_columns import CodeColumn, Wanted, key_and_value
 from table_input import SCIENTIFIC, Table, is_digits, plain, plain_code, read_table, shown
 
-BLOCK_DIGITS = 15
+BLOCK_DIGITS, COUNTY_DIGITS = 15, 5
 MOST_LABEL_BYTES = 32
 MOST_BLOCKS = 4_000_000
 LABEL = re.compile(r"[\x20-\x7e]*")
@@ -113,6 +113,8 @@ def block_of(table: Table, number: int, text: str) -> str:
     if not code:
         raise Refused(f"{place} has no block.")
     told = f"{place} has {shown(code)}, and a census block has {BLOCK_DIGITS} digits"
+    if is_digits(code, COUNTY_DIGITS):
+        raise Refused(f"{told}: if the lines are counties, tools/grouping.py takes them.")
     raise Refused(f"{told}: if the lines are precincts, export the plan by blocks.")
 
 

@@ -119,7 +119,8 @@ def row_of(path: str, number: int, fields: List[str]) -> Row:
     Raises `Refused` if there are fewer than four, or if a code is none.
     """
     if len(fields) < 4:
-        raise Refused(f"Line {number} of {path} has fewer than four fields.")
+        told = "has fewer than four fields: take the adjacency file of 2023 or later, with pipes"
+        raise Refused(f"Line {number} of {path} {told}.")
     codes = fields[1], fields[3]
     if not all(map(CODE.fullmatch, codes)):
         raise Refused(f"Line {number} of {path} has a county code that isn't five digits.")
@@ -255,7 +256,9 @@ def checked(adjacency: str, outlined: str, listed: str | None) -> Tuple[List[str
     outlines = read_rings(outlined)
     borders = kept(read_borders(adjacency), outlines)
     if not borders.pairs:
-        raise Refused(f"The file {adjacency} has no pair of counties of the outlines {outlined}.")
+        told = f"has no pair of counties of the outlines {outlined}"
+        remedy = "take the adjacency file of 2023 or later, with pipes"
+        raise Refused(f"The file {adjacency} {told}: {remedy}.")
     reasons = read_reasons(listed) if listed else {}
     contacts = contacts_of(outlines)
     found = {**edge_findings(borders, contacts), **reason_findings(borders, contacts, reasons)}

@@ -30,6 +30,7 @@ from concurrent.futures import ThreadPoolExecutor
 from dataclasses import dataclass
 from pathlib import Path
 
+from people_file import read_people_file
 from refusal import Refused
 from script_words import ScriptWords
 
@@ -83,15 +84,6 @@ def census_counts(geo: str, segment: str, state: str) -> dict[str, int]:
     }
 
 
-def people_counts(path: str, state: str) -> dict[str, int]:
-    """Returns the people of each county of a state in a people file, by the county's code."""
-    lines = read_lines(path)
-    mark = "|" if lines and "|" in lines[0] and "," not in lines[0] else ","
-    rows = [row for row in csv.reader(lines, delimiter=mark) if row]
-    rows = rows if rows and re.fullmatch("[0-9]{5}", rows[0][0]) else rows[1:]
-    return {code: int(people) for code, people, *_ in rows if code.startswith(state)}
-
-
 def read_lines(path: str) -> list[str]:
     """Returns the lines of a file."""
     try:
@@ -104,7 +96,7 @@ def counts_of(given: argparse.Namespace) -> dict[str, int]:
     """Returns the people of each county by the words of the command."""
     state = given.state.zfill(2)
     if given.people:
-        return people_counts(given.people, state)
+        return read_people_file(given.people, state)[1]
     return census_counts(given.geo, given.segment, state)
 
 
@@ -194,14 +186,12 @@ def arguments(words: list[str]) -> argparse.Namespace:
     parser = ScriptWords(__doc__)
     for name in ("program", "adjacency", "chamber", "within"):
         parser.add_argument(f"--{name}", required=True)
-    for name in ("geo", "segment", "people", "grouping"):
-        parser.add_argument(f"--{name}")
+    parser.add_counts()
+    parser.add_argument("--grouping")
     parser.add_argument("--state", default="37")
     parser.add_argument("--jobs", type=int, default=os.cpu_count() or 1)
     given = parser.parse_args(words)
-    files = (given.geo is not None, given.segment is not None, given.people is not None)
-    if files not in ((True, True, False), (False, False, True)):
-        parser.error("give --geo and --segment, or --people")
+    parser.check_counts(given)
     return given
 
 

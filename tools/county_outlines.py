@@ -47,7 +47,8 @@ def read_outlines(path: str, geoids: set[str]) -> Any:
 
 def _features(path: str) -> Iterator[tuple[str, Any]]:
     """Gives the GEOID and the geometry of each feature."""
-    not_geojson = Refused(f"The outlines {path} aren't GeoJSON with a list of features.")
+    told = f"The outlines {path} aren't GeoJSON with a list of features"
+    not_geojson = Refused(f"{told}: export the counties as GeoJSON, by a GIS or by ogr2ogr.")
     try:
         with open(path, encoding="utf-8") as file:
             value = json.load(file)

@@ -1,8 +1,9 @@
 #!/usr/bin/env python3
 """Tells which borders decide an answer: those that change the best groupings if they are left out.
 
-usage: python3 tools/deciding_borders.py --program FILE --geo FILE --segment FILE --adjacency FILE
-           --chamber SEATS [--grouping FILE] [--state CODE] [--jobs JOBS]
+usage: python3 tools/deciding_borders.py --program FILE COUNTS --adjacency FILE --chamber SEATS
+           [--grouping FILE] [--state CODE] [--jobs JOBS]
+       COUNTS is --geo FILE --segment FILE, or --people FILE.
 
 Each border between two counties of the state is left out alone, and the chamber is solved and
 listed without it.
@@ -36,13 +37,16 @@ Cut = Tuple[border_check.Pair, what_if.Answer]
 def arguments(words: list[str]) -> argparse.Namespace:
     """Returns the words of the command, with those of `what_if.Runs` that it doesn't take."""
     parser = ScriptWords(__doc__)
-    for name in ("program", "geo", "segment", "adjacency", "chamber"):
+    for name in ("program", "adjacency", "chamber"):
         parser.add_argument(f"--{name}", required=True)
+    parser.add_counts()
     parser.add_argument("--grouping")
     parser.add_argument("--state", default="37")
     parser.add_argument("--jobs", type=int, default=os.cpu_count() or 1)
     parser.set_defaults(links=None, withdrawn=None, part=None, of=None)
-    return parser.parse_args(words)
+    given = parser.parse_args(words)
+    parser.check_counts(given)
+    return given
 
 
 def borders_of(adjacency: str, state: str) -> list[border_check.Pair]:

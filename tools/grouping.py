@@ -2,8 +2,9 @@
 """Makes the grouping text of `countygroups judge` of a table of counties with their groups.
 
 usage: python3 tools/grouping.py FILE [--county COLUMN] [--group COLUMN] [--seats COLUMN]
-                                 [--state CODE] [--geo GEO] [--segment SEGMENT --chamber SEATS]
-                                 [--part PART] [--of OF] [--member NAME] [--out OUT]
+                                 [--state CODE] [--geo GEO | --people PEOPLE]
+                                 [--segment SEGMENT] [--chamber SEATS] [--part PART] [--of OF]
+                                 [--member NAME] [--out OUT]
 
 FILE has a line for each county with the label of its group. It is a text with commas, semicolons,
 tabs or pipes, in UTF-8, UTF-16 or Latin-1, or the DBF of a shapefile. It may be packed by gzip or
@@ -13,13 +14,16 @@ COUNTY, NAME and the like, groups by GROUP, CLUSTER and the like, seats by SEATS
 columns needs no header.
 
 A county is a GEOID of five digits. With --state CODE, the state's FIPS code, it may be the county's
-code of one to three digits. With --geo GEO, the geographic header, it may be a name, as `Wake` or
-`Wake County`. A county without a group is left out, as one of a withdrawn set has to be.
+code of one to three digits. With --geo GEO, the geographic header, or --people PEOPLE, a people
+file, it may be a name, as `Wake` or `Wake County`. The lines may also be those of blocks, if all of
+a county are in one group. A county without a group is left out, as one of a withdrawn set has to
+be.
 
-If FILE has no seats, they are chosen by the people of the groups. Then --segment SEGMENT is segment
-1, and --chamber SEATS the number of seats. --part PART and --of OF are the tolerance, 1/20 if
-neither is given. If no number suits the people of a group, the nearest is written, and standard
-error says so. `judge` says what is wrong with the grouping.
+If FILE has no seats, they are chosen by the people of the groups: those of --people PEOPLE, or of
+--geo GEO with --segment SEGMENT, segment 1. --chamber SEATS is then the number of seats. --part
+PART and --of OF are the tolerance, 1/20 if neither is given. If no number suits the people of a
+group, the nearest is written, and standard error says so. `judge` says what is wrong with the
+grouping.
 
 --member NAME chooses the table of a zip, if the zip has several.
 --out OUT stores the text there. Without it the text is printed. The groups stand in the order of
@@ -39,11 +43,12 @@ import re
 import sys
 from dataclasses import dataclass, field
 from fractions import Fraction
-from typing import Dict, Iterable, List, Optional, Tuple
+from typing import Dict, Iterable, List, NamedTuple, Optional, Tuple
 
-from census_counties import read_counties, read_people
-from county_names import CODE_DIGITS, CountyNames, is_county
+from census_counties import CensusCounty, read_counties, read_people
+from county_names import CODE_DIGITS, HEADER_WORDS, CountyNames, is_block, is_county
 from county_table import HEADER
+from people_file import read_people_file
 from refusal import Refused
 from script_words import ScriptWords, number_from
 from seat_numbers import Chamber, choose_seats
@@ -121,10 +126,14 @@ class Group:
 
 @dataclass
 class CountyGroups:
-    """The groups by their labels, the row of each county, and the counties without a group."""
+    """The groups by their labels, the row of each county, and the counties without a group.
+
+    `of_blocks` has the label of each county that rows of blocks name.
+    """
 
     groups: Dict[str, Group] = field(default_factory=dict)
     rows: Dict[str, int] = field(default_factory=dict)
+    of_blocks: Dict[str, str] = field(default_factory=dict)
     left_out: List[str] = field(default_factory=list)
     leading_zeros: int = 0
 
@@ -176,11 +185,10 @@ def read_groups(
     for number, fields in table.rows:
         code = names.code_of(table, number, fields[county_place])
         codes.take(number, code)
-        if code in found.rows:
-            told = f"{table.place(number)} has county {code}"
-            raise Refused(f"{told}, which {table.unit} {found.rows[code]} has already.")
-        found.rows[code] = number
         label = group_label(table, fields[group_place])
+        if is_repeated(table, number, found, code, label, is_block(fields[county_place])):
+            continue
+        found.rows[code] = number
         if not label:
             found.left_out.append(code)
             continue
@@ -195,6 +203,28 @@ def read_groups(
         raise Refused(f"No {table.unit} of {table.name} has a group.")
     names.check_listed(table, found.rows)
     return found
+
+
+def is_repeated(
+    table: Table, number: int, found: CountyGroups, code: str, label: str, is_of_block: bool
+) -> bool:
+    """Returns whether a row is that of a further block of a county in the same group.
+
+    Raises `Refused` if the county has another group, or if it isn't named by blocks alone.
+    """
+    if code not in found.rows:
+        if is_of_block:
+            found.of_blocks[code] = label
+        return False
+    before = f"{table.unit} {found.rows[code]}"
+    if not is_of_block or code not in found.of_blocks:
+        told = f"{table.place(number)} has county {code}"
+        raise Refused(f"{told}, which {before} has already.")
+    if label != found.of_blocks[code]:
+        told = f"{table.place(number)} has a block of county {code} in group {shown(label)}"
+        other = f"and {before} has one in {shown(found.of_blocks[code])}"
+        raise Refused(f"{told}, {other}: a group has whole counties.")
+    return True
 
 
 def with_zeros(found: CountyGroups) -> None:
@@ -265,7 +295,8 @@ def parser() -> argparse.ArgumentParser:
     made.add_argument("file", metavar="FILE")
     for name in ("county", "group", "seats"):
         made.add_argument(f"--{name}", metavar="COLUMN")
-    for name, word in (("geo", "GEO"), ("segment", "SEGMENT"), ("member", "NAME"), ("out", "OUT")):
+    made.add_counts()
+    for name, word in (("member", "NAME"), ("out", "OUT")):
         made.add_argument(f"--{name}", metavar=word)
     made.add_argument("--state", metavar="CODE", type=number_from(0, 99))
     made.add_argument("--chamber", metavar="SEATS", type=number_from(1, 1000))
@@ -274,25 +305,56 @@ def parser() -> argparse.ArgumentParser:
     return made
 
 
+class Counts(NamedTuple):
+    """The counties that the words give, their people if a people file has them, and the file."""
+
+    counties: Optional[Dict[str, CensusCounty]]
+    people: Optional[Dict[str, int]]
+    source: str
+
+
+def given_counts(asked: argparse.Namespace, state: Optional[str]) -> Counts:
+    """Returns the counties of --people with their people, or those of --geo, or none.
+
+    `state` has the two digits of the state.
+
+    Raises `Refused` if a file can't be used.
+    """
+    if asked.people is not None:
+        return Counts(*read_people_file(asked.people, state), "the people file")
+    counties = read_counties(asked.geo, state) if asked.geo is not None else None
+    return Counts(counties, None, HEADER_WORDS)
+
+
+def wanted_people(asked: argparse.Namespace, table: Table, counts: Counts) -> Dict[str, int]:
+    """Returns the people of each county. Raises `Refused` if the words don't tell the seats."""
+    if asked.chamber is not None:
+        if counts.people is not None:
+            return counts.people
+        if counts.counties is not None and asked.segment is not None:
+            return read_people(asked.segment, counts.counties)
+    told = "has no column of seats: choose one by --seats, or give --chamber"
+    raise Refused(f"{table.name} {told} with --geo and --segment or with --people.")
+
+
 def made_groups(asked: argparse.Namespace) -> Tuple[str, List[str]]:
     """Returns the grouping text that the words ask for, and what the user has to know.
 
     Raises `Refused` if a file can't be used, or if neither the table nor the words tell the seats.
     """
     state = None if asked.state is None else f"{asked.state:02}"
-    counties = read_counties(asked.geo, state) if asked.geo is not None else None
+    counts = given_counts(asked, state)
     table = read_table(asked.file, asked.member, is_county)
     key, value = key_and_value(table, COUNTIES, GROUPS, (asked.county, asked.group), is_county)
     seats = seats_place(table, asked.seats)
-    found = read_groups(table, (key, value, seats), CountyNames(state, counties))
+    found = read_groups(
+        table, (key, value, seats), CountyNames(state, counts.counties, counts.source)
+    )
     notes: List[str] = []
     if seats is not None:
         check_seats(table, found)
-    elif counties is None or asked.segment is None or asked.chamber is None:
-        told = "has no column of seats: choose one by --seats"
-        raise Refused(f"{table.name} {told}, or give --geo, --segment and --chamber.")
     else:
-        people = read_people(asked.segment, counties)
+        people = wanted_people(asked, table, counts)
         notes = chosen_seats(found, people, chamber_of(asked, people))
     ordered = [found.groups[label] for label in sorted(found.groups, key=label_order)]
     return grouping_text(ordered), notes_on(table, found) + notes
@@ -302,7 +364,7 @@ def chamber_of(asked: argparse.Namespace, people: Dict[str, int]) -> Chamber:
     """Returns the chamber that the words name. Raises `Refused` if the state has no people."""
     total = sum(people.values())
     if total == 0:
-        raise Refused(f"The counties of {asked.segment} have no people.")
+        raise Refused(f"The counties of {asked.people or asked.segment} have no people.")
     return Chamber(asked.chamber, total, Fraction(asked.part, asked.of))
 
 
@@ -317,6 +379,8 @@ def main(words: List[str]) -> int:
     """Makes the grouping text, and returns the status."""
     made = parser()
     asked = made.parse_args(words)
+    if asked.people is not None and (asked.geo is not None or asked.segment is not None):
+        made.error("give --geo and --segment, or --people")
     if 2 * asked.part > asked.of:
         made.error("the tolerance --part/--of may be a half at most")
     try:

@@ -226,7 +226,7 @@ def member_of(source: Source, names: List[str], member: Optional[str]) -> str:
     if tables:
         told = f"has several tables, so choose one by --member NAME: {listed(tables)}"
     else:
-        told = f"has no table: it has {listed(names)}"
+        told = f"has no table, which is a CSV, a text or a DBF: it has {listed(names)}"
     raise Refused(f"The zip {source.name} {told}.")
 
 

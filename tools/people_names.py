@@ -5,7 +5,7 @@ import os
 from typing import Dict, List, Optional
 
 from census_counties import CensusCounty, counties_of
-from county_names import CountyNames
+from county_names import CountyNames, names_of
 from packed_file import read_file
 from refusal import Refused
 from table_input import decoded, is_digits
@@ -15,8 +15,6 @@ NORTH_CAROLINA = "37"
 OWN_HEADER = os.path.join(
     os.path.dirname(os.path.dirname(os.path.abspath(__file__))), "data", "nc2020", "nc2020geo.pl"
 )
-# What a county is, behind its name.
-KINDS = frozenset("county parish borough municipality municipio city".split())
 
 
 def read_names(path: Optional[str], state: Optional[str]) -> Optional[CountyNames]:
@@ -56,6 +54,4 @@ def bordering(fields: List[bytes]) -> List[CensusCounty]:
     name, code = (decoded(field).strip() for field in fields[:2])
     if not is_digits(code, 5) or not is_digits(decoded(fields[3]), 5) or not name:
         return []
-    whole = name.split(",")[0].strip()
-    stem, _, kind = whole.rpartition(" ")
-    return [CensusCounty(code, (stem, whole) if kind.lower() in KINDS else (whole,), 0)]
+    return [CensusCounty(code, names_of(name), 0)]

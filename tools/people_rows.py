@@ -94,10 +94,12 @@ def json_table(source: Source) -> Table:
     try:
         held = json.loads(decoded(source.data), parse_int=str, parse_float=str, parse_constant=str)
     except (ValueError, RecursionError) as fault:
-        raise Refused(f"The file {source.name} begins as JSON, and isn't whole.") from fault
+        told = "begins as JSON, and isn't whole: ask for it again"
+        raise Refused(f"The file {source.name} {told}.") from fault
     if not (isinstance(held, list) and held and all(isinstance(row, list) and row for row in held)):
-        told = "is JSON, and no list of lists with the names of the columns in the first"
-        raise Refused(f"The file {source.name} {told}, as the Census Bureau's API answers.")
+        told = "is JSON, and no list of lists with the names of the columns in the first, as the "
+        told += "Census Bureau's API answers: export the table as CSV, as that of a graph's nodes"
+        raise Refused(f"The file {source.name} {told}.")
     first, *others = [[json_field(it) for it in row] for row in held]
     rows = full_rows(source, "row", len(first), enumerate(others, 2))
     return Table(source.name, "row", first, first, rows)

@@ -28,7 +28,7 @@ from script_words import ScriptWords
 
 TOP = Path(__file__).resolve().parent.parent
 # The packages that Suggests of DESCRIPTION may name.
-OTHERS = ("generics", "igraph", "knitr", "markdown", "sf")
+OTHERS = ("generics", "igraph", "jsonlite", "knitr", "markdown", "sf")
 PROFILE = 'options(repos = c(CRAN = "{0}", BioCsoft = "{0}", BioCann = "{0}", BioCexp = "{0}"))\n'
 # What the package doesn't answer for: a busy machine, a missing `sf`, and the font Inconsolata.
 SETTINGS = {

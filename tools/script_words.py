@@ -18,6 +18,17 @@ class ScriptWords(argparse.ArgumentParser):
         usage = self.told.partition("usage: ")[2].partition("\n\n")[0]
         super().__init__(usage=usage.replace("%", "%%"))
 
+    def add_counts(self) -> None:
+        """Adds the words of the counts: --geo and --segment, or --people in their place."""
+        for name in ("geo", "segment", "people"):
+            self.add_argument(f"--{name}")
+
+    def check_counts(self, given: argparse.Namespace) -> None:
+        """Ends with status 2 unless `given` has --geo and --segment alone, or --people alone."""
+        has = [given.geo is not None, given.segment is not None, given.people is not None]
+        if has not in ([True, True, False], [False, False, True]):
+            self.error("give --geo and --segment, or --people")
+
     def format_help(self) -> str:
         """Returns the doc string."""
         return self.told

@@ -109,7 +109,8 @@ def full_rows(
         if len(fields) != width:
             if len(fields) < width or any(fields[width:]):
                 told = f"has another number of fields ({len(fields)}) than the first ({width})"
-                raise Refused(f"{unit.capitalize()} {number} of {source.name} {told}.")
+                remedy = ": quote a field that has a delimiter in it" if unit == "line" else ""
+                raise Refused(f"{unit.capitalize()} {number} of {source.name} {told}{remedy}.")
             fields = fields[:width]
         yield number, fields
 

@@ -21,6 +21,7 @@ import example_plan
 from table_trial import DATA, TOP, DbfColumn, Ran, Room, WithProgram, dbf
 from tested_program import run_tests
 
+NO_TABLE = "The zip plan has no table, which is a CSV, a text or a DBF: it has "
 ONE, TWO, THREE = "370010001001000", "370010001001001", "370030001001000"
 WANTED = f"BLOCKID|DISTRICT\n{ONE}|1\n{TWO}|1\n{THREE}|02\n"
 SUMMARY = "plan: 3 blocks in 2 districts."
@@ -235,7 +236,7 @@ class Packed(Made):
         damaged = packed.replace(b"plan.csv", b"plan.csx")[:-30]
         told = "The file plan is a zip, and it is damaged, or packed in another way."
         self.refused(damaged, told)
-        self.refused(self.zip_of({"a.pdf": "."}), "The zip plan has no table: it has a.pdf.")
+        self.refused(self.zip_of({"a.pdf": "."}), NO_TABLE + "a.pdf.")
         workbook = self.zip_of({"xl/workbook.xml": ".", "a.csv": "."})
         self.refused(workbook, "The file plan is a workbook: save its sheet as CSV.")
         cut = gzip.compress(text_of(",").encode())[:-10]
@@ -251,12 +252,12 @@ class Packed(Made):
         told = "has no single member ?: it has a?[2J.csv, ?b.csv"
         self.refused(packed, f"The zip plan {told}.", "--member", "\x1b")
         other = self.zip_of({"\x1b]0;.pdf": "."})
-        self.refused(other, "The zip plan has no table: it has ?]0;.pdf.")
+        self.refused(other, NO_TABLE + "?]0;.pdf.")
         found = self.made(self.zip_of({"a\x1b[2J.csv": text_of(",")}))
         told = SUMMARY.replace("plan", "a?[2J.csv in plan")
         self.assertEqual(found, Ran(0, WANTED, [told]))
         long = self.zip_of({"a" * 60_000 + ".pdf": "."})
-        self.refused(long, f"The zip plan has no table: it has {'a' * 100}...")
+        self.refused(long, f"{NO_TABLE}{'a' * 100}...")
 
     def test_tables_with_an_explanation(self) -> None:
         """NHGIS puts a codebook beside a table, and data.census.gov two further texts."""
@@ -319,6 +320,8 @@ class Refusals(Made):
             "3.71010E+14,1": f"Line 3 of plan has the block `3.71010E+14`, {lost}.",
             "37183-01-07,1": f"Line 3 of plan has `37183-01-07`, {digits}: {help_told}.",
             "37001000001,1": f"Line 3 of plan has `37001000001`, {digits}: {help_told}.",
+            "37001,1": f"Line 3 of plan has `37001`, {digits}: if the lines are counties, "
+            "tools/grouping.py takes them.",
             ",1": "Line 3 of plan has no block.",
             "٣70010001001000,1": f"Line 3 of plan has `٣70010001001000`, {digits}: {help_told}.",
         }.items():
@@ -384,8 +387,9 @@ class Refusals(Made):
     def test_lines(self) -> None:
         head = f"GEOID20,District\n{ONE},1\n"
         other = "has another number of fields"
-        self.refused(f"{head}{TWO}\n", f"Line 3 of plan {other} (1) than the first (2).")
-        self.refused(f"{head}{TWO},1,2\n", f"Line 3 of plan {other} (3) than the first (2).")
+        end = "than the first (2): quote a field that has a delimiter in it."
+        self.refused(f"{head}{TWO}\n", f"Line 3 of plan {other} (1) {end}")
+        self.refused(f"{head}{TWO},1,2\n", f"Line 3 of plan {other} (3) {end}")
         quote = "has a quote that isn't closed, or that isn't at the end of its field"
         self.refused(f'{head}{TWO},"1\n{THREE},2\n', f"Line 3 of plan {quote}.")
         self.refused(f'{head}{TWO},"1"2\n', f"Line 3 of plan {quote}.")

@@ -20,6 +20,11 @@ import border_check  # noqa: E402
 DATA = os.path.join(TOP, "data", "nc2020")
 BORDERS = os.path.join(DATA, "county_borders.txt")
 OUTLINES = os.path.join(DATA, "county_outlines.geojson")
+PIPES = "take the adjacency file of 2023 or later, with pipes."
+NO_GEOJSON = (
+    "aren't GeoJSON with a list of features: export the counties as GeoJSON, by a GIS or by "
+    "ogr2ogr."
+)
 WITHOUT_EDGE = os.path.join(DATA, "borders_without_an_edge.txt")
 HEADER = "County Name|County GEOID|Neighbor Name|Neighbor GEOID|Length"
 
@@ -211,9 +216,10 @@ class Refusals(Checked):
         edge = "A|10001|B|10003"
         no_code = "Line 2 of adjacency.txt has a county code that isn't five digits."
         no_length = "Line 1 of adjacency.txt has a length that isn't a number."
-        no_pair = "The file adjacency.txt has no pair of counties of the outlines board.geojson."
+        no_pair = "The file adjacency.txt has no pair of counties of the outlines board.geojson: "
+        no_pair += PIPES
         for text, sentence in {
-            f"{edge}|5\nA|10001|B\n": "Line 2 of adjacency.txt has fewer than four fields.",
+            f"{edge}|5\nA|10001|B\n": f"Line 2 of adjacency.txt has fewer than four fields: {PIPES}",
             f"{edge}|5\nA|10001|B|1003|5\n": no_code,
             f"{HEADER}\n{HEADER}\n": no_code,
             f"{edge}|long\n": no_length,
@@ -238,7 +244,7 @@ class Refusals(Checked):
         for adjacency, outlines, sentence in (
             (none, OUTLINES, f"The file {none} can't be read: No such file or directory."),
             (BORDERS, none, f"The outlines {none} can't be read: No such file or directory."),
-            (BORDERS, BORDERS, f"The outlines {BORDERS} aren't GeoJSON with a list of features."),
+            (BORDERS, BORDERS, f"The outlines {BORDERS} {NO_GEOJSON}"),
         ):
             self.assertEqual(self.run_over(adjacency, outlines), (2, [], sentence + "\n"))
 

@@ -29,6 +29,7 @@ ROW = {
 # The same with a border between the ends: a ring has two best groupings of two pairs. Without any
 # one border it is a row, and the grouping that needs this border is gone.
 CLOSED = ROW["adjacency"] + "x|37007|y|37001\n"
+PEOPLE = "county,people\n" + "".join(f"3700{2 * at + 1},50\n" for at in range(4)) + "45001,9\n"
 HEADER = ",".join(deciding_borders.HEADER)
 CHANGES = "counts; best groupings; shared groups; groups"
 
@@ -36,18 +37,32 @@ CHANGES = "counts; best groupings; shared groups; groups"
 class Tables(unittest.TestCase):
     """Tests of the tables of a row and a ring of counties."""
 
-    def run_with(self, adjacency: str) -> list[str]:
-        """Returns the lines of the table with these borders."""
+    def run_over(self, files: dict[str, str]) -> subprocess.CompletedProcess[str]:
+        """Runs the tool over files, by their options."""
         with tempfile.TemporaryDirectory() as room:
-            for name, text in {**ROW, "adjacency": adjacency}.items():
-                (Path(room) / name).write_text(text, encoding="ascii")
             words = [sys.executable, deciding_borders.__file__, "--program", TESTED.program]
-            for name in ROW:
+            for name, text in files.items():
+                (Path(room) / name).write_text(text, encoding="ascii")
                 words += [f"--{name}", name]
             words += ["--chamber", "2", "--jobs", "1"]
-            done = subprocess.run(words, cwd=room, capture_output=True, text=True, check=False)
+            return subprocess.run(words, cwd=room, capture_output=True, text=True, check=False)
+
+    def run_with(self, adjacency: str) -> list[str]:
+        """Returns the lines of the table with these borders."""
+        done = self.run_over({**ROW, "adjacency": adjacency})
         self.assertEqual(done.returncode, 0, done.stderr)
         return done.stdout.splitlines()
+
+    def test_a_people_file(self) -> None:
+        files = {name: ROW[name] for name in ("adjacency", "grouping")}
+        done = self.run_over({"people": PEOPLE, **files})
+        self.assertEqual(done.stdout.splitlines(), self.run_with(ROW["adjacency"]), done.stderr)
+
+    def test_counts_of_two_kinds(self) -> None:
+        for files in ({**ROW, "people": PEOPLE}, {"adjacency": ROW["adjacency"]}):
+            done = self.run_over(files)
+            self.assertEqual((done.returncode, done.stdout), (2, ""))
+            self.assertIn("give --geo and --segment, or --people", done.stderr)
 
     def test_a_row(self) -> None:
         pairs = ("37001,37003", "37005,37007")

@@ -34,6 +34,10 @@ PATH_GEO = """||050||00|||1||37001|||37||001{names[0]}
 ||050||00|||4||37007|||37||007{names[3]}
 """
 PATH_SEGMENT = "||||1|94\n||||2|95\n||||3|105\n||||4|106\n"
+# A people file of the same counties, with other people.
+PATH_COUNTIES = (
+    "37001,50,Alder County\n37003,50,Birch\n37005,100,Cedar County\n37007,200,Dogwood County\n"
+)
 
 
 def sets_of(text: str) -> Sets:
@@ -231,6 +235,42 @@ class Tables(Made):
         both = "County,Group,Seats\nRichmond city,1,1\nRICHMOND COUNTY,2,1\n"
         self.assertEqual(self.made(both, "--geo", twice).text, "1|37003\n1|37001\n")
 
+    def test_a_people_file(self) -> None:
+        """The ideal is 100: Dogwood suits two seats, and Cedar, and Alder with Birch, one."""
+        text = "County,Cluster\nALDER,1\nBirch,1\nCedar county,2\nDogwood,3\n"
+        wanted = "1|37001|37003\n1|37005\n2|37007\n"
+        told = ["table: counties 4, groups 3, seats 4."]
+        for held in (PATH_COUNTIES, "county|people|name\n" + PATH_COUNTIES.replace(",", "|")):
+            words = ["--people", self.file("people.csv", held), "--chamber", "4"]
+            self.assertEqual(self.made(text, *words), Ran(0, wanted, told))
+        other = self.file("people.csv", PATH_COUNTIES + '\n45001,7,"A, ""B"""\n')
+        words = ["--people", other, "--chamber", "4", "--state", "37"]
+        self.assertEqual(self.made(text, *words), Ran(0, wanted, told))
+        seats = "County,Cluster,Seats\nAlder,1,9\n"
+        self.assertEqual(self.made(seats, *words[:2], "--state", "37").text, "9|37001\n")
+
+    def test_blocks(self) -> None:
+        """The rows of a county's blocks say its group, if they say the same."""
+        head = "GEOID20,Group,Seats\n"
+        text = head + "370010201001000,1,1\n370010201001001,1,1\n370030201001000,,\n"
+        told = ["table: counties 1, groups 1, seats 1."]
+        told.append("Counties without a group, or of a withdrawn set: 37003.")
+        self.assertEqual(self.made(text), Ran(0, "1|37001\n", told))
+        self.assertEqual(self.made("370010201001000,1\n370010201001001,1\n").status, 1)
+        zeros = head + "10010201001000,1,1\n10010201001001,1,1\n"
+        self.assertEqual(self.made(zeros).text, "1|01001\n")
+        for lines, sentence in {
+            "370010201001000,1,1\n370010201001001,2,1\n": "Line 3 of table has a block of county "
+            "37001 in group `2`, and line 2 has one in `1`: a group has whole counties.",
+            "370010201001000,1,1\n37001,1,1\n": "Line 3 of table has county 37001, which line 2 "
+            "has already.",
+            "37001,1,1\n370010201001000,1,1\n": "Line 3 of table has county 37001, which line 2 "
+            "has already.",
+            "37001000012,1,1\n": "Line 2 of table has `37001000012`, which is no code of a county "
+            "or a block: export the groups by counties or by blocks.",
+        }.items():
+            self.refused(head + lines, sentence)
+
     def test_seats_that_dont_suit(self) -> None:
         """The ideal is 100: one seat suits 95 to 105 people, and two suit 190 to 210."""
         files = {"--geo": path_geo(), "--segment": PATH_SEGMENT}
@@ -290,7 +330,8 @@ class Refusals(Made):
         head = "GEOID,Group,Seats\n37001,1,1\n"
         no_seats = "where the seats stand, which is no number up to 65,535."
         two_states = "a county's code of state 45, and line 2 one of state 37."
-        no_code = "which is no county's code: if it is a name, give the geographic header by --geo."
+        no_code = "which is no county's code: if it is a name, give the geographic header by --geo"
+        no_code += ", or a people file by --people."
         for line, sentence in {
             "37001,2,1": "Line 3 of table has county 37001, which line 2 has already.",
             "37003,1,2": "Line 3 of table gives group `1` 2 seats, and line 2 gives it 1.",
@@ -305,12 +346,44 @@ class Refusals(Made):
 
     def test_tables(self) -> None:
         self.refused("GEOID,Group,Seats\n37001,,\n", "No line of table has a group.")
-        told = "table has no column of seats: choose one by --seats, or give --geo, --segment and "
-        self.refused("GEOID,Group\n37001,1\n", told + "--chamber.")
+        told = "table has no column of seats: choose one by --seats, or give --chamber with --geo "
+        told += "and --segment or with --people."
+        path = self.file("people.csv", PATH_COUNTIES)
+        for words in ([], ["--chamber", "4"], ["--people", path]):
+            self.refused("GEOID,Group\n37001,1\n", told, *words)
         told = "table has no column that goes by a name for the groups: its columns are `GEOID`, "
         self.refused("GEOID,X\n37001,1\n", told + "`X`; choose the groups by --group.")
         told = "table has several columns that may have the groups: `Group`, `Cluster`; choose one "
         self.refused("GEOID,Group,Cluster\n37001,1,1\n", told + "by --group.")
+
+    def test_people_files(self) -> None:
+        text = "County,Group\nAlder,1\nElm,2\n"
+        remedy = ": tools/people.py makes a people file of other tables."
+        line = "Line 2 of people.csv "
+        digits = "isn't a county's five digits, its people and at most a name"
+        for held, sentence in {
+            PATH_COUNTIES: "Line 3 of table has `Elm`, which the people file doesn't have.",
+            "county,people\n": f"The people file people.csv has no county{remedy}",
+            "37001,1\n45001,2\n": "The people file people.csv has counties of the states 37, 45: "
+            "choose one by --state.",
+            "37001,1\n37001,2\n": f"{line}has county 37001, which stands before.",
+            "37001,1\n3703,2\n": f"{line}{digits}{remedy}",
+            "37001,1\n37003,2,a,b\n": f"{line}{digits}{remedy}",
+            "37001,1\n37003,1.5\n": f"{line}has the people `1.5`, which is no whole number up to "
+            f"4,294,967,295{remedy}",
+            '37001,1\n37003,2,"a\n': f"{line}has wrong quotes{remedy}",
+            b"37001,1,\xff\n": f"The people file people.csv is no text in UTF-8{remedy}",
+        }.items():
+            path = self.file("people.csv", held)
+            found = self.made(text, "--people", path, "--chamber", "4")
+            told = [one.replace(path, "people.csv") for one in found.told]
+            self.assertEqual((found.status, told), (1, [sentence]), held)
+
+    def test_counts_of_two_kinds(self) -> None:
+        for word in ("--geo", "--segment"):
+            with self.assertRaises(SystemExit) as ended:
+                self.made("37001,1\n", "--people", "p", word, "x")
+            self.assertEqual(ended.exception.code, 2)
 
     def test_census_files(self) -> None:
         text = "GEOID,Group\n37001,1\n37009,2\n"

@@ -3,9 +3,10 @@
 
 usage: python3 tools/test_inputs.py [--program FILE]
 
-"program" is what it does with the file itself, and "tools" are people.py, assignments.py or
-grouping.py, whichever makes something of it. "Python" and "R" are the packages: what their
-functions read, or what they say of the path. "works" and "told" (refused, with what to do) are
+"program" is what it does with the file itself, and "tools" are people.py, assignments.py,
+grouping.py and border_check.py, whichever makes something of it. "Python" and "R" are the packages:
+what their functions read, or what they say of the path. R reads JSON by the package jsonlite, and
+says so without it. "works" and "told" (refused, with what to do) are
 tested by the test of the row here; of "warned" there is an answer, and a warning. "-" is no use of
 the file. R's test has the row's words behind `inputs: `, in `r/tests/plain.R`. What is dropped on
 the page is tested in `web/page/test/test_files.py`. "open": nothing is said, and no test holds it.
@@ -26,14 +27,14 @@ shapefile or GeoPackage                 told     told    told    told    test_sh
 county adjacency file of 2023           works    told    works   works   test_adjacency_of_2023
 county adjacency file with tabs         told     told    works   works   test_adjacency_with_tabs
 county adjacency file with commas       told     told    told    told    test_adjacency_with_commas
-dual graph in JSON                      warned   told    told    told    test_dual_graph
-plan by blocks                          works    works   -       -       test_plan_by_blocks
-plan by precincts                       told     told    -       -       test_plan_by_precincts
-grouping by counties                    told     works   -       -       test_grouping_by_counties
-groups drawn by blocks                  told     told    -       -       test_groups_by_blocks
-JSON of Districtr                       open     told    told    told    test_json_of_districtr
-CSV of Districtr                        works    works   -       -       test_csv_of_districtr
-block assignment files in a zip         open     told    -       -       test_block_assignment_zip
+dual graph in JSON                      warned   told    told    works   test_dual_graph
+plan by blocks                          works    works   works   told    test_plan_by_blocks
+plan by precincts                       told     told    works   works   test_plan_by_precincts
+grouping by counties                    told     works   told    told    test_grouping_by_counties
+groups drawn by blocks                  told     works   told    told    test_groups_by_blocks
+JSON of Districtr                       open     told    works   told    test_json_of_districtr
+CSV of Districtr                        works    works   works   told    test_csv_of_districtr
+block assignment files in a zip         open     told    told    told    test_block_assignment_zip
 xz, bzip2 or Excel                      told     told    told    told    test_other_packings
 
 Counties and their people are Alamance and Wake of the census of 2020, as in test_people.py.
@@ -56,6 +57,9 @@ import assignments
 import grouping
 import people
 import test_people
+from border_check import read_borders
+from county_outlines import read_rings
+from refusal import Refused
 from table_trial import DATA, WithProgram
 from test_people import COUNTS, WANTED, zip_of
 from tested_program import TESTED, run_tests
@@ -151,6 +155,32 @@ class Inputs(WithProgram):
         with self.assertRaisesRegex(countygroups.InputError, told):
             read()
 
+    def borders_told(self, held: str, told: str) -> None:
+        """Wants the tools that read an adjacency file to refuse one with these words."""
+        with self.assertRaisesRegex(Refused, told):
+            read_borders(self.file("borders", held))
+
+    def problem(self) -> countygroups.Problem:
+        """Returns the problem of two seats of both counties."""
+        return countygroups.problem_of(COUNTS, 2, adjacency=list(PAIR), program=TESTED.program)
+
+    def audit_by_package(self, plan: "str | bytes", units: tuple[str, ...] = BLOCKS) -> Any:
+        """Returns what the package finds of the file of a plan, with a unit in each county."""
+        words: dict[str, Any] = {"adjacency": list(PAIR), "program": TESTED.program}
+        answer = countygroups.solve(COUNTS, 2, **words)
+        rows = {
+            unit: {"county": code, "people": count}
+            for unit, (code, count) in zip(units, COUNTS.items())
+        }
+        path = self.file("plan", plan)
+        return countygroups.audit(path, answer, precincts=rows, county="county")
+
+    def audited_by_package(self, plan: "str | bytes", units: tuple[str, ...] = BLOCKS) -> None:
+        """Wants the package to find what `audited` wants of the program."""
+        found = [(one.kind, one.told) for one in self.audit_by_package(plan, units)]
+        sizes = [f"{number} people {count}" for number, count in enumerate(COUNTS.values(), 1)]
+        self.assertEqual(found, [("DistrictSize", told) for told in sizes])
+
     def paths_told(self, held: "str | bytes") -> None:
         """Wants the package to say of a file's path by what it is read."""
         path = self.file("table", held)
@@ -205,6 +235,9 @@ class Inputs(WithProgram):
     def test_api(self) -> None:
         self.people(test_people.API)
         self.people_told(test_people.API)
+        path = self.file("table", test_people.API)
+        told = r"give pandas.DataFrame\(rows\[1:\], columns=rows\[0\]\)"
+        self.told_by_package(lambda: read_counties(path), told)
         names, *rows = json.loads(test_people.API)
         self.counties([dict(zip(names, row)) for row in rows], people="P1_001N")
 
@@ -239,7 +272,7 @@ class Inputs(WithProgram):
         found = countygroups.read_people(path)
         self.assertEqual({code: one["people"] for code, one in found.items()}, COUNTS)
         other = self.file("table.csv", test_people.SURVEY)
-        told = "tools/people.py makes such a file of other tables"
+        told = "tools/people.py makes a people file of other tables"
         self.told_by_package(lambda: countygroups.read_people(other), told)
 
     def test_nhgis(self) -> None:
@@ -253,7 +286,12 @@ class Inputs(WithProgram):
         shapes, database = b"\0\0\x27\x0a" + bytes(96), b"SQLite format 3\0" + bytes(96)
         self.told(people.main, shapes, "take the file beside it, with .dbf")
         self.told(people.main, database, "a GeoPackage: export its table as CSV")
+        told = "aren't GeoJSON with a list of features: export the counties as GeoJSON"
         for held in (shapes, database):
+            with self.assertRaisesRegex(Refused, told):
+                read_rings(self.file("outlines", held))
+            told_of_borders = "Of shapes give the table that geopandas.read_file reads"
+            self.told_by_package(lambda path=held: self.pairs(path), told_of_borders)
             self.paths_told(held)
             self.geo_told(held)
 
@@ -267,13 +305,17 @@ class Inputs(WithProgram):
         line = '"Alamance County, NC"\t37001\t'
         text = f'{line}"Alamance County, NC"\t37001\n\t\t"Wake County, NC"\t37183\n'
         self.told(people.main, text, "people by county are expected")
+        self.borders_told(text, "take the adjacency file of 2023 or later, with pipes")
         self.assertEqual(self.pairs(text), PAIR)
         told = "give --adjacency the Census Bureau's county adjacency file with pipes"
         self.program_told(told, *self.solve_words(text))
 
     def test_adjacency_with_commas(self) -> None:
         text = BORDERS.replace("|", ",")
-        self.told(people.main, text, "another number of fields (7) than the first (5)")
+        told = "another number of fields (7) than the first (5): quote a field that has a delimiter"
+        self.told(people.main, text, told)
+        told = "has fewer than four fields: take the adjacency file of 2023 or later, with pipes"
+        self.borders_told(text, told)
         told = "give --adjacency the Census Bureau's county adjacency file with pipes"
         self.program_told(told, *self.solve_words(text))
         told = "has a county's GEOID as the second field, at pipes or tabs: put these there"
@@ -284,7 +326,8 @@ class Inputs(WithProgram):
             {"GEOID20": code, "TOTPOP": n, "id": i} for i, (code, n) in enumerate(COUNTS.items())
         ]
         text = json.dumps({"nodes": nodes, "adjacency": [[{"id": 1}], [{"id": 0}]]})
-        self.told(people.main, text, "no list of lists with the names of the columns")
+        told = "export the table as CSV, as that of a graph's nodes"
+        self.told(people.main, text, told)
         told = "Of a dual graph give the graph, by Graph.from_json of GerryChain"
         self.told_by_package(lambda: self.pairs(text), told)
         done = self.ran(*self.solve_words(text))
@@ -297,9 +340,13 @@ class Inputs(WithProgram):
         self.assertEqual((found.status, found.text), (0, PLAN), found.told)
         self.told(people.main, text, "the counties have a column of codes of five digits")
         self.audited(text)
+        self.audited_by_package(text)
 
     def test_plan_by_precincts(self) -> None:
-        text = "GEOID20,District\n3700101,1\n"
+        """Of the package the units of a plan are what its table of people has."""
+        units = ("3700101", "3718301")
+        text = "GEOID20,District\n{},1\n{},2\n".format(*units)
+        self.audited_by_package(text, units)
         told = "if the lines are precincts, export the plan by blocks"
         self.told(assignments.main, text, told)
         self.program_told(LINE_OF_BLOCKS, *self.audit_words(text))
@@ -320,7 +367,11 @@ class Inputs(WithProgram):
         found = self.run_tool(grouping.main, path, "--group", "District", *self.census_words())
         self.assertEqual((found.status, len(found.text.splitlines())), (0, len(rows)), found.told)
         self.told(people.main, text, "choose the column by --people")
+        told = "if the lines are counties, tools/grouping.py takes them"
+        self.told(assignments.main, text, told)
         self.grouping_told(text)
+        told = "is no grouping: give a list of the groups, each its counties and their seats"
+        self.told_by_package(lambda: countygroups.judge(path, self.problem()), told)
 
     def grouping_told(self, text: str) -> None:
         """Wants the program to refuse a table as a grouping, and to say what a line has."""
@@ -329,16 +380,29 @@ class Inputs(WithProgram):
         self.program_told(told, "judge", *words, "--grouping", self.file("grouping", text))
 
     def test_groups_by_blocks(self) -> None:
-        text = "GEOID20,District\n{},1\n{},2\n".format(*BLOCKS)
-        words = ["--group", "District", *self.census_words()]
-        told = "which the geographic header doesn't have"
-        self.told(grouping.main, text, told, *words)
+        """Those of a county may stand on several lines, in one group."""
+        text = "GEOID20,District\n{0},1\n{0},1\n{1},2\n".format(*BLOCKS)
+        self.told(grouping.main, text, "choose the groups by --group")
+        path = self.file("grouping", text)
+        words = ["--group", "District", "--people", self.file("people.csv", WANTED)]
+        found = self.run_tool(grouping.main, path, *words, "--chamber", "2")
+        self.assertEqual((found.status, found.text), (0, "1|37001\n2|37183\n"), found.told)
+        self.told(grouping.main, text + f"{BLOCKS[1]},1\n", "a group has whole counties", *words)
+        precincts = "GEOID20,District\n37001000012,1\n"
+        self.told(grouping.main, precincts, "export the groups by counties or by blocks", *words)
         self.grouping_told(text)
+        given = self.problem()
+        told = "no county is '370010201001000'. A group has counties, such as '37001'"
+        self.told_by_package(lambda: countygroups.judge([([BLOCKS[0]], 1)], given), told)
 
     def test_json_of_districtr(self) -> None:
         text = json.dumps({"plan": {"assignment": {BLOCKS[0]: 0}}, "placeId": "northcarolina"})
         self.told(assignments.main, text, "is JSON, and no table: export it as CSV")
-        self.paths_told(text)
+        told = "is a path of JSON, and no counties. .* What Districtr stores is a plan, for audit"
+        self.told_by_package(lambda: read_counties(self.file("table", text)), told)
+        both = {"assignment": {BLOCKS[0]: 1, BLOCKS[1]: 2}, "placeId": "northcarolina"}
+        for held in (both, {"plan": both}):
+            self.audited_by_package(json.dumps(held))
 
     def test_csv_of_districtr(self) -> None:
         text = "id-northcarolina-blocks,assignment\n{},1\n{},2\n".format(*BLOCKS)
@@ -346,6 +410,7 @@ class Inputs(WithProgram):
         found = self.run_tool(assignments.main, self.file("plan", text), "--block", "1")
         self.assertEqual((found.status, found.text), (0, PLAN), found.told)
         self.audited(text)
+        self.audited_by_package(text)
 
     def test_block_assignment_zip(self) -> None:
         texts = {f"BlockAssign_ST37_NC_{name}.txt": PLAN for name in ("SLDL", "SLDU")}
@@ -353,6 +418,9 @@ class Inputs(WithProgram):
         name = "BlockAssign_ST37_NC_SLDU.txt"
         found = self.run_tool(assignments.main, self.file("a", zip_of({**texts})), "--member", name)
         self.assertEqual((found.status, found.text), (0, PLAN), found.told)
+        told = "has 2 files: unpack it, and give that of the chamber's districts. They are Block"
+        self.told_by_package(lambda: self.audit_by_package(zip_of({**texts})), told)
+        self.audited_by_package(zip_of({name: PLAN}))
 
     def test_other_packings(self) -> None:
         text = test_people.TABLE.encode()

@@ -124,7 +124,7 @@ list_missing() {
     while read -r -a names; do
         [ "${#names[@]}" = 0 ] || list_missing_modules "${names[@]}"
     done <<<"$modules"
-    for name in sf igraph generics; do
+    for name in sf igraph generics jsonlite; do
         has_r_package "$name" || echo "r-cran-$name the R package $name"
     done
 }

@@ -177,7 +177,9 @@ class Refusals(PageRoom):
         for text in texts:
             path = self.file("o.geojson", text)
             self.refuses(
-                "The outlines o.geojson aren't GeoJSON with a list of features.", outlines=path
+                "The outlines o.geojson aren't GeoJSON with a list of features: export the "
+                "counties as GeoJSON, by a GIS or by ogr2ogr.",
+                outlines=path,
             )
         feature: dict[str, Any] = {
             "type": "Feature",

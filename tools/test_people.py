@@ -451,11 +451,12 @@ class Refusals(Made):
 
     def test_json(self) -> None:
         other = "The file table is JSON, and no list of lists with the names of the columns in the "
-        other += "first, as the Census Bureau's API answers."
+        other += "first, as the Census Bureau's API answers: export the table as CSV, as that of a "
+        other += "graph's nodes."
         for text in ('{"type": "FeatureCollection"}', "[]", "[5]", '["a"]', "[[]]"):
             self.refused(text, other)
         for text in ("[[", '[["a"', "[" * 100_000):
-            self.refused(text, "The file table begins as JSON, and isn't whole.")
+            self.refused(text, "The file table begins as JSON, and isn't whole: ask for it again.")
         told = "Row 2 of table has another number of fields (1) than the first (2)."
         self.refused('[["GEOID", "POP"], ["37001"]]', told)
 

@@ -24,6 +24,7 @@ FILES = {
     "adjacency": "x|37001|y|37003\nx|37003|y|37005\nx|37005|y|37007\n",
     "borders": "-|37001|37003\n",
 }
+PEOPLE = "county,people\n" + "".join(f"3700{2 * i + 1},50\n" for i in range(4))
 CLOSING = b"+|37007|37001"
 HEADER = ",".join(what_if.HEADER)
 TABLE = [HEADER, ",,,2,0,0 2,nothing"]
@@ -45,11 +46,13 @@ class Tables(unittest.TestCase):
         with open(os.path.join(self.room, name), "wb") as file:
             file.write(held)
 
-    def run_with(self, links: bytes) -> subprocess.CompletedProcess[str]:
-        """Runs the tool with a file of these links."""
+    def run_with(
+        self, links: bytes, counts: tuple[str, ...] = ("geo", "segment")
+    ) -> subprocess.CompletedProcess[str]:
+        """Runs the tool with a file of these links and the files `counts`."""
         self.store("links", links)
         words = ["--program", TESTED.program, "--chamber", "2", "--jobs", "1"]
-        for name in ("geo", "segment", "adjacency", "borders", "links"):
+        for name in (*counts, "adjacency", "borders", "links"):
             words += [f"--{name}", os.path.join(self.room, name)]
         command = [sys.executable, what_if.__file__, *words]
         return subprocess.run(command, capture_output=True, text=True, check=False)
@@ -59,6 +62,18 @@ class Tables(unittest.TestCase):
         for links in (CLOSING + b"\n", CLOSING):
             done = self.run_with(links)
             self.assertEqual((done.returncode, done.stdout.splitlines()), (0, TABLE), done.stderr)
+
+    def test_a_people_file(self) -> None:
+        self.store("people", PEOPLE.encode())
+        done = self.run_with(CLOSING, ("people",))
+        self.assertEqual((done.returncode, done.stdout.splitlines()), (0, TABLE), done.stderr)
+
+    def test_counts_of_two_kinds(self) -> None:
+        self.store("people", PEOPLE.encode())
+        for counts in (("people", "geo"), ("people", "geo", "segment"), ("segment",), ()):
+            done = self.run_with(CLOSING, counts)
+            self.assertEqual((done.returncode, done.stdout), (2, ""))
+            self.assertIn("give --geo and --segment, or --people", done.stderr)
 
     def test_links_that_are_no_text(self) -> None:
         """Links that aren't UTF-8 are refused by the program, in one line."""

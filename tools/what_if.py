@@ -1,9 +1,10 @@
 #!/usr/bin/env python3
 """Tells which disputed borders matter: solves and lists a chamber with each added or cut alone.
 
-usage: python3 tools/what_if.py --program FILE --geo FILE --segment FILE --adjacency FILE
-           --chamber SEATS --borders FILE [--links FILE] [--withdrawn FILE] [--state CODE]
-           [--part PART --of OF] [--jobs JOBS]
+usage: python3 tools/what_if.py --program FILE COUNTS --adjacency FILE --chamber SEATS
+           --borders FILE [--links FILE] [--withdrawn FILE] [--state CODE] [--part PART --of OF]
+           [--jobs JOBS]
+       COUNTS is --geo FILE --segment FILE, or --people FILE.
 
 Each line of the borders is one of a links file: `+|CODE|CODE` adds a pair, `-|CODE|CODE` cuts one.
 Standard output is a CSV table: a line for the problem as it is, and then one for each border. A
@@ -29,7 +30,7 @@ from script_words import ScriptWords
 
 HEADER = ["SIGN", "COUNTY", "NEIGHBOR", "BEST_GROUPINGS", "SHARED_GROUPS", "COUNTS", "CHANGES"]
 LINK = re.compile(r"([+-])\|([0-9]{5})\|([0-9]{5})")
-OPTIONS = ["geo", "segment", "adjacency", "chamber", "withdrawn", "state", "part", "of"]
+OPTIONS = ["geo", "segment", "people", "adjacency", "chamber", "withdrawn", "state", "part", "of"]
 
 
 @dataclass(frozen=True)
@@ -137,12 +138,15 @@ class Runs:
 def arguments(words: list[str]) -> argparse.Namespace:
     """Returns the words of the command."""
     parser = ScriptWords(__doc__)
-    for name in ["program", "geo", "segment", "adjacency", "chamber", "borders"]:
+    for name in ["program", "adjacency", "chamber", "borders"]:
         parser.add_argument(f"--{name}", required=True)
+    parser.add_counts()
     for name in ["links", "withdrawn", "state", "part", "of"]:
         parser.add_argument(f"--{name}")
     parser.add_argument("--jobs", type=int, default=os.cpu_count() or 1)
-    return parser.parse_args(words)
+    given = parser.parse_args(words)
+    parser.check_counts(given)
+    return given
 
 
 def main(words: list[str]) -> int:

@@ -263,6 +263,8 @@ def _pairs_of_file(path: str, table: CountyTable) -> list[Pair]:
         raise InputError(f"The adjacency file {path} can't be read: {fault.strerror}.") from fault
     if not any(geoid_of(one) for one, _ in found):
         told = "has a county's GEOID as the second field, at pipes or tabs"
-        raise InputError(f"No line of {path} {told}: put these there, or give pairs of labels.")
+        remedy = "put these there, or give pairs of labels. Unpack what is packed. Of shapes give"
+        shapes_told = "the table that geopandas.read_file reads as the counties"
+        raise InputError(f"No line of {path} {told}: {remedy} {shapes_told}.")
     listed = [pair for pair in found if pair[0] in label_of and pair[1] in label_of]
     return [(label_of[one], label_of[other]) for one, other in listed]

@@ -1,6 +1,7 @@
 """What else the program is asked of a problem: seats by county, a grouping, a plan."""
 from __future__ import annotations
 
+import os
 from dataclasses import dataclass
 from typing import Any, Iterable, Mapping, Sequence
 
@@ -9,12 +10,17 @@ from .adjacency import Adjacency
 from .answer import Answer
 from .best_groupings import UNBOUNDED
 from .codes import Label, codes_of, plain
-from .counties import PEOPLE_FIELD, People, rows_of, whole_people
+from .counties import PEOPLE_FIELD, People, is_table, rows_of, whole_people
 from .errors import InputError
 from .groups import Group
+from .plans import plan_of
 from .precincts import LabelFinder, field_of
 from .problem import MOST_SEATS, Problem, Tolerance, table_of, tolerance_of, whole_number
 from .program import find_program
+
+
+# A grouping, for whoever gave something else.
+GROUPS = '[(["37001", "37135"], 2), (["37183"], 6)]'
 
 
 @dataclass(frozen=True)
@@ -76,10 +82,13 @@ def judge(grouping: Iterable[Any], of: Answer | Problem) -> Verdict:
     """Judges whether a grouping is lawful, and by the certificate of an answer whether it is best.
 
     `grouping` has groups, each a `Group` or the labels and the seats. `of` is the answer whose
-    problem and certificate count, or a problem, which has no certificate. Raises `InputError` if a
-    group names no county.
+    problem and certificate count, or a problem, which has no certificate. Raises `InputError` if
+    there are no groups, or if one names no county.
     """
     problem = of.problem if isinstance(of, Answer) else of
+    if isinstance(grouping, (str, os.PathLike)) or is_table(grouping):
+        told = "A path or a table is no grouping: give a list of the groups, each its counties and"
+        raise InputError(f"{told} their seats, as {GROUPS}.")
     groups = [one if isinstance(one, Group) else _group_of(one, problem) for one in grouping]
     given = {files.GROUPING: files.text_of(tables.grouping_lines(problem, groups))}
     words = ["--grouping", files.GROUPING]
@@ -97,12 +106,13 @@ def judge(grouping: Iterable[Any], of: Answer | Problem) -> Verdict:
 def _group_of(given: Any, problem: Problem) -> Group:
     """Returns the group of its labels and its seats. Raises `InputError` if it is none."""
     if isinstance(given, str) or not hasattr(given, "__len__") or len(given) != 2:
-        raise InputError(f"{given!r} is no group: its counties, and their seats.")
+        raise InputError(f"{given!r} is no group: give its counties and their seats.")
     people = {county.label: county.people for county in problem.counties}
     labels = tuple(plain(one) for one in given[0])
     lacking = [label for label in labels if label not in people]
     if lacking:
-        raise InputError(f"The group {given!r}: no county is {lacking[0]!r}.")
+        told = f"The group {given!r}: no county is {lacking[0]!r}"
+        raise InputError(f"{told}. A group has counties, such as {next(iter(people))!r}.")
     return Group(labels, plain(given[1]), sum(people[label] for label in labels))
 
 
@@ -131,19 +141,18 @@ def audit(
 
     The bounds of a district are those of the chamber.
 
-    `plan` is a dict or a Series from precincts to districts, such as the assignment of a
-    `Partition` of GerryChain. `precincts` is the graph, table or dict that has their people and
-    counties, in the attributes or columns `people` and `county`. Blocks do as well. `number` picks
-    one of the best groupings, as in `Answer.grouping`.
+    `plan` is a dict or a Series from precincts to districts, a `Partition` of GerryChain, what the
+    JSON of Districtr has, or the path of a file: of that JSON, or of a text with two columns, such
+    as a block assignment file. A file may be packed by gzip, or alone in a zip archive. `precincts`
+    is the graph, table or dict that has their people and counties, in the attributes or columns
+    `people` and `county`. Blocks do as well. `number` picks one of the best groupings, as in
+    `Answer.grouping`.
 
-    Raises `InputError` if the plan names no precinct, or if the people of a county's precincts
-    aren't those of the answer.
+    Raises `InputError` if the plan can't be read or names no precinct, or if the people of a
+    county's precincts aren't those of the answer.
     """
     units = _Units(precincts, answer.problem, county, people)
-    districts = {plain(unit): plain(district) for unit, district in plan.items()}
-    unknown = [unit for unit in districts if unit not in units.code_of]
-    if unknown:
-        raise InputError(f"The plan names {unknown[0]!r}, which is no precinct.")
+    districts = plan_of(plan, units.code_of)
     names = [one for one in dict.fromkeys(districts.values()) if one is not None]
     number_of = {name: str(place) for place, name in enumerate(names, 1)}
     lines = [

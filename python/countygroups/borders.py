@@ -6,7 +6,7 @@ from pathlib import Path
 from typing import FrozenSet, Iterable, Tuple
 
 from .codes import Label, geoid_of
-from .counties import CountyTable
+from .counties import OF_JSON, CountyTable
 from .errors import InputError
 
 Pair = Tuple[Label, Label]
@@ -18,10 +18,6 @@ SOURCE = "borders_source.txt"
 FOLDERS = (
     Path(__file__).resolve().parent / "data",
     Path(__file__).resolve().parents[2] / "data" / "nc2020",
-)
-OF_JSON = (
-    "Of a dual graph give the graph, by Graph.from_json of GerryChain or adjacency_graph of "
-    "networkx. Of GeoJSON give the table that geopandas.read_file reads as the counties."
 )
 WORDS = "of North Carolina's border list in this package, which isn't the Census Bureau's file"
 

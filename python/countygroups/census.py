@@ -49,10 +49,12 @@ def read_census(geo: Path, segment: Path) -> dict[str, dict[str, Any]]:
     for county in _headers(geo):
         number = people.get(county.record, "")
         if not number.isdecimal():
-            raise InputError(f"County {county.geoid} of {geo} has no people in {segment}.")
+            told = f"County {county.geoid} of {geo} has no people in {segment}"
+            raise InputError(f"{told}: give segment 1 of the same files, as nc000012020.pl.")
         found[county.geoid] = {"people": int(number), "NAME": county.name or county.geoid}
     if not found:
-        raise InputError(f"No line of {geo} is that of a county.")
+        told = f"No line of {geo} is that of a county: give the geographic header of PL 94-171"
+        raise InputError(f"{told}. A people file is read by read_people, a table by pandas.")
     return found
 
 

@@ -24,6 +24,13 @@ STATE_AND_COUNTY = (
 PEOPLE_FIELD = "people"
 NAME_FIELDS = ("NAME", "NAME20", "NAME10")
 
+# What to give in the place of a file of JSON.
+OF_JSON = (
+    "Of a dual graph give the graph, by Graph.from_json of GerryChain or adjacency_graph of "
+    "networkx. Of GeoJSON give the table that geopandas.read_file reads as the counties. What "
+    "Districtr stores is a plan, for audit."
+)
+
 # A whole number, also with commas at each third digit.
 WHOLE = re.compile(r"[0-9]+|[0-9]{1,3}(?:,[0-9]{3})+")
 
@@ -107,10 +114,30 @@ def rows_of(given: Any) -> list[Row]:
     if isinstance(given, Mapping) or is_series(given):
         return [_row_of_item(plain(key), value) for key, value in given.items()]
     if isinstance(given, (str, os.PathLike)):
-        told = f"{os.fspath(given)} is a path, and no counties: read it by geopandas.read_file"
-        raise InputError(f"{told}, pandas.read_csv, read_census or read_people.")
+        raise InputError(_told_of_path(os.fspath(given)))
     told = f"{type(given).__name__} is no table, no graph, no dict and no Series of counties"
     raise InputError(f"{told}: see `help(countygroups.solve)`.")
+
+
+def _told_of_path(path: str) -> str:
+    """Returns the words that say by what a file is read, whose path was given as the counties."""
+    first = first_sign(path)
+    if first == "[":
+        told = f"{path} is a path of JSON, and no counties: by rows = json.load(open(path))"
+        return f"{told} give pandas.DataFrame(rows[1:], columns=rows[0])."
+    if first == "{":
+        return f"{path} is a path of JSON, and no counties. {OF_JSON}"
+    told = f"{path} is a path, and no counties: read it by geopandas.read_file, pandas.read_csv"
+    return f"{told}, pandas.read_excel, read_census or read_people."
+
+
+def first_sign(path: str) -> str:
+    """Returns the first sign of a text that isn't blank, or nothing if there is no such file."""
+    try:
+        with open(path, "rb") as file:
+            return file.read(64).decode("utf-8-sig", errors="replace").lstrip()[:1]
+    except OSError:
+        return ""
 
 
 def _rows_of_table(table: Any) -> list[Row]:

@@ -7,6 +7,7 @@ from typing import Any, Sequence
 from .census import Path
 from .errors import InputError
 
+REMEDY = "tools/people.py makes a people file of other tables"
 GEOID = re.compile(r"[0-9]{5}")
 COUNT = re.compile(r"[0-9]+")
 MOST_PEOPLE = 4_294_967_295
@@ -34,11 +35,11 @@ def read_people(path: Path) -> dict[str, dict[str, Any]]:
         if not why and row[0] in found:
             why = f"has county {row[0]}, which stands before"
         if why:
-            raise InputError(f"Line {number} of {path} {why}.")
+            raise InputError(f"Line {number} of {path} {why}: {REMEDY}.")
         found[row[0]] = {"people": _people(row[1]), "NAME": "".join(row[2:]) or row[0]}
     if not found:
         told = f"No line of {path} is that of a county"
-        raise InputError(f"{told}: tools/people.py makes a people file of other tables.")
+        raise InputError(f"{told}: {REMEDY}.")
     return found
 
 
@@ -80,8 +81,7 @@ def _people(digits: str) -> int:
 def _fault(row: Sequence[str]) -> str:
     """Returns what is wrong with the fields of a line, or an empty text."""
     if not 2 <= len(row) <= 3:
-        form = "hasn't a county's code, its people and at most a name"
-        return f"{form}: tools/people.py makes such a file of other tables"
+        return "hasn't a county's code, its people and at most a name"
     if not GEOID.fullmatch(row[0]):
         return f"has {row[0]!r}, and a county's code has five digits"
     if not COUNT.fullmatch(row[1]) or _people(row[1]) > MOST_PEOPLE:

@@ -1,12 +1,18 @@
 """Tests of what comes after an answer: bounds, seats by county, precincts, the judge, an audit."""
 from __future__ import annotations
 
+import gzip
+import json
+import tempfile
 import unittest
+import zipfile
 from fractions import Fraction
+from pathlib import Path
 from typing import Any
 
 import countygroups
 from countygroups import Finding, InputError, NoBestGrouping
+from countygroups.plans import plan_of
 from tests import setting
 from tests.setting import needs_program, solved_path
 
@@ -163,8 +169,15 @@ class Judging(unittest.TestCase):
         verdict = countygroups.judge([(["A"], 1), (["B", "C"], 1), (["D"], 2)], answer)
         self.assertEqual((verdict.outcome, verdict.greater), ("fault", ()))
         self.assertTrue(verdict.fault.startswith("OutOfWindow"), verdict)
-        with self.assertRaisesRegex(InputError, "no county is 'X'"):
+        with self.assertRaisesRegex(InputError, "no county is 'X'. A group has counties, such as"):
             countygroups.judge([(["X"], 1)], answer)
+
+    def test_what_is_no_grouping(self) -> None:
+        told = "is no grouping: give a list of the groups, each its counties and their seats, as"
+        others: list[Any] = ["senate.grouping", Path("groups.csv"), Table()]
+        for given in others:
+            with self.assertRaisesRegex(InputError, told):
+                countygroups.judge(given, solved_path())
 
 
 @needs_program
@@ -178,6 +191,11 @@ class Audits(unittest.TestCase):
 
     def test_nothing_is_found(self) -> None:
         self.assertEqual(self.audit(PLAN), ())
+        with tempfile.TemporaryDirectory() as room:
+            path = Path(room) / "plan.json"
+            path.write_text(json.dumps({"assignment": PLAN}), encoding="utf-8")
+            self.assertEqual(self.audit(path), ())
+            self.assertEqual(self.audit(str(path)), ())
 
     def test_district_across_two_groups(self) -> None:
         found = self.audit({**PLAN, 4: "ab"})
@@ -193,12 +211,111 @@ class Audits(unittest.TestCase):
         self.assertIn(Finding("Unassigned", "7"), self.audit({**PLAN, 7: None}))
 
     def test_refused(self) -> None:
-        with self.assertRaisesRegex(InputError, "names 'x', which is no precinct"):
+        told = "names 'x', which is no precinct: it takes nodes, keys or the table's index, such as"
+        with self.assertRaisesRegex(InputError, told):
             self.audit({**PLAN, "x": "c"})
         other = precincts()
         other.nodes[0]["TOTPOP"] = 26
         with self.assertRaisesRegex(InputError, "of A have 51 people, and the county has 50"):
             self.audit(PLAN, precincts=other)
+
+
+class Table:
+    """Has what a table of pandas has, as far as it is looked at."""
+
+    columns = index = to_dict = ()
+
+
+class Partition:
+    """Has what a partition of GerryChain has: the districts by node."""
+
+    def __init__(self, assignment: dict[Any, Any]) -> None:
+        self.assignment = assignment
+
+
+class Plans(unittest.TestCase):
+    """Tests the forms of a plan. In files the nodes of the graph are texts."""
+
+    texts = {str(unit): district for unit, district in PLAN.items()}
+
+    def setUp(self) -> None:
+        room = tempfile.TemporaryDirectory()
+        self.addCleanup(room.cleanup)
+        self.room = Path(room.name)
+
+    def of_file(self, name: str, held: str | bytes) -> Any:
+        """Returns the plan of a file of this name."""
+        path = self.room / name
+        path.write_bytes(held.encode() if isinstance(held, str) else held)
+        return plan_of(path, PLAN)
+
+    def zipped(self, **members: str) -> bytes:
+        """Returns a zip archive of texts."""
+        path = self.room / "made.zip"
+        with zipfile.ZipFile(path, "w") as archive:
+            for name, text in members.items():
+                archive.writestr(name, text)
+        return path.read_bytes()
+
+    def test_objects(self) -> None:
+        parsed = {"assignment": self.texts, "idColumn": {"key": "id"}}
+        for given in (PLAN, Partition(PLAN), self.texts, parsed, {"plan": parsed}):
+            self.assertEqual(plan_of(given, PLAN), PLAN)
+
+    def test_units_without_a_district(self) -> None:
+        nones: list[Any] = [None, float("nan"), "", "ZZZ", "unassigned", []]
+        for none in nones:
+            self.assertEqual(plan_of({0: none, 1: [4]}, PLAN), {0: None, 1: 4})
+
+    def test_json_of_districtr(self) -> None:
+        parsed = {"assignment": self.texts, "placeId": "x"}
+        for held in (parsed, {"plan": parsed}):
+            self.assertEqual(self.of_file("plan.json", json.dumps(held)), PLAN)
+        for wrong in ('{"assignment": [1]}', "[[1]]", '{"nodes": []}'):
+            with self.assertRaisesRegex(InputError, 'without the "assignment" .*: give a CSV'):
+                self.of_file("plan.json", wrong)
+        with self.assertRaisesRegex(InputError, "begins as JSON, .* Export it again, or as CSV"):
+            self.of_file("plan.json", '{"assignment": {')
+
+    def test_texts(self) -> None:
+        for mark in ",;|\t":
+            lines = "".join(f"{unit}{mark}{district}\n" for unit, district in PLAN.items())
+            for head in ("", f"GEOID20{mark}District\n", f"\ufeffBLOCKID{mark}DISTRICT\n"):
+                for end in ("\n", "\r\n", "\r"):
+                    text = (head + lines).replace("\n", end)
+                    self.assertEqual(self.of_file("plan.txt", text), PLAN, text)
+        text = "a,b\n" + "".join(f'"{unit}","{district}"\n' for unit, district in PLAN.items())
+        self.assertEqual(self.of_file("plan.csv.gz", gzip.compress(text.encode())), PLAN)
+        self.assertEqual(self.of_file("plan.zip", self.zipped(plan=text)), PLAN)
+
+    def test_refused_files(self) -> None:
+        several = self.zipped(BlockAssign_SLDL="1,2", BlockAssign_SLDU="1,2")
+        workbook = self.zipped(**{"xl/workbook.xml": "<x/>"})
+        wrong: list[tuple[str | bytes, str]] = [
+            (several, "has 2 files: unpack it, .* They are BlockAssign_SLDL, BlockAssign_SLDU"),
+            (workbook, "is a workbook: save its sheet as CSV"),
+            (several[:60], "can't be read: "),
+            (gzip.compress(b"0,ab")[:-9], "can't be read: "),
+            (b"SQLite format 3\0", "is no text in UTF-8: export it as CSV"),
+            ("0,ab\n1,ab,x\n", "has 3 columns, .*: give a Series, as pandas.read_csv"),
+            ("id,d\n", "has no line of a precinct below its header: export the plan"),
+            ("0,ab\n0,c\n", "has '0' in two districts: leave one of its lines"),
+            ("0,ab\n9,c\n", "names '9', which is no precinct: it takes nodes, keys or"),
+        ]
+        for held, told in wrong:
+            with self.subTest(told=told), self.assertRaisesRegex(InputError, told):
+                self.of_file("plan", held)
+        with self.assertRaisesRegex(InputError, "nowhere can't be read: No such file"):
+            plan_of(self.room / "nowhere", PLAN)
+
+    def test_refused_objects(self) -> None:
+        for given, told in [
+            (Table(), "A table is no plan: give its column of districts, with the precincts as"),
+            (["ab"], "list is no plan: give a dict or a Series from precincts to districts"),
+            ({0: ["ab", "c"]}, "has a precinct in the districts .*: give it one"),
+        ]:
+            with self.subTest(told=told), self.assertRaisesRegex(InputError, told):
+                plan_of(given, PLAN)
 
 
 if __name__ == "__main__":

@@ -3,10 +3,10 @@
 # Returns `listed`, `added` and `cut`, each a matrix of two columns, and `source` in words.
 #
 # `given` is "edges" or "points" for shapes, the path of a file in the layout of the Census Bureau's
-# county adjacency file, a matrix or data frame of two columns of labels, a square matrix, a graph
-# of igraph, a list of neighbours by label, or a list of neighbours by place as `sf`, `spdep` and
-# `redist` have them. Without it the counties of North Carolina have the list of this package, and
-# other shapes their edges. Warns of what shapes and graphs don't show.
+# county adjacency file or of a dual graph in JSON, a matrix or data frame of two columns of labels,
+# a square matrix, a graph of igraph, a list of neighbours by label, or a list of neighbours by
+# place as `sf`, `spdep` and `redist` have them. Without it the counties of North Carolina have the
+# list of this package, and other shapes their edges. Warns of what shapes and graphs don't show.
 adjacency_of <- function(given, counties, table, added = NULL, cut = NULL) {
   found <- if (is.null(given)) {
     usual_pairs(counties, table$label)
@@ -45,7 +45,9 @@ usual_pairs <- function(counties, labels) {
 pairs_of <- function(given, counties, labels) {
   if (is.character(given) && length(given) == 1) {
     if (given %in% c("edges", "points")) return(pairs_of_shapes(counties, given))
-    return(found_pairs(pairs_of_file(given, labels), paste("of", basename(given))))
+    source <- paste("of", basename(given))
+    if (is_json_path(given)) return(found_pairs(pairs_of_graph_file(given, labels), source, TRUE))
+    return(found_pairs(pairs_of_file(given, labels), source))
   }
   if (is_square(given, labels)) {
     pairs <- unname(which(given != 0, arr.ind = TRUE))
@@ -138,14 +140,11 @@ pairs_of_file <- function(path, labels) {
     stop_input("An adjacency file takes GEOIDs such as 37183 as labels, ", told)
   }
   if (!file.exists(path)) stop_input("The adjacency file ", path, " can't be read.")
-  if (begins_with(path, c("{", "["))) {
-    told <- " is JSON: give a graph of igraph, or a list of neighbours, in its place."
-    stop_input(path, told)
-  }
   words <- geoid_pairs_of(path)
   if (!any(grepl("^[0-9]{5}$", words[, 1]))) {
     told <- " has a county's GEOID as the second field, at pipes or tabs: "
-    stop_input("No line of ", path, told, "put these there, or give a table of pairs.")
+    remedy <- "put these there, or give a table of pairs. Of shapes give what sf::st_read reads"
+    stop_input("No line of ", path, told, remedy, " as the counties.")
   }
   places <- matrix(match(words, geoids), ncol = 2)
   places[!is.na(places[, 1]) & !is.na(places[, 2]), , drop = FALSE]

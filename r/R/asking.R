@@ -31,6 +31,7 @@ judge_groups <- function(answer, groups) {
 }
 
 audit_plan <- function(answer, plan, counties, people, number = NULL) {
+  refuse_other_plans(plan, counties)
   problem <- answer$problem
   plan <- stats::setNames(as.character(plan), names(plan))
   units <- plan_units(problem, plan, counties, people)
@@ -47,6 +48,27 @@ audit_plan <- function(answer, plan, counties, people, number = NULL) {
   words <- c("--grouping", "grouping.txt", "--assignments", "assignments.csv")
   found <- read_findings(run_program(problem, "audit", words, given)$output)
   findings_of(found, districts, units)
+}
+
+# Stops if a plan is a path, a table or a list, and says how its districts are taken of these.
+refuse_other_plans <- function(plan, counties) {
+  ordered <- "give its districts in the order of `counties`, as "
+  by_column <- "plan$District[match(blocks$GEOID20, plan$GEOID20)]"
+  by_list <- "unlist(plan$assignment)[blocks$GEOID20]"
+  if (is.data.frame(plan)) stop_input("`plan` is a table: ", ordered, by_column, ".")
+  if (is.list(plan)) stop_input("`plan` is a list: ", ordered, by_list, " of Districtr's JSON.")
+  is_path <- is.character(plan) && length(plan) == 1 && length(counties) != 1
+  if (!is_path && !(length(plan) == 1 && file.exists(as.character(plan)))) return(invisible())
+  told <- paste0(plan, " is a path, and no plan: ", ordered)
+  if (is_json_path(plan)) {
+    stop_input(told, by_list, " of plan <- jsonlite::fromJSON(path).")
+  }
+  if (file.exists(plan) && begins_with(plan, "PK")) {
+    stop_input(plan, " is a zip archive: unpack it by utils::unzip, read the file of the chamber ",
+      "by read.table, and ", ordered, "plan$DISTRICT[match(blocks$GEOID20, plan$BLOCKID)]."
+    )
+  }
+  stop_input(told, by_column, " of plan <- read.csv(path, colClasses = \"character\").")
 }
 
 # Returns the code that each precinct gets, and its name, in a data frame. Stops if the vectors

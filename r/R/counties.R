@@ -16,12 +16,13 @@ most_counties <- 256
 
 # Returns a data frame with the columns `label`, `people` and `name`.
 #
-# `counties` is a data frame, an sf object or a named vector of people. `people`, `label` and `name`
-# are columns, and `people` may be a vector with the labels as names.
+# `counties` is a data frame, an sf object, a named vector of people, or the path of JSON. `people`,
+# `label` and `name` are columns, and `people` may be a vector with the labels as names.
 read_counties <- function(counties, people = NULL, label = NULL, name = NULL) {
   if (is.numeric(counties) && !is.null(names(counties))) {
     counties <- data.frame(GEOID = names(counties), people = unname(counties))
   }
+  if (is_json_path(counties)) counties <- counties_of_json(counties)$nodes
   if (is.character(counties) && length(counties) == 1) {
     told <- " is a path, and no counties: read it by sf::st_read, read.csv or read_census."
     stop_input(counties, told)
@@ -30,14 +31,20 @@ read_counties <- function(counties, people = NULL, label = NULL, name = NULL) {
     stop_input("`counties` is no data frame, no sf object and no named vector of people.")
   }
   if (nrow(counties) == 0) stop_input("There is no county.")
-  labels <- column_of(counties, label, label_columns)
-  if (is.null(labels)) labels <- joined_codes(counties)
-  if (is.null(labels)) labels <- row.names(counties)
-  if (is.factor(labels)) labels <- as.character(labels)
+  labels <- labels_in_frame(counties, label)
   names <- column_of(counties, name, name_columns)
   if (is.null(names)) names <- labels
   found <- people_of(counties, people, labels)
   data.frame(label = labels, people = found, name = as.character(names), stringsAsFactors = FALSE)
+}
+
+# Returns the labels of the rows of a data frame: those of the column that is asked, or of a usual
+# one, or the codes of two, or else the names of the rows.
+labels_in_frame <- function(counties, label = NULL) {
+  labels <- column_of(counties, label, label_columns)
+  if (is.null(labels)) labels <- joined_codes(counties)
+  if (is.null(labels)) labels <- row.names(counties)
+  if (is.factor(labels)) as.character(labels) else labels
 }
 
 # Returns the values of the column that is asked, or else of the first usual one that is there, or
@@ -76,7 +83,11 @@ people_of <- function(counties, people, labels) {
   } else {
     found <- column_of(counties, people, people_column)
     if (is.null(found)) {
-      stop_input("There is no column \"people\": say by `people =` where the people stand.")
+      told <- paste(names(counties), collapse = ", ")
+      stop_input(
+        "There is no column \"people\": say by `people =` where the people stand. The columns are ",
+        told, "."
+      )
     }
   }
   words <- trimws(as.character(found))

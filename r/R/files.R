@@ -4,11 +4,15 @@ read_census <- function(geo, segment) {
   people <- people_of_segment(segment)
   header <- header_of(geo)
   header <- header[header$sumlev == "050" & header$geocomp == "00", ]
-  if (nrow(header) == 0) stop_input("No line of ", geo, " is that of a county.")
+  if (nrow(header) == 0) {
+    told <- " is that of a county: give the geographic header of PL 94-171. Another table is read"
+    stop_input("No line of ", geo, told, " by read.csv, and JSON is taken as `counties`.")
+  }
   geoid <- paste0(header$state, header$county)
   found <- suppressWarnings(as.numeric(people[header$logrecno]))
   if (anyNA(found)) {
-    stop_input("County ", geoid[is.na(found)][1], " of ", geo, " has no people in ", segment, ".")
+    told <- paste0(" has no people in ", segment, ": give segment 1 of the same files.")
+    stop_input("County ", geoid[is.na(found)][1], " of ", geo, told)
   }
   data.frame(GEOID = geoid, NAME = ifelse(header$name == "", geoid, header$name), people = found)
 }
@@ -82,12 +86,19 @@ save_groups <- function(answer, folder) {
   invisible(folder)
 }
 
-# Returns the lines of a grouping text.
+# Returns the lines of a grouping text. Stops if `groups` are none.
 grouping_lines <- function(groups, codes) {
+  if (!is.data.frame(groups) || !all(c("seats", "counties") %in% names(groups))) {
+    told <- "`groups` is no data frame with the column `seats` and the list column `counties`: "
+    stop_input(told, "give one as the answer has it in `groups`.")
+  }
   vapply(seq_len(nrow(groups)), function(place) {
     labels <- groups$counties[[place]]
     found <- codes$code[match(as.character(labels), as.character(codes$label))]
-    if (anyNA(found)) stop_input("A group names ", labels[is.na(found)][1], ", which is no county.")
+    if (anyNA(found)) {
+      told <- paste0(", which is no county: a group has labels such as ", codes$label[1], ".")
+      stop_input("A group names ", labels[is.na(found)][1], told)
+    }
     paste(c(plain(groups$seats[place]), found), collapse = "|")
   }, "")
 }

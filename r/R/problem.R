@@ -17,6 +17,11 @@ block_field <- 10
 problem_of <- function(counties, seats, people, adjacency, added, cut, withdrawn, tolerance,
                        label, name, program) {
   seats <- whole_number(seats, 1, 1000, "seats")
+  if (is_json_path(counties)) {
+    found <- counties_of_json(counties)
+    counties <- found$nodes
+    if (is.null(adjacency)) adjacency <- found$adjacency
+  }
   table <- read_counties(counties, people, label, name)
   list(
     given = counties, table = table, seats = seats, codes = codes_of(table$label),

@@ -15,13 +15,15 @@ county_groups(counties, seats, people = NULL, adjacency = NULL, added = NULL,
 \method{print}{county_groups}(x, ...)
 }
 \arguments{
-\item{counties}{an \code{sf} object, a data frame, or people by label as a named vector}
+\item{counties}{an \code{sf} object, a data frame, people by label as a named vector, or the path of
+JSON: rows of the Census Bureau's API, or a dual graph, whose edges are then the borders if nothing is
+said (\code{\link{read_dual_graph}})}
 \item{seats}{the number of seats of the chamber, 1 to 1000}
 \item{people}{the column of people, or people by label as a named vector; \code{"people"} if nothing
 is said}
 \item{adjacency}{\code{"edges"} (shapes with an edge in common), \code{"points"} (also those that
-touch in a point), the path of a file in the layout of the Census Bureau's county adjacency file, a
-matrix or data frame of two columns of labels, a square matrix with a row for each county, a graph of
+touch in a point), the path of a file in the layout of the Census Bureau's county adjacency file, the
+path of a dual graph in JSON whose nodes have the labels or GEOIDs of the counties, a matrix or data frame of two columns of labels, a square matrix with a row for each county, a graph of
 \code{igraph}, a list of neighbours by label, or a list of neighbours by place as \code{sf},
 \code{spdep} and \code{redist} have them. If nothing is said, counties of North Carolina have the list
 of this package (see \code{\link{borders_source}}), and other shapes their common edges.}

@@ -220,10 +220,29 @@ test("inputs: PL 94-171 of 2010", {
   expect_equal(unlist(found[1, ]), c("37183", "Wake County", "900993"))
 })
 
+# Runs code over files of JSON, or wants it to be refused with what to do without jsonlite.
+with_json <- function(paths, read, code) {
+  if (requireNamespace("jsonlite", quietly = TRUE)) return(force(code))
+  for (path in paths) expect_refusal(read(path), "is JSON, which the package jsonlite reads")
+}
+
 test("inputs: JSON of the Census Bureau's API", {
   frame <- data.frame(P1_001N = as.character(two), state = "37", county = c("001", "183"))
   expect_equal(people_in(frame, people = "P1_001N"), unname(two))
   expect_equal(codes_in(frame, people = "P1_001N"), names(two))
+  rows <- c("[[\"NAME\",\"P1_001N\",\"state\",\"county\"],",
+    "[\"Alamance\",\"171415\",\"37\",\"001\"],", "[\"Wake\",1129410,\"37\",\"183\"]]"
+  )
+  path <- stored(rows)
+  with_json(path, input$read_counties, {
+    expect_equal(people_in(path, people = "P1_001N"), unname(two))
+    expect_equal(codes_in(path, people = "P1_001N"), names(two))
+    expect_equal(input$read_counties(path, people = "P1_001N")$name, c("Alamance", "Wake"))
+    expect_refusal(input$read_counties(stored(rows[1:2])), "ask for it again, or store it again")
+    expect_refusal(input$read_counties(stored("{\"type\": 1}")), "GeoJSON is read by sf::st_read")
+    expect_refusal(input$read_counties(stored("[[\"a\"],[1,2]]")), "neither a dual graph nor rows")
+    expect_refusal(borders_in(path), "is JSON without the nodes and the edges of a graph")
+  })
 })
 
 test("inputs: CSV of data.census.gov, two headings", {
@@ -277,18 +296,106 @@ test("inputs: county adjacency file with tabs", {
 
 test("inputs: county adjacency file with commas", {
   path <- stored("Alamance County,37001,Wake County,37183,1")
-  expect_refusal(borders_in(path), "has a county's GEOID as the second field, at pipes or tabs: put these there")
+  told <- "has a county's GEOID as the second field, at pipes or tabs: put these there"
+  expect_refusal(borders_in(path), told)
 })
 
+# The nodes are in another order than `two`, and one is in another state.
 test("inputs: dual graph in JSON", {
-  path <- stored("{\"nodes\": [{\"id\": 0}], \"adjacency\": [[]]}")
-  expect_refusal(borders_in(path), "is JSON: give a graph of igraph, or a list of neighbours")
+  nodes <- paste0("{\"directed\": false, \"nodes\": [",
+    "{\"GEOID20\": \"37183\", \"TOTPOP\": 1129410, \"boundary\": true, \"id\": 4}, ",
+    "{\"GEOID20\": \"37001\", \"TOTPOP\": 171415, \"boundary\": null, \"id\": \"x\"}, ",
+    "{\"GEOID20\": \"45001\", \"TOTPOP\": 7, \"boundary\": [], \"id\": 6}], "
+  )
+  near <- "\"adjacency\": [[{\"id\": \"x\"}, {\"id\": 6, \"w\": 2}], [{\"id\": 4}], [{\"id\": 4}]]}"
+  ends <- "[{\"source\": 4, \"target\": \"x\"}, {\"source\": 6, \"target\": 4}]}"
+  forms <- c(near, paste0("\"links\": ", ends), paste0("\"edges\": ", ends))
+  paths <- vapply(forms, function(form) stored(paste0(nodes, form)), "")
+  with_json(paths, borders_in, for (path in paths) {
+    expect_equal(suppressWarnings(borders_in(path)), cbind(1, 2))
+    graph <- read_dual_graph(path)
+    expect_equal(graph$nodes$TOTPOP, c(1129410, 171415, 7))
+    expect_equal(row.names(graph$nodes), c("4", "x", "6"))
+    expect_equal(lapply(graph$adjacency, sort), list(2:3, 1, 1))
+    expect_equal(people_in(path, people = "TOTPOP"), c(1129410, 171415, 7))
+    if (has_program) {
+      found <- suppressWarnings(solved(path, 5, people = "TOTPOP"))
+      expect_equal(nrow(found$adjacency$pairs), 2)
+      expect_equal(seat_sizes(path, 5, people = "TOTPOP")$label, c("37183", "37001", "45001"))
+    }
+  })
+  twice <- stored("{\"nodes\": [{\"id\": 1}, {\"id\": 1}], \"links\": []}")
+  other <- stored("{\"nodes\": [{\"id\": 1}], \"links\": [{\"source\": 1, \"target\": 2}]}")
+  alone <- stored("{\"nodes\": [{\"id\": 1}], \"adjacency\": [[]]}")
+  with_json(c(twice, other, alone), borders_in, {
+    expect_refusal(borders_in(twice), "Node 1 stands twice")
+    expect_refusal(borders_in(other), "has an edge of a node that it hasn't: store it again")
+    expect_refusal(borders_in(alone), "is one of the counties, such as 37001: name the nodes as")
+  })
+  expect_refusal(read_dual_graph("no.json"), "is no file of JSON: store the graph")
+})
+
+# An answer as far as `audit_plan` and `judge_groups` read it before they refuse something.
+unasked <- list(problem = list(table = data.frame(label = names(two), people = two)))
+audited <- function(plan) audit_plan(unasked, plan, rep(names(two), 2), rep(two / 2, 2))
+in_order <- "give its districts in the order of `counties`, as "
+blocks_of_csv <- "plan$District[match(blocks$GEOID20, plan$GEOID20)] of plan <- read.csv(path"
+
+test("inputs: plan by blocks", {
+  path <- stored(c("GEOID20,District", "370010201001000,1", "371830501001000,2"))
+  expect_refusal(audited(path), paste0(in_order, blocks_of_csv))
+  expect_refusal(audited("nowhere.csv"), paste0(in_order, blocks_of_csv))
+  expect_refusal(audited(utils::read.csv(path)), "`plan` is a table: give its districts")
+})
+
+test("inputs: plan by precincts", {
+  if (has_program) {
+    answer <- suppressWarnings(solved(two, 2, adjacency = cbind("37001", "37183")))
+    plan <- c("1", "2", "1", "2")
+    people <- c(100000, 71415, 550412, 578998)
+    counties <- rep(names(two), each = 2)
+    expect_equal(nrow(audit_plan(answer, plan, counties, people)), 0)
+    wrong <- audit_plan(answer, c("1", "1", "1", "2"), counties, people)
+    expect_equal(wrong$kind[1], "DistrictSize")
+  }
+  expect_refusal(audited(c("1", "2")), "have a value for each precinct, and differ")
+})
+
+test("inputs: grouping by counties", {
+  path <- stored(c("GEOID20,District", "37001,1", "37183,1"))
+  told <- "`groups` is no data frame with the column `seats` and the list column `counties`: give"
+  expect_refusal(judge_groups(unasked, path), told)
+  expect_refusal(judge_groups(unasked, utils::read.csv(path)), told)
+})
+
+test("inputs: groups drawn by blocks", {
+  groups <- data.frame(seats = 2)
+  groups$counties <- list("370010201001000")
+  codes <- input$codes_of(names(two))
+  told <- "names 370010201001000, which is no county: a group has labels such as 37001"
+  expect_refusal(input$grouping_lines(groups, codes), told)
 })
 
 test("inputs: JSON of Districtr", {
-  path <- stored("{\"plan\": {\"assignment\": {}}}")
-  expect_refusal(borders_in(path), "is JSON")
-  expect_refusal(input$read_counties(path), "is a path, and no counties")
+  path <- stored("{\"assignment\": {\"370010201001000\": 0}}")
+  told <- "unlist(plan$assignment)[blocks$GEOID20] of plan <- jsonlite::fromJSON(path)"
+  expect_refusal(audited(path), paste0(in_order, told))
+  expect_refusal(audited(list(assignment = list("1" = 0))), "`plan` is a list: give its districts")
+  with_json(path, input$read_counties, {
+    expect_refusal(input$read_counties(path), "What Districtr stores is a plan, for `audit_plan`")
+    expect_refusal(borders_in(path), "What Districtr stores is a plan, for `audit_plan`")
+  })
+})
+
+test("inputs: CSV of Districtr", {
+  path <- stored(c("id-northcarolina-blocks,assignment", "370010201001000,1"))
+  expect_refusal(audited(path), paste0(in_order, blocks_of_csv))
+})
+
+test("inputs: block assignment files in a zip", {
+  zip <- tempfile()
+  writeBin(as.raw(c(0x50, 0x4b, 3, 4, 20, 0)), zip)
+  expect_refusal(audited(zip), "is a zip archive: unpack it by utils::unzip, read the file of the")
 })
 
 test("inputs: xz, bzip2 or Excel", {
