@@ -149,7 +149,7 @@ function questionHtml(page, county, chosen, chamber) {
     <option value="${answer.key}"${answer.key === chamber ? " selected" : ""}>${answer.name}
     </option>`);
   return html`
-    <form id="why-form" class="needs-program"><fieldset><legend>Why isn’t
+    <form id="why-form" class="needs-program noprint"><fieldset><legend>Why isn’t
     ${countyName(geography, county)} grouped with ..</legend><div class="boxes">${boxes}</div>
     <div class="row"><label>Another county<select id="why-more">${list}
     </select></label><label>Chamber<select id="why-chamber">${chambers}</select></label>
