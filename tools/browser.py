@@ -14,7 +14,7 @@ from typing import Any
 
 from installed import program_there
 
-SECONDS = 180
+SECONDS = 300
 NAMES = ("chromium", "chromium-browser", "google-chrome")
 KEYS = {
     "Tab": 9,

@@ -157,15 +157,16 @@ export function keyItem(picture, words) {
  * Returns the picture of what a map hatches, or dots, for its key.
  * @param {"hatch" | "dots"} kind
  * @param {string} id  the id of its pattern, which no other element has
+ * @param {string} fill  the class of what is below the pattern
  */
-export function patternPicture(kind, id) {
+export function patternPicture(kind, id, fill) {
   const pattern = kind === "hatch" ? html`
     <pattern id="${id}" width="7" height="7" patternUnits="userSpaceOnUse"
     patternTransform="rotate(45)"><rect width="2.6" height="7" class="key-stripe"/></pattern>`
     : html`
     <pattern id="${id}" width="6" height="6" patternUnits="userSpaceOnUse"><circle cx="2" cy="2"
     r="1.2" class="key-dot"/></pattern>`;
-  const [fill, line] = kind === "hatch" ? ["tint0", "key-choice"] : ["key-land", "key-box"];
+  const line = kind === "hatch" ? "key-choice" : "key-box";
   return html`
     <defs>${pattern}</defs><rect x="1" y="1" width="28" height="16" class="${fill}"/><rect x="1"
     y="1" width="28" height="16" fill="url(#${id})" class="${line}"/>`;
@@ -181,7 +182,7 @@ export function keyHtml(answer, groups) {
     : `The same in all ${numberText(answer.number)} best groupings`;
   const seats = groups.reduce((most, group) => Math.max(most, group.seats), 0);
   const plain = html`<rect x=".5" y=".5" width="29" height="17" class="tint0 key-box"/>`;
-  const choice = patternPicture("hatch", "key-hatch");
+  const choice = patternPicture("hatch", "key-hatch", "tint0");
   const pill = html`
     <g class="badge"><rect x="6.5" y="1" width="17" height="16" rx="8"/><text x="15" y="13.5"
     font-size="12">${seats}</text></g>`;

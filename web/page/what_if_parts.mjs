@@ -77,10 +77,11 @@ export function mapKeyHtml({ answer }, { groups, newCounties }, likened, taken) 
     : number ? `one of the ${numberText(number)} best groupings` : "one of the best groupings";
   const fresh = isNew ? "one that has a new group, and otherwise " : "the one that has ";
   const why = number > 1 ? `: ${fresh}most groups of ${likened}` : "";
+  const hatch = patternPicture("hatch", "new-hatch", "new");
+  const dots = patternPicture("dots", "taken-dots", "key-land");
   const items = [
-    isNew ? keyItem(patternPicture("hatch", "new-hatch"), "A group that the base answer hasn’t")
-      : "",
-    taken ? keyItem(patternPicture("dots", "taken-dots"), "A county taken out") : "",
+    isNew ? keyItem(hatch, "A group that the base answer doesn’t have") : "",
+    taken ? keyItem(dots, "A county taken out") : "",
   ];
   const key = isNew || taken ? html`<ul class="key">${items}</ul>` : "";
   return html`<p class="note">The map shows ${which}${why}.</p>${key}`;
