@@ -9,11 +9,12 @@ import shutil
 import subprocess
 import tempfile
 import time
+from collections import deque
 from typing import Any
 
 from installed import program_there
 
-SECONDS = 180
+SECONDS = 300
 NAMES = ("chromium", "chromium-browser", "google-chrome")
 KEYS = {
     "Tab": 9,
@@ -27,6 +28,29 @@ KEYS = {
 }
 NO_WORDS = {" ": "Space"}
 SHIFT = 8
+# Chromium lets a page start ten downloads within a second of the first of them, and drops each
+# further one without a word. So one waits that would be the tenth within somewhat more than that.
+MOST_DOWNLOADS = 9
+DOWNLOAD_SECONDS = 1.1
+
+
+class DownloadPace:
+    """The times of the last downloads, by which the next one waits for its turn."""
+
+    def __init__(self) -> None:
+        """Has no download yet."""
+        self.ends: deque[float] = deque(maxlen=MOST_DOWNLOADS)
+
+    def left(self, now: float) -> float:
+        """Returns for how many seconds from `now` on no download may start."""
+        if len(self.ends) < MOST_DOWNLOADS:
+            return 0.0
+        return max(0.0, self.ends[0] + DOWNLOAD_SECONDS - now)
+
+    def note(self, now: float) -> None:
+        """Keeps `now` as the time of a download that ended. It started before, so that the next
+        ones wait long enough."""
+        self.ends.append(now)
 
 
 class Browser:
@@ -58,6 +82,7 @@ class Browser:
         self.session: str | None = None
         self.faults: list[str] = []
         self.events: list[str] = []
+        self.pace = DownloadPace()
         target = self.ask("Target.createTarget", url="about:blank")["targetId"]
         self.session = self.ask("Target.attachToTarget", targetId=target, flatten=True)["sessionId"]
         for domain in ("Page", "Runtime", "Log", "Network", "DOM"):
@@ -222,8 +247,9 @@ class Browser:
         return self.downloaded(folder)
 
     def allow_downloads(self, folder: str) -> None:
-        """Has what is downloaded from now on stored in a folder."""
+        """Has the next download stored in a folder, and waits until it may start."""
         os.makedirs(folder, exist_ok=True)
+        time.sleep(self.pace.left(time.monotonic()))
         self.ask("Browser.setDownloadBehavior", behavior="allow", downloadPath=folder)
 
     def downloaded(self, folder: str) -> str:
@@ -236,6 +262,7 @@ class Browser:
                 if not name.endswith(".crdownload") and not name.startswith(".")
             ]
             if names and os.path.getsize(path := os.path.join(folder, names[0])):
+                self.pace.note(time.monotonic())
                 return path
             time.sleep(0.02)
         raise RuntimeError("nothing was downloaded")

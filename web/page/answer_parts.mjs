@@ -145,31 +145,53 @@ export function optionDrawing(answer, choices) {
 }
 
 /**
+ * Returns an item of the key of a map.
+ * @param {Html} picture  what is drawn in 30 by 18 pixels
+ * @param {string} words
+ */
+export function keyItem(picture, words) {
+  return html`<li><svg width="30" height="18" aria-hidden="true">${picture}</svg>${words}</li>`;
+}
+
+/**
+ * Returns the picture of what a map hatches, or dots, for its key.
+ * @param {"hatch" | "dots"} kind
+ * @param {string} id  the id of its pattern, which no other element has
+ * @param {string} fill  the class of what is below the pattern
+ */
+export function patternPicture(kind, id, fill) {
+  const pattern = kind === "hatch" ? html`
+    <pattern id="${id}" width="7" height="7" patternUnits="userSpaceOnUse"
+    patternTransform="rotate(45)"><rect width="2.6" height="7" class="key-stripe"/></pattern>`
+    : html`
+    <pattern id="${id}" width="6" height="6" patternUnits="userSpaceOnUse"><circle cx="2" cy="2"
+    r="1.2" class="key-dot"/></pattern>`;
+  const line = kind === "hatch" ? "key-choice" : "key-box";
+  return html`
+    <defs>${pattern}</defs><rect x="1" y="1" width="28" height="16" class="${fill}"/><rect x="1"
+    y="1" width="28" height="16" fill="url(#${id})" class="${line}"/>`;
+}
+
+/**
  * Returns the key of the map.
  * @param {Answer} answer
  * @param {Group[]} groups
  */
 export function keyHtml(answer, groups) {
-  const item = (/** @type {Html} */ picture, /** @type {string} */ words) => (
-    html`<li><svg width="30" height="18" aria-hidden="true">${picture}</svg>${words}</li>`);
   const same = answer.number === 1 ? "A group of counties"
     : `The same in all ${numberText(answer.number)} best groupings`;
   const seats = groups.reduce((most, group) => Math.max(most, group.seats), 0);
   const plain = html`<rect x=".5" y=".5" width="29" height="17" class="tint0 key-box"/>`;
-  const choice = html`
-    <defs><pattern id="key-hatch" width="7" height="7" patternUnits="userSpaceOnUse"
-    patternTransform="rotate(45)"><rect width="2.6" height="7" class="key-stripe"/></pattern>
-    </defs><rect x="1" y="1" width="28" height="16" class="tint0"/><rect x="1" y="1" width="28"
-    height="16" fill="url(#key-hatch)" class="key-choice"/>`;
+  const choice = patternPicture("hatch", "key-hatch", "tint0");
   const pill = html`
     <g class="badge"><rect x="6.5" y="1" width="17" height="16" rx="8"/><text x="15" y="13.5"
     font-size="12">${seats}</text></g>`;
   const tie = html`<path class="tie-key" d="M3 9H27"/>`;
   const items = [
-    item(plain, same),
-    answer.areas.length ? item(choice, "An area where there is a choice") : "",
-    item(pill, "Seats of the group"),
-    item(tie, "Its counties meet over water there"),
+    keyItem(plain, same),
+    answer.areas.length ? keyItem(choice, "An area where there is a choice") : "",
+    keyItem(pill, "Seats of the group"),
+    keyItem(tie, "Its counties meet over water there"),
   ];
   return html`
     <p class="who noprint">Point at a group, or tap it, for its counties and people.</p>

@@ -1,10 +1,10 @@
-// A county's card as HTML: its people, its neighbors, and in both chambers with whom it stands, how
-// much room its groups have, and why it doesn't stand alone or with one neighbor.
+// A county's card as HTML: first with whom it stands in each chamber, and why; behind that its
+// people, its neighbors, all its groups with their room, and the question why not with others.
 
-import { groupsOf } from "./answers.mjs";
+import { groupsWith, optionsHaving, seatsWords, shortAnswers } from "./county_answer.mjs";
 import { byPeople, countyName, peopleOf, setKey } from "./geography.mjs";
 import { html } from "./html.mjs";
-import { hashOf } from "./page.mjs";
+import { answerFor, hashOf } from "./page.mjs";
 import { idealWords, neighborsOf, roomOf, suitingSeats } from "./seats.mjs";
 import {
   andList, capital, counted, countedInWords, nounFor, numberText, numberWord,
@@ -13,17 +13,6 @@ import {
 /** @typedef {import("./page.mjs").Page} Page */
 /** @typedef {import("./answers.mjs").Answer} Answer */
 /** @typedef {import("./answers.mjs").KnownGroup} KnownGroup */
-
-/**
- * Returns the numbers of the options that have a group, or null if they aren't numbered.
- * @param {Answer} answer
- * @param {KnownGroup} group
- */
-function optionsHaving(answer, group) {
-  return answer.options?.map((choices, at) => (
-    groupsOf(answer, choices).some((one) => one.id === group.id) ? at + 1 : 0)).filter(Boolean)
-    ?? null;
-}
 
 /**
  * Returns in which best groupings a group is.
@@ -56,7 +45,7 @@ function groupItem(page, answer, group, county) {
   const map = hashOf(page, `${answer.key}/${options?.[0] ?? 1}`);
   return html`
     <li>${others.length ? html`With <b>${names}</b>` : html`<b>Alone</b>`}:
-    ${counted(group.least, "seat")}, ${numberText(peopleOf(geography, group.counties))} people,
+    ${seatsWords(group)}, ${numberText(peopleOf(geography, group.counties))} people,
     ${room} for ${counted(group.least, "seat")}. <span class="note">${whenWords(answer, options)}.
     </span>${isEnacted ? html` <span class="tag">${census.enactedYear} plan</span>` : ""}
     <a class="after" href="${map}">Map</a></li>`;
@@ -113,7 +102,7 @@ function pairsHtml({ geography }, answer, county) {
  * @param {number} county
  */
 function chamberHtml(page, answer, county) {
-  const known = answer.groups.filter((group) => group.counties.includes(county));
+  const known = groupsWith(answer, county);
   const taken = answer.taken.find((set) => set.counties.includes(county));
   const items = taken ? html`<li>It was taken out beforehand, in a set of
     ${counted(taken.seats, "seat")}.</li>` : known.map((group) => (
@@ -124,33 +113,71 @@ function chamberHtml(page, answer, county) {
 }
 
 /**
- * Returns the question why a county isn't grouped with others: a box for each neighbor, and a list
- * of all other counties.
+ * Returns the counties that may be asked for: a box for each neighbor, and one for each county that
+ * is chosen; and a list of the others. Counties that a best grouping has in one group with the
+ * county are left out, because they are grouped with it.
  * @param {Page} page
  * @param {number} county
  * @param {number[]} chosen  the other counties that are asked for
  * @param {string} chamber  the key of the chamber that is asked of
  */
-function questionHtml({ geography, answers }, county, chosen, chamber) {
-  const near = byPeople(geography, neighborsOf(geography, county));
-  const further = chosen.filter((one) => !near.includes(one));
-  const boxes = [...near, ...further].map((one) => html`
+export function offeredHtml(page, county, chosen, chamber) {
+  const { geography } = page;
+  const own = new Set(groupsWith(answerFor(page, chamber), county).flatMap((one) => one.counties));
+  const near = neighborsOf(geography, county).filter((one) => !own.has(one));
+  const shown = byPeople(geography, near).concat(chosen.filter((one) => !near.includes(one)));
+  const boxes = shown.map((one) => html`
     <label><input type="checkbox" name="why-with" value="${one}"
     ${chosen.includes(one) ? "checked" : ""}>${countyName(geography, one)}</label>`);
   const all = geography.counties.map((other, place) => (
-    place === county || near.includes(place) ? "" : html`
+    place === county || own.has(place) || shown.includes(place) ? "" : html`
       <option value="${place}">${other.name}</option>`));
+  return { boxes: html`${boxes}`, list: html`<option value="">None</option>${all}` };
+}
+
+/**
+ * Returns the question why a county isn't grouped with others.
+ * @param {Page} page
+ * @param {number} county
+ * @param {number[]} chosen  the other counties that are asked for
+ * @param {string} chamber  the key of the chamber that is asked of
+ */
+function questionHtml(page, county, chosen, chamber) {
+  const { geography, answers } = page;
+  const { boxes, list } = offeredHtml(page, county, chosen, chamber);
   const chambers = answers.map((answer) => html`
     <option value="${answer.key}"${answer.key === chamber ? " selected" : ""}>${answer.name}
     </option>`);
   return html`
-    <form id="why-form" class="needs-program"><fieldset><legend>Why isn’t
+    <form id="why-form" class="needs-program noprint"><fieldset><legend>Why isn’t
     ${countyName(geography, county)} grouped with ..</legend><div class="boxes">${boxes}</div>
-    <div class="row"><label>Another county<select id="why-more"><option value="">None</option>${all}
+    <div class="row"><label>Another county<select id="why-more">${list}
     </select></label><label>Chamber<select id="why-chamber">${chambers}</select></label>
     <button type="submit" class="btn main" id="why-ask">Ask the program</button>
     <button type="button" class="btn" id="why-pick" aria-pressed="false">Choose on the map</button>
     </div></fieldset></form><div id="why-answer" role="status"></div>`;
+}
+
+/**
+ * Returns what is said of a county at length: its people, its neighbors, and all its groups.
+ * @param {Page} page
+ * @param {number} county
+ */
+function moreHtml(page, county) {
+  const { geography, census } = page;
+  const { name, people } = geography.counties[county];
+  const places = geography.counties.map((_, place) => place);
+  const rank = byPeople(geography, places).indexOf(county) + 1;
+  const near = neighborsOf(geography, county).map((one) => countyName(geography, one));
+  const when = census.year ? ` in ${census.year}` : "";
+  const rest = near.length ? `It borders ${andList(near)}.` : "It borders no other county.";
+  const both = page.answers.length > 1 ? "two-cards" : "";
+  return html`
+    <details id="county-more"><summary>All groups of ${name}, their room in people, and its
+    neighbors</summary><p class="lead"><b>${numberText(people)}</b> people${when},
+    number ${rank} of ${countedInWords(places.length, "county", "counties")}. ${rest}</p>
+    <div class="${both}">${page.answers.map((answer) => chamberHtml(page, answer, county))}</div>
+    </details>`;
 }
 
 /**
@@ -161,19 +188,9 @@ function questionHtml({ geography, answers }, county, chosen, chamber) {
  * @param {string} chamber  the key of the chamber that is shown
  */
 export function countyHtml(page, county, chosen, chamber) {
-  const { geography, census } = page;
-  const { name, people } = geography.counties[county];
-  const places = geography.counties.map((_, place) => place);
-  const rank = byPeople(geography, places).indexOf(county) + 1;
-  const near = neighborsOf(geography, county).map((one) => countyName(geography, one));
-  const when = census.year ? ` in ${census.year}` : "";
-  const rest = near.length ? `It borders ${andList(near)}.` : "It borders no other county.";
-  const both = page.answers.length > 1 ? "two-cards" : "";
   return html`
-    <div class="head"><h2>${name} County</h2>
+    <div class="head"><h2>${countyName(page.geography, county)} County</h2>
     <button type="button" class="btn quiet" id="close-card">Close</button></div>
-    <p class="lead"><b>${numberText(people)}</b> people${when},
-    number ${rank} of ${countedInWords(places.length, "county", "counties")}. ${rest}</p>
-    <div class="${both}">${page.answers.map((answer) => chamberHtml(page, answer, county))}</div>
-    ${questionHtml(page, county, chosen, chamber)}`;
+    ${[shortAnswers(page, county), moreHtml(page, county),
+    questionHtml(page, county, chosen, chamber)]}`;
 }

@@ -1,6 +1,6 @@
 // The card of a county below the map, with the question why it isn't grouped with others.
 
-import { countyHtml } from "./county_parts.mjs";
+import { countyHtml, offeredHtml } from "./county_parts.mjs";
 import { find, findAll, findInput, verdictHtml } from "./dom.mjs";
 import { codesOf } from "./geography.mjs";
 import { NOTHING, append, fill, html } from "./html.mjs";
@@ -29,6 +29,7 @@ export function paintCounty(page, state, query) {
   asked = {};
   pickOnMap(find("#map"), null);
   place.hidden = county === null;
+  find("#answer").classList.toggle("of-county", county !== null);
   if (county === null) {
     fill(place, NOTHING);
     return;
@@ -53,6 +54,18 @@ export function paintCounty(page, state, query) {
  */
 export function openCounty(page, county) {
   location.hash = hashOf(page, `county/${page.geography.counties[county].geoid}`);
+}
+
+/**
+ * Offers the counties of the chamber that is asked of, with those ticked that are.
+ * @param {Page} page
+ * @param {ViewState} state
+ */
+function offerCounties(page, state) {
+  const [county, ...chosen] = askedCounties(state);
+  const { boxes, list } = offeredHtml(page, county, chosen, findInput("#why-chamber").value);
+  fill(find("#why-form .boxes"), boxes);
+  fill(find("#why-more"), list);
 }
 
 /**
@@ -162,6 +175,7 @@ export function followCounty(page, state) {
     const input = /** @type {HTMLInputElement} */ (event.target);
     if (input.id === "why-more" && input.value) tick(page, state, Number(input.value));
     if (input.id === "why-more") input.value = "";
+    if (input.id === "why-chamber") offerCounties(page, state);
     if (find("#why-pick").getAttribute("aria-pressed") === "true") markPicked(state);
   });
   card.addEventListener("click", (event) => {
@@ -174,10 +188,11 @@ export function followCounty(page, state) {
     const other = button?.dataset.with;
     if (!button || !other) return;
     for (const box of findAll("[name=why-with]")) {
-      const input = /** @type {HTMLInputElement} */ (box);
-      input.checked = input.value === other;
+      /** @type {HTMLInputElement} */ (box).checked = false;
     }
     findInput("#why-chamber").value = button.dataset.chamber ?? "";
+    offerCounties(page, state);
+    tick(page, state, Number(other));
     askWhy(page, state);
   });
 }

@@ -169,12 +169,17 @@ function followWindow(page, state) {
     if (state.view !== "answer") return;
     state.isPrinted = true;
     fold.open = true;
+    for (const more of findAll("#county-more:not([open])")) {
+      more.dataset.closed = "true";
+      more.setAttribute("open", "");
+    }
     paintAnswer(page, state);
     // (Firefox prints shapes only if they were laid out after they were drawn)
     find("#map").getBoundingClientRect();
   });
   addEventListener("afterprint", () => {
     state.isPrinted = false;
+    findAll("#county-more[data-closed]").forEach((more) => more.removeAttribute("open"));
     if (state.view === "answer") paintAnswer(page, state);
   });
 }

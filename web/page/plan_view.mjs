@@ -19,7 +19,7 @@ import { quickHtml } from "./quick_plan.mjs";
 import { lastSolved } from "./solve_files.mjs";
 import { shownChoices, shownOption } from "./view_state.mjs";
 import {
-  capital, counted, countedInWords, numberText, signedPercent,
+  andList, capital, counted, countedInWords, numberText, signedPercent,
 } from "./words.mjs";
 
 /** @typedef {import("./page.mjs").Page} Page */
@@ -40,6 +40,14 @@ import {
  */
 
 const MANY_DISTRICTS = 1000;
+/**
+ * What an audit needs, in words.
+ * @type {[import("./file_kinds.mjs").FileKind, string][]}
+ */
+const NEEDED = [
+  ["plan", "a block assignment file"], ["geo", "the geographic header"],
+  ["segment", "the counts of people"], ["adjacency", "the file of borders"],
+];
 
 /** @type {PlanTable | null} */
 let table = null;
@@ -103,13 +111,21 @@ export function paintPlan(page, state, given) {
   fill(select, choices.map(({ key, words }) => (
     html`<option value="${key}">${words}</option>`)));
   if (choices.some((one) => one.key === before)) select.value = before;
-  findInput("#audit").disabled = !table || whyNoProgram() !== null;
-  const missing = /** @type {const} */ (["geo", "segment", "adjacency"]).filter(
-    (kind) => !given.has(kind));
-  if (!table || !missing.length) return;
-  const words = "Drop the state’s whole Census files above, too: "
-    + "the geographic header and the counts with their blocks, and the file of borders.";
-  fill(find("#audit-result"), html`<p class="note">${words}</p>`);
+  paintAuditButton(given);
+}
+
+/**
+ * Lets the audit be started once nothing is missing for it, and else says what is.
+ * @param {Given} given
+ */
+function paintAuditButton(given) {
+  const reason = whyNoProgram();
+  const missing = NEEDED.filter(([kind]) => (kind === "plan" ? !table : !given.has(kind)));
+  findInput("#audit").disabled = missing.length > 0 || reason !== null;
+  const census = missing.some(([kind]) => kind !== "plan")
+    ? " Take the state’s whole Census files, with their blocks, and drop them above." : "";
+  find("#audit-needs").textContent = missing.length && !reason
+    ? `The audit still needs ${andList(missing.map(([, words]) => words))}.${census}` : "";
 }
 
 /**
@@ -181,7 +197,7 @@ async function audit(page, state, given) {
       : fault instanceof Error ? fault.message : String(fault);
     fill(result, verdictHtml(false, "The plan can’t be audited.", words));
   }
-  findInput("#audit").disabled = false;
+  paintAuditButton(given);
   bringIntoView(result);
 }
 

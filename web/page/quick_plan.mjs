@@ -5,7 +5,7 @@ import { groupsOf } from "./answers.mjs";
 import { verdictHtml } from "./dom.mjs";
 import { html } from "./html.mjs";
 import { hashOf } from "./page.mjs";
-import { andList, counted, countedInWords, nounFor, numberText } from "./words.mjs";
+import { andList, capital, counted, countedInWords, nounFor, numberWord } from "./words.mjs";
 
 /** @typedef {import("./page.mjs").Page} Page */
 /** @typedef {import("./answers.mjs").Answer} Answer */
@@ -112,13 +112,19 @@ function numberWords(districts, answer) {
 }
 
 /**
- * Returns how many districts cross the groups of the next options.
- * @param {Compared[]} others
+ * Returns how many districts cross the groups of each of the next options, in a sentence.
+ * @param {Compared[]} others  the fewest first
  */
 function restWords(others) {
   if (!others.length) return "";
-  const some = others.slice(0, 4).map(({ option, crossing }) => (
-    `option ${option}: ${numberText(crossing.length)}`));
-  const more = others.length > 4 ? ", and no fewer in the others" : "";
-  return `Districts that cross groups of further options: ${some.join(", ")}${more}.`;
+  const named = others.slice(0, 4).map(({ option, crossing }, at) => {
+    const noun = at ? "" : ` ${nounFor(crossing.length, "district crosses", "districts cross")} `
+      + "groups";
+    return `with option ${option}, ${numberWord(crossing.length)}${noun}`;
+  });
+  const rest = others.length - named.length;
+  const least = numberWord(others[named.length]?.crossing.length ?? 0);
+  const which = rest === 1 ? "the other option" : `each of the other ${numberWord(rest)}`;
+  if (rest) named.push(`with ${which}, ${least}${rest === 1 ? "" : " or more"}`);
+  return `${capital(named.join("; ").replace(/^with/, "compared with"))}.`;
 }

@@ -1,5 +1,6 @@
 // What a what-if's answer is in words: the verdict, and the tables beside the base answer.
 
+import { keyItem, patternPicture } from "./answer_parts.mjs";
 import { deviationOf, setKey } from "./geography.mjs";
 import { namesOf } from "./group_words.mjs";
 import { verdictHtml } from "./dom.mjs";
@@ -59,6 +60,31 @@ export function outcomeParts(base, shown, outcome) {
       comparison(base, outcome, groups), newGroupsTable(outcome, base, allNew)]}</div>`,
     groups, newCounties: fresh.flatMap((group) => group.counties), isNew,
   };
+}
+
+/**
+ * Returns which of the best groupings a what-if's map shows, and what its patterns are.
+ * @param {Outcome} outcome
+ * @param {OutcomeParts} parts
+ * @param {string} likened  the grouping of the base answer that it is most like
+ * @param {number} taken  how many counties are taken out
+ */
+export function mapKeyHtml({ answer }, { groups, newCounties }, likened, taken) {
+  if (!groups.length) return NOTHING;
+  const isNew = newCounties.length > 0;
+  const number = answer?.number ?? 0;
+  const which = number === 1 ? "the one best grouping"
+    : number ? `one of the ${numberText(number)} best groupings` : "one of the best groupings";
+  const fresh = isNew ? "one that has a new group, and otherwise " : "the one that has ";
+  const why = number > 1 ? `: ${fresh}most groups of ${likened}` : "";
+  const hatch = patternPicture("hatch", "new-hatch", "new");
+  const dots = patternPicture("dots", "taken-dots", "key-land");
+  const items = [
+    isNew ? keyItem(hatch, "A group that the base answer doesn’t have") : "",
+    taken ? keyItem(dots, "A county taken out") : "",
+  ];
+  const key = isNew || taken ? html`<ul class="key">${items}</ul>` : "";
+  return html`<p class="note">The map shows ${which}${why}.</p>${key}`;
 }
 
 /**

@@ -22,7 +22,7 @@ import {
   triedProblem, whatIfOf,
 } from "./what_if.mjs";
 import { likelySeats } from "./seats.mjs";
-import { outcomeParts } from "./what_if_parts.mjs";
+import { mapKeyHtml, outcomeParts } from "./what_if_parts.mjs";
 import { decodedText } from "./tables.mjs";
 import { numberText } from "./words.mjs";
 import { current } from "./view_state.mjs";
@@ -164,7 +164,7 @@ function paintStale(page, state) {
     && (addressOf(page.geography, base, work.whatIf) !== work.query
       || work.whatIf.steps !== work.steps || work.fault !== "");
   find("#whatif-stale").hidden = !isOther;
-  for (const id of ["#whatif-result", "#whatif-map", "#whatif-table"]) {
+  for (const id of ["#whatif-result", "#whatif-key", "#whatif-map", "#whatif-table"]) {
     find(id).classList.toggle("stale", isOther);
   }
 }
@@ -463,6 +463,7 @@ function paintBase(page, state) {
     <p class="note">The map shows ${shown}${chamberWords(answer)}. Click a county to take it out,
     change a border, then solve.</p>`);
   fill(find("#whatif-table"), NOTHING);
+  fill(find("#whatif-key"), NOTHING);
   showMap(find("#whatif-map"), {
     geography: page.geography, chamber: answer.seats,
     drawing: { groups, leaders: leadersOf(answer), taken: takenOut() },
@@ -612,12 +613,14 @@ function dropSolving() {
  * @param {Outcome} outcome
  */
 function showOutcome(page, state, outcome) {
-  const { answer: base, groups: shown } = current(page, state);
+  const { answer: base, option, groups: shown } = current(page, state);
   const parts = outcomeParts(base, shown, outcome);
   fill(find("#whatif-result"), [
     parts.verdict, enactedHtml(page, outcome.enacted),
     html`<div class="row noprint">${storeButtons(outcome)}</div>`]);
   fill(find("#whatif-table"), parts.table);
+  const likened = base.options && base.number > 1 ? `option ${option}` : "the base answer";
+  fill(find("#whatif-key"), mapKeyHtml(outcome, parts, likened, takenOut().size));
   paintStale(page, state);
   const fresh = parts.newCounties;
   showMap(find("#whatif-map"), {
@@ -668,7 +671,7 @@ async function storeOutcome(page, state, kind) {
   const asked = work.query ? whatIfOf(page.geography, base, work.query) : nothingChanged(base);
   openHandout(page, {
     title: `What if: ${page.geography.name} ${base.name}`, hash: location.hash,
-    shown: ["#whatif-result", "#whatif-map", "#whatif-table"],
+    shown: ["#whatif-result", "#whatif-key", "#whatif-map", "#whatif-table"],
     keys: ["geo", "segment", "adjacency"], further,
     commands: whatIfCommands(page, base, asked, fractionOf(asked.percent) ?? [1, 20]),
   });

@@ -14,7 +14,7 @@ from typing import Any
 
 from installed import program_there
 
-SECONDS = 120.0
+SECONDS = 300.0
 KEYS = {
     "Tab": "\ue004",
     "Enter": "\ue007",
@@ -98,7 +98,10 @@ class Firefox:
         self.number += 1
         text = json.dumps([0, self.number, command, values]).encode()
         self.socket.sendall(str(len(text)).encode() + b":" + text)
-        _, _, fault, answer = self.received()
+        number = 0
+        while number != self.number:
+            # (the answer to an earlier command may come later than it was waited for)
+            _, number, fault, answer = self.received()
         if fault:
             raise RuntimeError(str(fault))
         return answer

@@ -6,11 +6,9 @@ import time
 from pathlib import Path
 from typing import Any
 
-from page_setting import MOST_TABS, PLACE_OF, page
+from page_setting import MOST_TABS, PLACE_OF, SECONDS, page
 from class_room import InRoom
 from firefox import Firefox
-
-SECONDS = 60.0
 
 
 class FirefoxReader(InRoom):

@@ -17,7 +17,8 @@ STATES = TOP / "data" / "states"
 CENSUS = {"geo": "nc2020geo.pl", "segment": "nc000012020.pl", "adjacency": "county_borders.txt"}
 PROBLEM = [part for word, name in CENSUS.items() for part in (f"--{word}", str(DATA / name))]
 CHAMBERS = {"senate": 50, "house": 120}
-SECONDS = 60.0
+# How long is waited for what has to come. It is no bar of time: a machine may be slow, and busy.
+SECONDS = 300.0
 OWN_PAGE = TOP / "docs" / "page.html"
 SHOWN = re.compile(r'(<script type="application/json" id="data">)(.*?)(</script>)', re.S)
 CARRIED = re.compile(r'(<script type="application/json" id="carried">)(.*?)(</script>)', re.S)

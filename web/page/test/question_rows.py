@@ -12,7 +12,7 @@ from pathlib import Path
 from typing import Any
 from urllib.parse import quote
 
-from page_setting import DATA, STATES
+from page_setting import DATA, SECONDS, STATES
 
 RESULT = "#whatif-result"
 ANY_FILE = "#drop-zones [data-kind=geo] input"
@@ -22,6 +22,25 @@ COUNT_OF = "document.querySelectorAll({}).length"
 MENU = """(() => {
   const box = document.querySelector("#downloads .drop").getBoundingClientRect();
   return box.left >= -1 && box.right <= innerWidth + 1 && box.width > 100;
+})()"""
+# The answers of a county's card in short, and how many words a reader sees up to their end. A reader
+# skims some 250 words a minute, with a map beside.
+SENTENCES = "[...document.querySelectorAll('#county-card .short p')].map((one) => one.innerText)"
+MOST_WORDS = 170
+WORDS_BEFORE = r"""(() => {
+  const end = document.querySelector("#county-card .short").lastElementChild;
+  const walker = document.createTreeWalker(document.body, NodeFilter.SHOW_TEXT);
+  let count = 0;
+  for (let node = walker.nextNode(); node; node = walker.nextNode()) {
+    const on = node.parentElement;
+    const isBehind = (end.compareDocumentPosition(node) & 4) && !end.contains(node);
+    if (isBehind) break;
+    if (on.closest(".skip, .unseen, select, noscript, .drop") || !on.getClientRects().length) {
+      continue;
+    }
+    count += node.data.split(/\s+/).filter((one) => /[\p{L}\d]/u.test(one)).length;
+  }
+  return count;
 })()"""
 LINE_OF_MENU = "document.querySelector('#downloads').open"
 
@@ -91,11 +110,11 @@ class Reader(unittest.TestCase):
         """Presses the Tab key until an element of the selector has the focus."""
         raise NotImplementedError
 
-    def wait(self, script: str, seconds: float = 60.0) -> float:
+    def wait(self, script: str, seconds: float = SECONDS) -> float:
         """Waits until an expression gives true."""
         raise NotImplementedError
 
-    def wait_words(self, selector: str, words: str, seconds: float = 60.0) -> str:
+    def wait_words(self, selector: str, words: str, seconds: float = SECONDS) -> str:
         """Waits until an element has words, and returns its text."""
         raise NotImplementedError
 
@@ -149,7 +168,9 @@ class Questions(Reader):
 
     def test_a_county_by_link_click_and_keys(self) -> None:
         self.open("#county/37137")
-        self.assertIn("Beaufort, Carteret, Craven and Hyde", self.text("#county-card"))
+        self.check_pamlico()
+        self.click("#county-more summary")
+        self.assertIn("Beaufort, Carteret, Craven and Hyde", self.text("#county-more"))
         self.go("#senate/6")
         self.click("#map [data-county='31']")
         self.click("#told a[href='#county/37063']")
@@ -158,7 +179,22 @@ class Questions(Reader):
         self.press("p")
         self.wait_words("#county-card", "Pamlico County")
         self.assertEqual(self.value("location.hash"), "#county/37137")
+        self.check_pamlico()
+        self.tab_and_press("#county-more summary")
+        self.wait("document.querySelector('#county-more').open")
         self.check_quiet()
+
+    def check_pamlico(self) -> None:
+        """Wants with whom Pamlico is in both chambers, and why, in few words that come first."""
+        first, second = self.value(SENTENCES)
+        # (the groups of 2023; 12,276 people by the census, of an ideal of 208,787.76)
+        with_whom = "Carteret, Halifax, Martin, Warren, Chowan, Washington and Hyde"
+        self.assertIn(f"In the Senate Pamlico is with {with_whom} (8 counties, 1 seat)", first)
+        self.assertIn("Its 12,276 people are too few for a seat alone", first)
+        self.assertIn("no neighbor makes a lawful pair with it", first)
+        with_whom = "Beaufort, Dare, Currituck, Chowan, Perquimans, Washington, Hyde and Tyrrell"
+        self.assertIn(f"In the House it is with {with_whom} (9 counties, 2 seats)", second)
+        self.assertLessEqual(self.value(WORDS_BEFORE), MOST_WORDS)
 
     def test_why_not_by_link(self) -> None:
         self.open("#county/37147/senate/37013")
@@ -346,7 +382,7 @@ class FaultsOfLinksAndViews(Reader):
         self.open("#senate/6")
         self.tab_to("#map .badge")
         self.tab_and_press("#told a")
-        self.wait_words("#county-card", "people in 2020")
+        self.wait_words("#county-card", "In the Senate")
 
     def test_fault_18_sets_one_by_one(self) -> None:
         self.open("#whatif/senate")

@@ -1,12 +1,14 @@
 """The page in Firefox: what is tested in Chromium, as far as it depends on the browser."""
 
+import json
+import socket
 import tempfile
 import time
 import unittest
 from pathlib import Path
 from typing import Any
 
-from page_setting import CONTRAST, SIDEWAYS, TINTED, page
+from page_setting import CONTRAST, SECONDS, SIDEWAYS, TINTED, page
 from firefox import Firefox
 from printed_page import LEAST_LINES, lines_drawn
 from installed import NotThere
@@ -20,6 +22,21 @@ ENGINE = "return typeof WebAssembly === 'object'"
 PILL = """const { x, y, width, height } = document.querySelector(
   '#map .badge[aria-label^="Wake and Granville"]').getBoundingClientRect();
 return [x + width / 2, y + height / 2];"""
+
+
+class Answers(unittest.TestCase):
+    """The answers to commands, without a Firefox."""
+
+    def test_a_late_answer_is_of_its_command_alone(self) -> None:
+        firefox = object.__new__(Firefox)
+        firefox.socket, other = socket.socketpair()
+        self.addCleanup(firefox.socket.close)
+        self.addCleanup(other.close)
+        firefox.number, firefox.buffer = 7, b""
+        for number, value in ((7, "late"), (8, "own")):
+            text = json.dumps([1, number, None, {"value": value}]).encode()
+            other.sendall(str(len(text)).encode() + b":" + text)
+        self.assertEqual(firefox.value("return 1"), "own")
 
 
 class InFirefox(unittest.TestCase):
@@ -47,7 +64,7 @@ class InFirefox(unittest.TestCase):
         """Returns the words of an element."""
         return str(self.value(f"return document.querySelector('{selector}').innerText"))
 
-    def wait(self, selector: str, words: str = "", seconds: float = 60.0) -> str:
+    def wait(self, selector: str, words: str = "", seconds: float = SECONDS) -> str:
         """Waits until an element has words, and returns its text."""
         end = time.monotonic() + seconds
         while time.monotonic() < end:
@@ -169,7 +186,7 @@ class InFirefox(unittest.TestCase):
             self.wait("#dropped", "This browser can't run the program")
             return
         self.value("document.querySelector('#use-own').click()")
-        end = time.monotonic() + 60
+        end = time.monotonic() + SECONDS
         while self.value("return document.querySelector('#solve-files').disabled"):
             self.assertLess(time.monotonic(), end)
         self.value("document.querySelector('#solve-files').click()")

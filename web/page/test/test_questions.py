@@ -6,11 +6,31 @@ from pathlib import Path
 
 from page_setting import DATA, InPage
 from plan_sample import make_sample, write_plan
+from question_rows import MOST_WORDS, WORDS_BEFORE
 
 from installed import NotThere
 
 RESULT = "#whatif-result"
 TITLE = "document.querySelector('#county-card h2').innerText"
+BOXES = (
+    "[...document.querySelectorAll('#why-form .boxes label')].map((one) => one.innerText.trim())"
+)
+# For each of some counties: what is bold in its answer of each chamber, that answer, and how many
+# words a reader sees up to their end.
+CARDS = """(async () => {
+  const told = {};
+  for (const code of CODES) {
+    const isThere = new Promise((done) => {
+      addEventListener("hashchange", () => setTimeout(done), { once: true });
+    });
+    location.hash = `#${YEAR}county/${code}`;
+    await isThere;
+    const answers = [...document.querySelectorAll("#county-card .short p")].map((one) => (
+      [one.querySelector("b + b").innerText, one.innerText]));
+    told[code] = [answers, WORDS];
+  }
+  return told;
+})()"""
 
 
 class Counties(InPage):
@@ -20,13 +40,66 @@ class Counties(InPage):
         self.open("#county/37137")
         told = self.text("#county-card")
         # (12,276 people by the census; both groups of the Senate are of data/nc2020's list)
-        for words in ("Pamlico County", "12,276", "Beaufort, Carteret, Craven and Hyde", "Senate"):
+        for words in ("Pamlico County", "12,276", "Senate"):
             self.assertIn(words, told)
         self.assertIn("Carteret, Halifax, Martin, Warren, Chowan, Washington and Hyde", told)
-        self.assertIn("2023 plan", told)
+        self.assertIn("Pasquotank, Dare and Perquimans replace Halifax, Martin and Warren", told)
+        self.assertNotIn("Beaufort, Carteret, Craven and Hyde", told)
+        self.press_button("#county-more summary")
+        told = self.text("#county-more")
+        for words in ("12,276 people in 2020", "Beaufort, Carteret, Craven and Hyde", "2023 plan"):
+            self.assertIn(words, told)
         self.press_button("#close-card")
         self.wait("document.querySelector('#county-card').hidden")
         self.check_quiet()
+
+    def cards(self, codes: list[str], year: str = "") -> dict[str, tuple[list[list[str]], int]]:
+        """Returns what the cards of counties say first."""
+        script = CARDS.replace("CODES", str(codes)).replace("YEAR", repr(year))
+        return dict(self.value(script.replace("WORDS", WORDS_BEFORE)))
+
+    def test_each_county_with_the_groups_of_2023(self) -> None:
+        self.open()
+        names = self.value(
+            "[...document.querySelectorAll('#finder option')].slice(1).map((one) => one.innerText)"
+        )
+        codes = [f"37{number:03}" for number in range(1, 200, 2)]
+        name_of = dict(zip(codes, names))
+        told: dict[str, tuple[list[list[str]], int]] = {}
+        for at in range(0, 100, 20):
+            told.update(self.cards(codes[at : at + 20]))
+        for at, chamber in enumerate(("senate", "house")):
+            text = (DATA / f"{chamber}2023.grouping").read_text(encoding="ascii")
+            for seats, *group in (line.split("|") for line in text.split()):
+                seats += " seat" if seats == "1" else " seats"
+                for code in group:
+                    answers, words = told[code]
+                    bold, answer = answers[at]
+                    with_whom = sorted(name_of[one] for one in group if one != code)
+                    shown = sorted(bold.replace(" and ", ", ").split(", "))
+                    self.assertEqual(shown, with_whom or ["alone"])
+                    size = f"{len(group)} counties, " if with_whom else ""
+                    self.assertIn(f"({size}{seats}), as enacted in 2023", answer)
+                    self.assertLessEqual(words, MOST_WORDS)
+        self.check_quiet()
+
+    def test_the_longest_of_2010(self) -> None:
+        self.open("#2010/senate/1")
+        # (Harnett and Sampson have large groups in both chambers, and others by other options)
+        for answers, words in self.cards(["37085", "37163", "37105"], "2010/").values():
+            self.assertEqual(len(answers), 2)
+            self.assertLessEqual(words, MOST_WORDS)
+        self.check_quiet()
+
+    def test_printed(self) -> None:
+        self.open("#county/37137")
+        self.value("dispatchEvent(new Event('beforeprint')); null")
+        self.browser.ask("Emulation.setEmulatedMedia", media="print")
+        self.assertIn("12,276 people in 2020", self.text("#county-card"))
+        self.assertNotIn("Ask the program", self.text("#county-card"))
+        self.browser.ask("Emulation.setEmulatedMedia", media="")
+        self.value("dispatchEvent(new Event('afterprint')); null")
+        self.assertFalse(self.value("document.querySelector('#county-more').open"))
 
     def test_by_the_finder_and_from_the_map(self) -> None:
         self.open()
@@ -56,6 +129,20 @@ class OtherGroups(InPage):
         self.open("#county/37137/senate/37031")
         told = self.wait_words("#why-answer", "Not in a best grouping.")
         self.assertIn("The best groupings have them in a larger group: with", told)
+
+    def test_its_own_group_is_not_offered(self) -> None:
+        # (its neighbors are Beaufort, Carteret, Craven and Hyde; data/nc2020's lists have Carteret
+        # and Hyde with it in the Senate, Beaufort and Hyde in the House)
+        self.open("#county/37137")
+        self.assertEqual(self.value(BOXES), ["Craven", "Beaufort"])
+        listed = "[...document.querySelectorAll('#why-more option')].map((one) => one.innerText)"
+        self.assertNotIn("Dare", self.value(listed))
+        self.value(
+            "(() => { const one = document.querySelector('#why-chamber'); one.value = 'house'; "
+            "one.dispatchEvent(new Event('change', { bubbles: true })); })()"
+        )
+        self.assertEqual(self.value(BOXES), ["Craven", "Carteret"])
+        self.assertIn("Pasquotank", self.value(listed))
 
     def test_counties_that_do_not_touch(self) -> None:
         self.open("#county/37063/senate/37119")
@@ -121,6 +208,13 @@ class Closeness(InPage):
         self.go("#whatif/senate/people=37147:+86")
         told = self.wait_words(RESULT, "The groups of 2023 aren’t lawful here.")
         self.assertIn("Pitt and Edgecombe: 219,229 people are too many for 1 seat", told)
+        told = self.text("#whatif-key")
+        self.assertIn("The map shows one of the 4 best groupings", told)
+        self.assertIn("A group that the base answer doesn’t have", told)
+        self.assertEqual(self.value("document.querySelectorAll('#new-hatch').length"), 1)
+        self.go("#whatif/senate")
+        self.press_button("#start-over")
+        self.assertEqual(self.text("#whatif-key"), "")
         self.check_quiet()
 
 
@@ -185,6 +279,25 @@ class Plans(InPage):
         self.give("#plan-file", write_plan(make_sample(), Path(self.room) / "plan.csv"))
         told = self.wait_words("#quick", "This plan follows option 6, the groups of 2023.")
         self.assertIn("50 districts", told)
+        compared = (
+            r"Compared with option \d+, [\w,]+ districts? cross(es)? groups; with option \d+, "
+        )
+        self.assertRegex(told, compared)
+        self.assertRegex(told, r"; with each of the other 11, [\w,]+ or more\.")
+        self.check_quiet()
+
+    def test_what_an_audit_needs(self) -> None:
+        self.open("#files")
+        self.assertIn("needs a block assignment file", self.text("#audit-needs"))
+        self.give("#plan-file", write_plan(make_sample(), Path(self.room) / "plan.csv"))
+        self.wait_words("#quick", "This plan follows option 6")
+        self.assertTrue(self.value("document.querySelector('#audit').disabled"))
+        told = self.text("#audit-needs")
+        wanted = "needs the geographic header, the counts of people and the file of borders."
+        self.assertIn(wanted, told)
+        self.press_button("#use-own")
+        self.wait("!document.querySelector('#audit').disabled")
+        self.assertEqual(self.text("#audit-needs"), "")
         self.check_quiet()
 
     def test_its_verdict_comes_into_view(self) -> None:

@@ -2,7 +2,7 @@
 from __future__ import annotations
 
 from page_file import carried_file
-from page_setting import CHAMBERS, DATA, PROBLEM, InPage, run
+from page_setting import CHAMBERS, DATA, PROBLEM, SECONDS, InPage, run
 
 from installed import NotThere
 
@@ -310,8 +310,8 @@ class Borders(InPage):
     def test_tried_again(self) -> None:
         self.open("#whatif/house")
         self.press_button("#try-borders")
-        self.wait_words("#borders-progress", "Tried ", 60)
-        self.wait_words("#borders-progress", "4 matter", 180)
+        self.wait_words("#borders-progress", "Tried ")
+        self.wait_words("#borders-progress", "4 matter", 2 * SECONDS)
         self.assertEqual(self.marks(), self.wanted["house"])
         self.check_quiet()
 
@@ -321,7 +321,7 @@ class Borders(InPage):
         self.assertEqual(self.marks(), {})
         self.assertNotIn("tried alone", self.text("#borders-note"))
         self.press_button("#try-borders")
-        self.wait_words("#borders-progress", "Tried ", 60)
+        self.wait_words("#borders-progress", "Tried ")
         self.assertNotIn("tried alone", self.text("#borders-note"))
         self.press_button("#start-over")
         self.wait("document.querySelector('#stop-borders').hidden")
@@ -333,7 +333,7 @@ class Borders(InPage):
     def test_trying_is_stopped(self) -> None:
         self.open("#whatif/senate")
         self.press_button("#try-borders")
-        self.wait_words("#borders-progress", "Tried ", 60)
+        self.wait_words("#borders-progress", "Tried ")
         self.press_button("#stop-borders")
         self.wait_words("#borders-progress", "Stopped.")
         self.assertEqual(self.marks(), self.wanted["senate"])
