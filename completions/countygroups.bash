@@ -18,49 +18,49 @@ _countygroups() {
     fi
     case $command in
         solve)
-            options="-h --help --geo --segment --people --chamber --state --part --of --adjacency --links --withdrawn --certificate --out --table --events --record --json --steps"
+            options="-h --help --geo --segment --people --chamber --state --tolerance --part --of --adjacency --links --withdrawn --certificate --out --table --events --record --json --names --steps"
             with_file="--geo --segment --people --adjacency --links --withdrawn --certificate --out --table --events --record"
-            with_value="--chamber --state --part --of --steps"
+            with_value="--chamber --state --tolerance --part --of --steps"
             ;;
         check)
-            options="-h --help --geo --segment --people --chamber --state --part --of --adjacency --links --withdrawn --certificate --table --record --json --budget"
+            options="-h --help --geo --segment --people --chamber --state --tolerance --part --of --adjacency --links --withdrawn --certificate --table --record --json --names --budget"
             with_file="--geo --segment --people --adjacency --links --withdrawn --certificate --table --record"
-            with_value="--chamber --state --part --of --budget"
+            with_value="--chamber --state --tolerance --part --of --budget"
             ;;
         judge)
-            options="-h --help --geo --segment --people --chamber --state --part --of --adjacency --links --withdrawn --grouping --certificate --table --record --json --budget"
+            options="-h --help --geo --segment --people --chamber --state --tolerance --part --of --adjacency --links --withdrawn --grouping --certificate --table --record --json --names --budget"
             with_file="--geo --segment --people --adjacency --links --withdrawn --grouping --certificate --table --record"
-            with_value="--chamber --state --part --of --budget"
+            with_value="--chamber --state --tolerance --part --of --budget"
             ;;
         list)
-            options="-h --help --geo --segment --people --chamber --state --part --of --adjacency --links --withdrawn --certificate --which --number --out --groupings --record --json --budget"
+            options="-h --help --geo --segment --people --chamber --state --tolerance --part --of --adjacency --links --withdrawn --certificate --which --number --out --groupings --record --json --names --budget"
             with_file="--geo --segment --people --adjacency --links --withdrawn --certificate --which --out --groupings --record"
-            with_value="--chamber --state --part --of --number --budget"
+            with_value="--chamber --state --tolerance --part --of --number --budget"
             ;;
         size)
-            options="-h --help --geo --segment --people --chamber --state --part --of --record --json"
+            options="-h --help --geo --segment --people --chamber --state --tolerance --part --of --record --json"
             with_file="--geo --segment --people --record"
-            with_value="--chamber --state --part --of"
+            with_value="--chamber --state --tolerance --part --of"
             ;;
         audit)
-            options="-h --help --geo --segment --people --chamber --state --part --of --adjacency --links --withdrawn --grouping --assignments --districts --record --json"
+            options="-h --help --geo --segment --people --chamber --state --tolerance --part --of --adjacency --links --withdrawn --grouping --assignments --districts --record --json"
             with_file="--geo --segment --people --adjacency --links --withdrawn --grouping --assignments --districts --record"
-            with_value="--chamber --state --part --of"
+            with_value="--chamber --state --tolerance --part --of"
             ;;
         share)
-            options="-h --help --geo --segment --people --chamber --state --part --of --adjacency --links --withdrawn --grouping --events --certificate --record --limit --depth --budget"
+            options="-h --help --geo --segment --people --chamber --state --tolerance --part --of --adjacency --links --withdrawn --grouping --events --certificate --record --limit --depth --budget"
             with_file="--geo --segment --people --adjacency --links --withdrawn --grouping --events --certificate --record"
-            with_value="--chamber --state --part --of --limit --depth --budget"
+            with_value="--chamber --state --tolerance --part --of --limit --depth --budget"
             ;;
         piece)
-            options="-h --help --geo --segment --people --chamber --state --part --of --adjacency --links --withdrawn --grouping --events --record --limit --depth --round --number --steps"
+            options="-h --help --geo --segment --people --chamber --state --tolerance --part --of --adjacency --links --withdrawn --grouping --events --record --limit --depth --round --number --steps"
             with_file="--geo --segment --people --adjacency --links --withdrawn --grouping --events --record"
-            with_value="--chamber --state --part --of --limit --depth --round --number --steps"
+            with_value="--chamber --state --tolerance --part --of --limit --depth --round --number --steps"
             ;;
         worker)
-            options="-h --help --geo --segment --people --chamber --state --part --of --adjacency --links --withdrawn --record --steps"
+            options="-h --help --geo --segment --people --chamber --state --tolerance --part --of --adjacency --links --withdrawn --record --steps"
             with_file="--geo --segment --people --adjacency --links --withdrawn --record"
-            with_value="--chamber --state --part --of --steps"
+            with_value="--chamber --state --tolerance --part --of --steps"
             ;;
         *) return ;;
     esac
