@@ -62,7 +62,10 @@ PASSED_OVER = (
 
 
 def noted_in(log: str) -> list[Noted]:
-    """Returns what a check notes, by its log. Raises `Refused` if the last line counts others."""
+    """Returns what a check notes, by its log.
+
+    Raises `Refused` if the last line counts others, or if there is none because the check died.
+    """
     found: list[Noted] = []
     step = ""
     is_told = False
@@ -75,12 +78,15 @@ def noted_in(log: str) -> list[Noted]:
             is_told = True
         elif is_told:
             found[-1] = found[-1]._replace(told=f"{found[-1].told}{line}\n")
-    status = log.rpartition("\nStatus: ")[2].partition("\n")[0]
+    _, is_ended, last = log.rpartition("\nStatus: ")
+    if not is_ended:
+        raise Refused(f"the check didn't end:\n{log}")
+    status = last.partition("\n")[0]
     for number, kind in COUNTED.findall(status):
         if int(number) != sum(one.kind == kind for one in found):
             raise Refused(f"the log has other lines than its last one counts, {status}:\n{log}")
     if not found and status != "OK":
-        raise Refused(f"the check didn't end:\n{log}")
+        raise Refused(f"the log has no line of what its last one counts, {status}:\n{log}")
     return found
 
 

@@ -349,7 +349,8 @@ class Refusals(Made):
         told = "table has no column of seats: choose one by --seats, or give --chamber with --geo "
         told += "and --segment or with --people."
         path = self.file("people.csv", PATH_COUNTIES)
-        for words in ([], ["--chamber", "4"], ["--people", path]):
+        given: List[List[str]] = [[], ["--chamber", "4"], ["--people", path]]
+        for words in given:
             self.refused("GEOID,Group\n37001,1\n", told, *words)
         told = "table has no column that goes by a name for the groups: its columns are `GEOID`, "
         self.refused("GEOID,X\n37001,1\n", told + "`X`; choose the groups by --group.")
@@ -361,7 +362,7 @@ class Refusals(Made):
         remedy = ": tools/people.py makes a people file of other tables."
         line = "Line 2 of people.csv "
         digits = "isn't a county's five digits, its people and at most a name"
-        for held, sentence in {
+        wrong: Dict[Union[str, bytes], str] = {
             PATH_COUNTIES: "Line 3 of table has `Elm`, which the people file doesn't have.",
             "county,people\n": f"The people file people.csv has no county{remedy}",
             "37001,1\n45001,2\n": "The people file people.csv has counties of the states 37, 45: "
@@ -373,7 +374,8 @@ class Refusals(Made):
             f"4,294,967,295{remedy}",
             '37001,1\n37003,2,"a\n': f"{line}has wrong quotes{remedy}",
             b"37001,1,\xff\n": f"The people file people.csv is no text in UTF-8{remedy}",
-        }.items():
+        }
+        for held, sentence in wrong.items():
             path = self.file("people.csv", held)
             found = self.made(text, "--people", path, "--chamber", "4")
             told = [one.replace(path, "people.csv") for one in found.told]

@@ -50,6 +50,7 @@ import re
 import subprocess
 import sys
 import unittest
+from functools import partial
 from pathlib import Path
 from typing import Any, Callable
 
@@ -291,7 +292,7 @@ class Inputs(WithProgram):
             with self.assertRaisesRegex(Refused, told):
                 read_rings(self.file("outlines", held))
             told_of_borders = "Of shapes give the table that geopandas.read_file reads"
-            self.told_by_package(lambda path=held: self.pairs(path), told_of_borders)
+            self.told_by_package(partial(self.pairs, held), told_of_borders)
             self.paths_told(held)
             self.geo_told(held)
 

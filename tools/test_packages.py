@@ -351,6 +351,12 @@ Status: {}
         with self.assertRaises(Refused):
             r_check.noted_in("* checking tests ...\n")
 
+    def test_check_that_died(self) -> None:
+        """Its log ends behind the first note, without a status."""
+        log = self.log.partition("* checking for future")[0] + "* checking dependencies ..."
+        with self.assertRaisesRegex(Refused, "the check didn't end"):
+            r_check.noted_in(log)
+
 
 class NpmPackage(Packages):
     """Tests npm's package, installed without a network."""
