@@ -10,8 +10,8 @@ moment. Started again with the folder, it goes on where it was.
   --folder FOLDER      the folder for its files; it is made if it isn't there
   --grouping FILE      the grouping that is to be proved best, as `solve --out` stores it
   --events FILE        what was proved before, as `solve --events` stores it
-  -- WORDS             --geo, --segment, --chamber, --adjacency and the others that say what the
-                       problem is; a later start may leave out these words and both files
+  -- WORDS             --geo and --segment or --people, --chamber, --adjacency and the others that
+                       say what the problem is; a later start may leave out these words and both files
   --jobs N             how many workers there are (without it, as many as processors)
   --steps N            the most steps for one piece (without it 1000000); what is left is split
 
@@ -55,6 +55,7 @@ import zlib
 from collections import Counter
 from concurrent.futures import ThreadPoolExecutor
 from dataclasses import dataclass, field
+from fractions import Fraction
 from typing import Any, BinaryIO, Callable, Optional
 
 import share_worker
@@ -78,8 +79,8 @@ RESULT_SECONDS = 30.0
 CHECK_ALONE = 10.0
 # The budget of the last check. A certificate bounds its steps, so that this number stops nobody.
 CHECK_STEPS = 2**64 - 1
-NUMBERS = ("--chamber", "--state", "--part", "--of")
-PATHS = ("--geo", "--segment", "--adjacency", "--links", "--withdrawn")
+NUMBERS = ("--chamber", "--state", "--tolerance", "--part", "--of")
+PATHS = ("--geo", "--segment", "--people", "--adjacency", "--links", "--withdrawn")
 
 
 @dataclass(eq=False)
@@ -506,16 +507,23 @@ def kept(folder: str, name: str, given: Optional[bytes]) -> bytes:
     return text or b""
 
 
-def head_of(words: list[str], codes: list[bytes]) -> str:
-    """Returns the first lines of a certificate: the tolerance, and the order of the counties."""
+def tolerance_of(words: list[str]) -> Fraction:
+    """Returns the tolerance that the words of a problem give, one twentieth without one."""
     told = {}
     for word, after in zip(words, [*words[1:], ""]):
         option, equals, number = word.partition("=")
         told[option] = number if equals else after
-    part, of = int(told.get("--part", 1)), int(told.get("--of", 20))
-    is_plain = 20 * part == of
+    if text := told.get("--tolerance"):
+        return Fraction(text.rstrip("%")) / (100 if text.endswith("%") else 1)
+    return Fraction(int(told.get("--part", 1)), int(told.get("--of", 20)))
+
+
+def head_of(words: list[str], codes: list[bytes]) -> str:
+    """Returns the first lines of a certificate: the tolerance, and the order of the counties."""
+    tolerance = tolerance_of(words)
+    is_plain = tolerance == Fraction(1, 20)
     head = f"county-groups wide certificate {1 if is_plain else 2}\n"
-    head += "" if is_plain else f"window {part} {of}\n"
+    head += "" if is_plain else f"window {tolerance.numerator} {tolerance.denominator}\n"
     return head + f"order {b' '.join(sorted(codes)).decode()}\n"
 
 
