@@ -60,6 +60,17 @@ class Firefox:
         words += ["--no-remote", "--profile", self.room]
         none = subprocess.DEVNULL
         self.process = subprocess.Popen(words, stdin=none, stdout=none, stderr=none)
+        try:
+            self.begin(port)
+        except (RuntimeError, OSError):
+            # (nobody else would end it)
+            self.process.kill()
+            self.process.wait()
+            shutil.rmtree(self.room, ignore_errors=True)
+            raise
+
+    def begin(self, port: int) -> None:
+        """Begins a session with the Firefox that listens to a port."""
         self.socket = self.connected(port)
         self.buffer = b""
         self.number = 0
