@@ -175,6 +175,7 @@ class Questions(Reader):
         self.click("#map [data-county='31']")
         self.click("#told a[href='#county/37063']")
         self.wait_words("#county-card", "Durham County")
+        self.open("#senate/6")
         self.tab_to("#finder")
         self.press("p")
         self.wait_words("#county-card", "Pamlico County")
