@@ -175,6 +175,7 @@ class Questions(Reader):
         self.click("#map [data-county='31']")
         self.click("#told a[href='#county/37063']")
         self.wait_words("#county-card", "Durham County")
+        # (from the end of the page Tab goes through Firefox itself, which then keeps the focus)
         self.open("#senate/6")
         self.tab_to("#finder")
         self.press("p")
