@@ -87,7 +87,8 @@ function insteadWords(geography, group, other, county) {
     return `${listed(geography, came)} ${nounFor(came.length, "joins", "join")} them${seats}`;
   }
   if (!came.length) {
-    return `${listed(geography, left)} ${nounFor(left.length, "isn’t", "aren’t")} among them${seats}`;
+    const verb = nounFor(left.length, "isn’t", "aren’t");
+    return `${listed(geography, left)} ${verb} among them${seats}`;
   }
   return `${listed(geography, came)} ${nounFor(came.length, "replaces", "replace")} `
     + `${listed(geography, left)}${seats}`;

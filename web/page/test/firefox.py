@@ -15,6 +15,8 @@ from typing import Any
 from installed import program_there
 
 SECONDS = 300.0
+# How long is waited for a session to begin, the first time and each further one.
+STARTS = (60.0, 120.0, SECONDS)
 KEYS = {
     "Tab": "\ue004",
     "Enter": "\ue007",
@@ -48,6 +50,19 @@ class Firefox:
     def __init__(self) -> None:
         """Starts Firefox. Raises `NotThere` if none is installed."""
         program = program_there("firefox-esr", "firefox")
+        for seconds in STARTS:
+            try:
+                self.start(program, seconds)
+                return
+            except OSError:
+                # (on a busy machine a Firefox now and then answers nothing: another one is started)
+                self.process.kill()
+                self.process.wait()
+                shutil.rmtree(self.room, ignore_errors=True)
+        raise RuntimeError("Firefox doesn't begin a session")
+
+    def start(self, program: str, seconds: float) -> None:
+        """Starts Firefox and begins a session, for whose answer it waits so many seconds."""
         self.room = tempfile.mkdtemp(prefix="firefox-")
         port = free_port()
         self.downloads = Path(self.room) / "downloads"
@@ -60,21 +75,22 @@ class Firefox:
         words += ["--no-remote", "--profile", self.room]
         none = subprocess.DEVNULL
         self.process = subprocess.Popen(words, stdin=none, stdout=none, stderr=none)
-        self.socket = self.connected(port)
+        self.socket = self.connected(port, seconds)
         self.buffer = b""
         self.number = 0
         self.received()
         self.ask("WebDriver:NewSession", capabilities={})
+        self.socket.settimeout(SECONDS)
 
-    def connected(self, port: int) -> socket.socket:
-        """Returns the connection, once Firefox listens."""
-        end = time.monotonic() + SECONDS
+    def connected(self, port: int, seconds: float) -> socket.socket:
+        """Returns the connection, once Firefox listens. It waits so many seconds for an answer."""
+        end = time.monotonic() + seconds
         while time.monotonic() < end:
             try:
-                return socket.create_connection(("127.0.0.1", port), timeout=SECONDS)
+                return socket.create_connection(("127.0.0.1", port), timeout=seconds)
             except OSError:
                 time.sleep(0.2)
-        raise RuntimeError("Firefox doesn't listen")
+        raise TimeoutError("Firefox doesn't listen")
 
     def received(self) -> Any:
         """Returns the next message: its length, a colon, and JSON."""

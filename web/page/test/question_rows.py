@@ -23,8 +23,8 @@ MENU = """(() => {
   const box = document.querySelector("#downloads .drop").getBoundingClientRect();
   return box.left >= -1 && box.right <= innerWidth + 1 && box.width > 100;
 })()"""
-# The answers of a county's card in short, and how many words a reader sees up to their end. A reader
-# skims some 250 words a minute, with a map beside.
+# The answers of a county's card in short, and how many words a reader sees up to their end. A
+# reader skims some 250 words a minute, with a map beside.
 SENTENCES = "[...document.querySelectorAll('#county-card .short p')].map((one) => one.innerText)"
 MOST_WORDS = 170
 WORDS_BEFORE = r"""(() => {
@@ -175,6 +175,8 @@ class Questions(Reader):
         self.click("#map [data-county='31']")
         self.click("#told a[href='#county/37063']")
         self.wait_words("#county-card", "Durham County")
+        # (from the end of the page Tab goes through Firefox itself, which then keeps the focus)
+        self.open("#senate/6")
         self.tab_to("#finder")
         self.press("p")
         self.wait_words("#county-card", "Pamlico County")
