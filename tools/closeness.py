@@ -2,8 +2,10 @@
 """Tells how close an answer is: how many people more or fewer in one county change it.
 
 usage: python3 tools/closeness.py --program FILE COUNTS --adjacency FILE --chamber SEATS
-           --within PEOPLE [--grouping FILE] [--state CODE] [--jobs JOBS]
+           --within PEOPLE [--grouping FILE] [--state CODE] [--tolerance TOLERANCE]
+           [--jobs JOBS]
        COUNTS is --geo FILE --segment FILE, or --people FILE.
+       TOLERANCE is a percentage, a decimal or a fraction, as 5%, 0.05 or 1/20.
 
 Each county is tried alone, with up to PEOPLE more and up to PEOPLE fewer. The people of the state
 change with the county's. If the farthest change leaves the list of best groupings as it is, none
@@ -32,7 +34,7 @@ from pathlib import Path
 
 from people_file import read_people_file
 from refusal import Refused
-from script_words import ScriptWords
+from script_words import ScriptWords, tolerance_words
 
 HEADER = ["COUNTY", "CHANGE", "BEST_GROUPINGS", "COUNTS", "GROUPING"]
 LEVEL, CODE, STATE, PEOPLE = 2, 9, 12, 5
@@ -107,7 +109,7 @@ class Runs:
         """Takes the words of the command, and solves the counts as they are."""
         self.program = str(Path(given.program).resolve())
         self.words = ["--adjacency", given.adjacency, "--chamber", given.chamber]
-        self.words += ["--state", given.state]
+        self.words += ["--state", given.state, *tolerance_words(given.tolerance)]
         self.grouping = given.grouping
         self.counts = counts_of(given)
         self.within = int(given.within)
@@ -189,9 +191,11 @@ def arguments(words: list[str]) -> argparse.Namespace:
     parser.add_counts()
     parser.add_argument("--grouping")
     parser.add_argument("--state", default="37")
+    parser.add_tolerance()
     parser.add_argument("--jobs", type=int, default=os.cpu_count() or 1)
     given = parser.parse_args(words)
     parser.check_counts(given)
+    parser.check_tolerance(given)
     return given
 
 

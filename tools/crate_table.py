@@ -128,7 +128,12 @@ def main(words: Optional[List[str]] = None) -> int:
     parser = ScriptWords(__doc__)
     parser.add_argument("--list", action="store_true")
     if parser.parse_args(words).list:
-        print_list()
+        try:
+            print_list()
+            sys.stdout.flush()
+        except BrokenPipeError:
+            # (the reader has enough, and at its end Python would tell of what it can't write)
+            os.dup2(os.open(os.devnull, os.O_WRONLY), sys.stdout.fileno())
         return 0
     wrong = list(faults())
     for line in wrong:

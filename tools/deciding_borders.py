@@ -2,8 +2,9 @@
 """Tells which borders decide an answer: those that change the best groupings if they are left out.
 
 usage: python3 tools/deciding_borders.py --program FILE COUNTS --adjacency FILE --chamber SEATS
-           [--grouping FILE] [--state CODE] [--jobs JOBS]
+           [--grouping FILE] [--state CODE] [--tolerance TOLERANCE] [--jobs JOBS]
        COUNTS is --geo FILE --segment FILE, or --people FILE.
+       TOLERANCE is a percentage, a decimal or a fraction, as 5%, 0.05 or 1/20.
 
 Each border between two counties of the state is left out alone, and the chamber is solved and
 listed without it.
@@ -42,10 +43,12 @@ def arguments(words: list[str]) -> argparse.Namespace:
     parser.add_counts()
     parser.add_argument("--grouping")
     parser.add_argument("--state", default="37")
+    parser.add_tolerance()
     parser.add_argument("--jobs", type=int, default=os.cpu_count() or 1)
-    parser.set_defaults(links=None, withdrawn=None, part=None, of=None)
+    parser.set_defaults(links=None, withdrawn=None)
     given = parser.parse_args(words)
     parser.check_counts(given)
+    parser.check_tolerance(given)
     return given
 
 

@@ -3,7 +3,8 @@
 
 usage: python3 tools/grouping.py FILE [--county COLUMN] [--group COLUMN] [--seats COLUMN]
                                  [--state CODE] [--geo GEO | --people PEOPLE]
-                                 [--segment SEGMENT] [--chamber SEATS] [--part PART] [--of OF]
+                                 [--segment SEGMENT] [--chamber SEATS]
+                                 [--tolerance TOLERANCE | [--part PART] [--of OF]]
                                  [--member NAME] [--out OUT]
 
 FILE has a line for each county with the label of its group. It is a text with commas, semicolons,
@@ -20,10 +21,11 @@ a county are in one group. A county without a group is left out, as one of a wit
 be.
 
 If FILE has no seats, they are chosen by the people of the groups: those of --people PEOPLE, or of
---geo GEO with --segment SEGMENT, segment 1. --chamber SEATS is then the number of seats. --part
-PART and --of OF are the tolerance, 1/20 if neither is given. If no number suits the people of a
-group, the nearest is written, and standard error says so. `judge` says what is wrong with the
-grouping.
+--geo GEO with --segment SEGMENT, segment 1. --chamber SEATS is then the number of seats.
+--tolerance TOLERANCE is a percentage, a decimal or a fraction, as 5%, 0.05 or 1/20, and five
+percent if you don't give it. --part PART and --of OF are the same as --tolerance PART/OF. If no
+number suits the people of a group, the nearest is written, and standard error says so. `judge` says
+what is wrong with the grouping.
 
 --member NAME chooses the table of a zip, if the zip has several.
 --out OUT stores the text there. Without it the text is printed. The groups stand in the order of
@@ -42,7 +44,6 @@ import argparse
 import re
 import sys
 from dataclasses import dataclass, field
-from fractions import Fraction
 from typing import Dict, Iterable, List, NamedTuple, Optional, Tuple
 
 from census_counties import CensusCounty, read_counties, read_people
@@ -289,7 +290,7 @@ def notes_on(table: Table, found: CountyGroups) -> List[str]:
     return notes
 
 
-def parser() -> argparse.ArgumentParser:
+def parser() -> ScriptWords:
     """Returns the parser of the tool's words."""
     made = ScriptWords(__doc__)
     made.add_argument("file", metavar="FILE")
@@ -300,8 +301,8 @@ def parser() -> argparse.ArgumentParser:
         made.add_argument(f"--{name}", metavar=word)
     made.add_argument("--state", metavar="CODE", type=number_from(0, 99))
     made.add_argument("--chamber", metavar="SEATS", type=number_from(1, 1000))
-    made.add_argument("--part", metavar="PART", type=number_from(0, 500), default=1)
-    made.add_argument("--of", metavar="OF", type=number_from(1, 1000), default=20)
+    made.add_tolerance()
+    made.add_part_and_of()
     return made
 
 
@@ -365,7 +366,7 @@ def chamber_of(asked: argparse.Namespace, people: Dict[str, int]) -> Chamber:
     total = sum(people.values())
     if total == 0:
         raise Refused(f"The counties of {asked.people or asked.segment} have no people.")
-    return Chamber(asked.chamber, total, Fraction(asked.part, asked.of))
+    return Chamber(asked.chamber, total, asked.tolerance)
 
 
 def seats_place(table: Table, chosen: Optional[str]) -> Optional[int]:
@@ -381,8 +382,7 @@ def main(words: List[str]) -> int:
     asked = made.parse_args(words)
     if asked.people is not None and (asked.geo is not None or asked.segment is not None):
         made.error("give --geo and --segment, or --people")
-    if 2 * asked.part > asked.of:
-        made.error("the tolerance --part/--of may be a half at most")
+    made.check_tolerance(asked)
     try:
         text, notes = made_groups(asked)
         put(asked.out, text)

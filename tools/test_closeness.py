@@ -20,6 +20,9 @@ from tested_program import TESTED, run_tests
 # an ideal district has 105.5 people and at most 110 are allowed, so that its pair has one too many.
 # With 10 more it has 110 of 110. With 10 fewer an ideal district has 95, at least 91 are wanted,
 # and the pair has 90. With 9 fewer it has 91 of 91. Then all four are one group of two seats.
+# With a tolerance of a tenth and 22 more, an ideal district has 111 people, at most 122 are allowed,
+# and the pair has 122. With 23 more it has 123 of 122. With 18 fewer an ideal district has 91, at
+# least 82 are wanted, and the pair has 82. With 19 fewer it has 81 of 82.
 CODES = ["37001", "37003", "37005", "37007"]
 FILES = {
     "geo": "".join(
@@ -46,13 +49,13 @@ class Tables(unittest.TestCase):
             (self.room / name).write_text(text, encoding="ascii")
 
     def run_within(
-        self, people: int, names: tuple[str, ...] = tuple(FILES)
+        self, people: int, names: tuple[str, ...] = tuple(FILES), *further: str
     ) -> subprocess.CompletedProcess[str]:
-        """Runs the tool up to so many people with the files of these names."""
+        """Runs the tool up to so many people with the files of these names, and further words."""
         words = [sys.executable, closeness.__file__, "--program", TESTED.program]
         for name in names:
             words += [f"--{name}", name]
-        words += ["--chamber", "2", "--within", str(people), "--jobs", "1"]
+        words += ["--chamber", "2", "--within", str(people), "--jobs", "1", *further]
         done = subprocess.run(words, cwd=self.room, capture_output=True, text=True, check=False)
         self.assertEqual(done.returncode, 0, done.stderr)
         return done
@@ -73,6 +76,13 @@ class Tables(unittest.TestCase):
         done = subprocess.run(words, cwd=self.room, capture_output=True, text=True, check=False)
         self.assertEqual(done.returncode, 2)
         self.assertIn("--geo and --segment, or --people", done.stderr)
+
+    def test_a_tolerance(self) -> None:
+        rows = [f"{code},{change},1,0 0 0 1,not lawful" for change in (-19, 23) for code in CODES]
+        wanted = [HEADER, ",30,1,0 2,best", *rows]
+        for text in ("10%", "0.1", "1/10", "2/20"):
+            done = self.run_within(30, tuple(FILES), "--tolerance", text)
+            self.assertEqual(done.stdout.splitlines(), wanted, text)
 
     def test_no_change_so_near(self) -> None:
         self.assertEqual(self.run_within(9).stdout.splitlines(), [HEADER, ",9,1,0 2,best"])

@@ -29,6 +29,9 @@ ROW = {
 # The same with a border between the ends: a ring has two best groupings of two pairs. Without any
 # one border it is a row, and the grouping that needs this border is gone.
 CLOSED = ROW["adjacency"] + "x|37007|y|37001\n"
+# Pairs of 94 and of 106 people are lawful by a tenth, and not by a twentieth. Then all four are one
+# group, which needs each of the borders.
+UNEVEN = {**ROW, "segment": "".join(f"||||{at}|{47 if at < 2 else 53}\n" for at in range(4))}
 PEOPLE = "county,people\n" + "".join(f"3700{2 * at + 1},50\n" for at in range(4)) + "45001,9\n"
 HEADER = ",".join(deciding_borders.HEADER)
 CHANGES = "counts; best groupings; shared groups; groups"
@@ -37,14 +40,14 @@ CHANGES = "counts; best groupings; shared groups; groups"
 class Tables(unittest.TestCase):
     """Tests of the tables of a row and a ring of counties."""
 
-    def run_over(self, files: dict[str, str]) -> subprocess.CompletedProcess[str]:
-        """Runs the tool over files, by their options."""
+    def run_over(self, files: dict[str, str], *further: str) -> subprocess.CompletedProcess[str]:
+        """Runs the tool over files, by their options, with further words."""
         with tempfile.TemporaryDirectory() as room:
             words = [sys.executable, deciding_borders.__file__, "--program", TESTED.program]
             for name, text in files.items():
                 (Path(room) / name).write_text(text, encoding="ascii")
                 words += [f"--{name}", name]
-            words += ["--chamber", "2", "--jobs", "1"]
+            words += ["--chamber", "2", "--jobs", "1", *further]
             return subprocess.run(words, cwd=room, capture_output=True, text=True, check=False)
 
     def run_with(self, adjacency: str) -> list[str]:
@@ -63,6 +66,18 @@ class Tables(unittest.TestCase):
             done = self.run_over(files)
             self.assertEqual((done.returncode, done.stdout), (2, ""))
             self.assertIn("give --geo and --segment, or --people", done.stderr)
+
+    def test_a_tolerance(self) -> None:
+        by_a_tenth = self.run_with(ROW["adjacency"])
+        for text in ("10%", "0.1", "1/10"):
+            done = self.run_over(UNEVEN, "--tolerance", text)
+            self.assertEqual(done.stdout.splitlines(), by_a_tenth, done.stderr)
+        pairs = ("37001,37003", "37003,37005", "37005,37007")
+        rows = [f"{pair},0,impossible,{CHANGES},not lawful" for pair in pairs]
+        wanted = [HEADER, ",3,1,0 0 0 1,nothing,not lawful", *rows]
+        self.assertEqual(self.run_over(UNEVEN).stdout.splitlines(), wanted)
+        done = self.run_over(UNEVEN, "--tolerance", "5%")
+        self.assertEqual(done.stdout.splitlines(), wanted, done.stderr)
 
     def test_a_row(self) -> None:
         pairs = ("37001,37003", "37005,37007")

@@ -287,8 +287,11 @@ class Tables(Made):
             )
         wanted = "1|37001\n1|37003\n1|37005\n1|37007\n"
         self.assertEqual(self.made(text, *words), Ran(0, wanted, told))
-        wide = self.made(text, *words, "--part", "1", "--of", "10")
-        self.assertEqual(wide, Ran(0, wanted, told[:1]))
+        tenth: List[List[str]] = [["--part", "1", "--of", "10"]]
+        tenth += [["--tolerance", text] for text in ("10%", "0.1", "1/10")]
+        for further in tenth:
+            wide = self.made(text, *words, *further)
+            self.assertEqual(wide, Ran(0, wanted, told[:1]))
         pairs = "37001,1\n37007,1\n37003,2\n37005,2\n"
         found = self.made(pairs, *words)
         self.assertEqual(found.text, "2|37001|37007\n2|37003|37005\n")
@@ -413,7 +416,9 @@ class Refusals(Made):
         self.refused(text, "The geographic header geo has no county.", *chamber)
 
     def test_words(self) -> None:
-        for words in ([], ["a", "--chamber", "0"], ["a", "--state", "x"], ["a", "--part", "11"]):
+        tolerances = [["a", f"--tolerance={text}"] for text in ("", "5", "51%", "1/1001", "5 %")]
+        tolerances += [["a", "--tolerance", "5%", "--part", "1"], ["a", "--part", "11"]]
+        for words in ([], ["a", "--chamber", "0"], ["a", "--state", "x"], *tolerances):
             with contextlib.redirect_stderr(io.StringIO()) as said:
                 self.assertRaisesRegex(SystemExit, "2", grouping.main, words)
             self.assertIn("error: ", said.getvalue())

@@ -29,6 +29,11 @@ CLOSING = b"+|37007|37001"
 HEADER = ",".join(what_if.HEADER)
 TABLE = [HEADER, ",,,2,0,0 2,nothing"]
 TABLE += ["-,37001,37003,1,2,0 2,best groupings; shared groups; groups"]
+# In a ring of 47, 47, 53 and 53 people, two pairs have 94 and 106 people, and two have 100 each. So
+# by a tenth the table is the same. By a twentieth only the pairs of 100 people are lawful: these are
+# the middle counties and the ends. In the row that the cut makes of the ring they stay.
+UNEVEN = "".join(f"||||{i}|{47 if i < 2 else 53}\n" for i in range(4))
+NARROW = [HEADER, ",,,1,2,0 2,nothing", "-,37001,37003,1,2,0 2,nothing"]
 
 
 class Tables(unittest.TestCase):
@@ -47,11 +52,11 @@ class Tables(unittest.TestCase):
             file.write(held)
 
     def run_with(
-        self, links: bytes, counts: tuple[str, ...] = ("geo", "segment")
+        self, links: bytes, counts: tuple[str, ...] = ("geo", "segment"), *further: str
     ) -> subprocess.CompletedProcess[str]:
-        """Runs the tool with a file of these links and the files `counts`."""
+        """Runs the tool with a file of these links, the files `counts` and further words."""
         self.store("links", links)
-        words = ["--program", TESTED.program, "--chamber", "2", "--jobs", "1"]
+        words = ["--program", TESTED.program, "--chamber", "2", "--jobs", "1", *further]
         for name in (*counts, "adjacency", "borders", "links"):
             words += [f"--{name}", os.path.join(self.room, name)]
         command = [sys.executable, what_if.__file__, *words]
@@ -74,6 +79,27 @@ class Tables(unittest.TestCase):
             done = self.run_with(CLOSING, counts)
             self.assertEqual((done.returncode, done.stdout), (2, ""))
             self.assertIn("give --geo and --segment, or --people", done.stderr)
+
+    def test_a_tolerance(self) -> None:
+        self.store("segment", UNEVEN.encode())
+        counts = ("geo", "segment")
+        for words, wanted in {
+            "--tolerance 10%": TABLE,
+            "--tolerance 1/10": TABLE,
+            "--part 2": TABLE,
+            "--part 2 --of 20": TABLE,
+            "": NARROW,
+            "--tolerance 0.05": NARROW,
+            "--of 20": NARROW,
+        }.items():
+            done = self.run_with(CLOSING, counts, *words.split())
+            self.assertEqual(done.stdout.splitlines(), wanted, done.stderr)
+
+    def test_tolerances_that_are_none(self) -> None:
+        for words in ("--tolerance 10% --of 20", "--tolerance 51%", "--part 11"):
+            done = self.run_with(CLOSING, ("geo", "segment"), *words.split())
+            self.assertEqual((done.returncode, done.stdout), (2, ""), words)
+            self.assertIn("tolerance", done.stderr.splitlines()[-1])
 
     def test_links_that_are_no_text(self) -> None:
         """Links that aren't UTF-8 are refused by the program, in one line."""

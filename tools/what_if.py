@@ -2,9 +2,10 @@
 """Tells which disputed borders matter: solves and lists a chamber with each added or cut alone.
 
 usage: python3 tools/what_if.py --program FILE COUNTS --adjacency FILE --chamber SEATS
-           --borders FILE [--links FILE] [--withdrawn FILE] [--state CODE] [--part PART --of OF]
-           [--jobs JOBS]
+           --borders FILE [--links FILE] [--withdrawn FILE] [--state CODE]
+           [--tolerance TOLERANCE | [--part PART] [--of OF]] [--jobs JOBS]
        COUNTS is --geo FILE --segment FILE, or --people FILE.
+       TOLERANCE is a percentage, a decimal or a fraction, as 5%, 0.05 or 1/20.
 
 Each line of the borders is one of a links file: `+|CODE|CODE` adds a pair, `-|CODE|CODE` cuts one.
 Standard output is a CSV table: a line for the problem as it is, and then one for each border. A
@@ -26,11 +27,11 @@ from dataclasses import dataclass
 from pathlib import Path
 
 from refusal import Refused
-from script_words import ScriptWords
+from script_words import ScriptWords, tolerance_words
 
 HEADER = ["SIGN", "COUNTY", "NEIGHBOR", "BEST_GROUPINGS", "SHARED_GROUPS", "COUNTS", "CHANGES"]
 LINK = re.compile(r"([+-])\|([0-9]{5})\|([0-9]{5})")
-OPTIONS = ["geo", "segment", "people", "adjacency", "chamber", "withdrawn", "state", "part", "of"]
+OPTIONS = ["geo", "segment", "people", "adjacency", "chamber", "withdrawn", "state"]
 
 
 @dataclass(frozen=True)
@@ -96,6 +97,7 @@ class Runs:
             if given[name] is not None
             for part in (f"--{name}", str(given[name]))
         ]
+        self.problem += tolerance_words(words.tolerance)
         self.links = Path(words.links).read_bytes() if words.links else b""
         if self.links and not self.links.endswith(b"\n"):
             self.links += b"\n"
@@ -141,11 +143,14 @@ def arguments(words: list[str]) -> argparse.Namespace:
     for name in ["program", "adjacency", "chamber", "borders"]:
         parser.add_argument(f"--{name}", required=True)
     parser.add_counts()
-    for name in ["links", "withdrawn", "state", "part", "of"]:
+    for name in ["links", "withdrawn", "state"]:
         parser.add_argument(f"--{name}")
+    parser.add_tolerance()
+    parser.add_part_and_of()
     parser.add_argument("--jobs", type=int, default=os.cpu_count() or 1)
     given = parser.parse_args(words)
     parser.check_counts(given)
+    parser.check_tolerance(given)
     return given
 
 

@@ -28,6 +28,9 @@ MOST_STEPS = 2**64 - 1
 # The option and the file that a warning of the program begins with.
 OPTION_AND_FILE = re.compile(r"^--([a-z]+) [a-z]+\.txt:? ")
 
+# A percentage such as 4.5%.
+PERCENTAGE = re.compile(r"([0-9]+(?:\.[0-9]+)?)%")
+
 # The exit statuses with which the program gives an answer, and the one of a text that is none.
 WITH_ANSWER = (0, 1, 3)
 NO_CERTIFICATE = 1
@@ -253,13 +256,17 @@ def whole_number(given: Any, least: int, most: int, name: str) -> int:
 def tolerance_of(given: Tolerance | None) -> Fraction:
     """Returns the tolerance as a fraction of at most 1/2, in lowest terms.
 
-    A float is taken as it is written: 0.05 is 1/20. Raises `InputError` if it is no fraction from 0
-    to 1/2 of at most 500 over at most 1000.
+    A float is taken as it is written: 0.05 is 1/20. A text may be a percentage such as "5%". Raises
+    `InputError` if it is no fraction from 0 to 1/2 of at most 500 over at most 1000.
     """
     if given is None:
         return FIVE_PERCENT
+    percent = PERCENTAGE.fullmatch(given) if isinstance(given, str) else None
     try:
-        exact = Fraction(repr(given)) if isinstance(given, float) else Fraction(given)
+        if percent:
+            exact = Fraction(percent[1]) / 100
+        else:
+            exact = Fraction(repr(given)) if isinstance(given, float) else Fraction(given)
     except (ValueError, TypeError, ArithmeticError) as fault:
         raise InputError(f"The tolerance {given!r} is no fraction.") from fault
     if not 0 <= exact <= Fraction(1, 2):

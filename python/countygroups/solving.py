@@ -61,7 +61,7 @@ def solve(
     seats.
 
     `tolerance` is how much of the ideal population a district may miss: 1/20 if nothing is said. A
-    float is taken as it is written.
+    float is taken as it is written, and a text may be "4%", "0.04" or "1/25".
 
     `steps` bounds the search; the program has 10,000,000. `timeout` bounds it in seconds.
 

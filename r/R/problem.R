@@ -62,6 +62,7 @@ withdrawn_set <- function(given, table) {
 # Returns the tolerance as the part and the whole of a fraction in lowest terms.
 tolerance_of <- function(given) {
   if (is.null(given)) return(five_percent)
+  if (is.character(given)) return(tolerance_of_text(given))
   if (!is.numeric(given) || length(given) != 1 || !is.finite(given) || given < 0) {
     stop_input("`tolerance` is no number from 0 on.")
   }
@@ -75,6 +76,33 @@ tolerance_of <- function(given) {
     stop_input("`tolerance` is no fraction of at most 500 over at most 1000.")
   }
   c(part[found[1]], whole[found[1]])
+}
+
+# Returns the tolerance that a text such as "4%", "0.04" or "1/25" writes, as `tolerance_of` does.
+tolerance_of_text <- function(text) {
+  form <- "^([0-9]{1,9})/([0-9]{1,9})$|^([0-9]{1,3})([.]([0-9]{1,9}))?(%?)$"
+  found <- if (length(text) == 1) regmatches(text, regexec(form, text))[[1]]
+  if (length(found) == 0 || is.na(found[1])) {
+    stop_input("`tolerance` is \"", text[1], "\", and no percentage, decimal or fraction.")
+  }
+  if (nzchar(found[2])) {
+    over <- as.numeric(found[2])
+    under <- as.numeric(found[3])
+  } else {
+    over <- as.numeric(paste0(found[4], found[6]))
+    under <- 10^(nchar(found[6]) + 2 * nchar(found[7]))
+  }
+  if (2 * over > under) {
+    stop_input("`tolerance` is ", text, ", and has to be 0 to 0.5; 5% is five percent.")
+  }
+  # (all products are whole numbers below 2^53, which are exact)
+  whole <- 1:1000
+  part <- round(over * whole / under)
+  equal <- which(part * under == over * whole)
+  if (under == 0 || length(equal) == 0) {
+    stop_input("`tolerance` is no fraction of at most 500 over at most 1000.")
+  }
+  c(part[equal[1]], whole[equal[1]])
 }
 
 # Returns a whole number as the program reads it.

@@ -30,7 +30,8 @@ of this package (see \code{\link{borders_source}}), and other shapes their commo
 \item{added, cut}{pairs of labels that are then added and cut: two columns}
 \item{withdrawn}{a list of the sets that are taken out beforehand, each \code{list(labels, seats)}}
 \item{tolerance}{how much of the ideal population a district may miss; 0.05 if nothing is said. It
-has to be a fraction of at most 500 over at most 1000.}
+may be a text, too: \code{"4\%"}, \code{"0.04"} and \code{"1/25"} are the same as \code{0.04}. It has to
+be a fraction of at most 500 over at most 1000.}
 \item{label}{the column that labels counties. If nothing is said, it is the first of \code{"GEOID"},
 \code{"GEOID20"}, \code{"GEOID10"}, \code{"GEO_ID"} and \code{"FIPS"} that is there, or the codes of
 \code{"STATEFP"} and \code{"COUNTYFP"} or of \code{"state"} and \code{"county"}, or the row names.

@@ -411,6 +411,22 @@ test("tolerance, seats and withdrawn sets", {
   expect_refusal(input$tolerance_of(-1), "tolerance")
   expect_refusal(input$tolerance_of(pi), "has to be 0 to 0.5")
   expect_refusal(input$tolerance_of(0.12345), "no fraction")
+  for (given in list(0.04, "4%", "4.0%", "0.04", "1/25", "4/100")) {
+    expect_equal(input$tolerance_of(given), c(1, 25))
+  }
+  expect_equal(input$tolerance_of("4.5%"), c(9, 200))
+  expect_equal(input$tolerance_of("0"), c(0, 1))
+  expect_equal(input$tolerance_of("50%"), c(1, 2))
+  wrong <- list("", "4 %", "-4%", "1/3%", "4%%", "%", "four", "0x1", NA_character_, c("4%", "5%"))
+  for (text in wrong) {
+    expect_refusal(input$tolerance_of(text), "no percentage, decimal or fraction")
+  }
+  for (text in c("51%", "2/3", "1/0", "4")) {
+    expect_refusal(input$tolerance_of(text), "has to be 0 to 0.5")
+  }
+  for (text in c("0.05%", "0/0", "33.33%", "10.010010010%", "1/1001")) {
+    expect_refusal(input$tolerance_of(text), "no fraction of at most 500")
+  }
   table <- input$read_counties(path_people)
   expect_refusal(input$withdrawn_set("Alder", table), "a list of its counties")
   expect_refusal(input$withdrawn_set(list("Elm", 1), table), "names Elm")
