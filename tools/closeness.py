@@ -5,7 +5,7 @@ usage: python3 tools/closeness.py --program FILE COUNTS --adjacency FILE --chamb
            --within PEOPLE [--grouping FILE] [--state CODE] [--tolerance TOLERANCE]
            [--jobs JOBS]
        COUNTS is --geo FILE --segment FILE, or --people FILE.
-       TOLERANCE is a percentage, a decimal or a fraction, as 5%, 0.05 or 1/20.
+       TOLERANCE is a percentage, a decimal or a fraction, as 5%, 0.05 or 1/20 (the default).
 
 Each county is tried alone, with up to PEOPLE more and up to PEOPLE fewer. The people of the state
 change with the county's. If the farthest change leaves the list of best groupings as it is, none

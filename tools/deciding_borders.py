@@ -4,7 +4,7 @@
 usage: python3 tools/deciding_borders.py --program FILE COUNTS --adjacency FILE --chamber SEATS
            [--grouping FILE] [--state CODE] [--tolerance TOLERANCE] [--jobs JOBS]
        COUNTS is --geo FILE --segment FILE, or --people FILE.
-       TOLERANCE is a percentage, a decimal or a fraction, as 5%, 0.05 or 1/20.
+       TOLERANCE is a percentage, a decimal or a fraction, as 5%, 0.05 or 1/20 (the default).
 
 Each border between two counties of the state is left out alone, and the chamber is solved and
 listed without it.

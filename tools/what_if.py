@@ -5,7 +5,7 @@ usage: python3 tools/what_if.py --program FILE COUNTS --adjacency FILE --chamber
            --borders FILE [--links FILE] [--withdrawn FILE] [--state CODE]
            [--tolerance TOLERANCE | [--part PART] [--of OF]] [--jobs JOBS]
        COUNTS is --geo FILE --segment FILE, or --people FILE.
-       TOLERANCE is a percentage, a decimal or a fraction, as 5%, 0.05 or 1/20.
+       TOLERANCE is a percentage, a decimal or a fraction, as 5%, 0.05 or 1/20 (the default).
 
 Each line of the borders is one of a links file: `+|CODE|CODE` adds a pair, `-|CODE|CODE` cuts one.
 Standard output is a CSV table: a line for the problem as it is, and then one for each border. A

@@ -203,8 +203,8 @@ class Problems(unittest.TestCase):
     def test_tolerance(self) -> None:
         for given in [None, 0.05, "1/20", "0.05", "5%", "5.0%", Decimal("0.05"), Fraction(5, 100)]:
             self.assertEqual(tolerance_of(given), Fraction(1, 20))
-        for twentyfifth in [0.04, "1/25", "4%"]:
-            self.assertEqual(tolerance_of(twentyfifth), Fraction(1, 25))
+        equal = {tolerance_of(0.04), tolerance_of("1/25"), tolerance_of("4%")}
+        self.assertEqual(equal, {Fraction(1, 25)})
         self.assertEqual(tolerance_of("4.5%"), Fraction(9, 200))
         texts = ["5 %", "-5%", "1/3%", "%", "5%%", "51%", "0.05%", "33.33%"]
         for wrong in [-0.1, *texts, 1 / 3, Fraction(501, 1000), float("nan"), [1]]:
