@@ -60,7 +60,7 @@ from typing import Any, BinaryIO, Callable, Optional
 
 import share_worker
 from refusal import Refused
-from script_words import ScriptWords
+from script_words import ScriptWords, tolerance_from
 from share_proof import Event, Piece, Proof, judged, store, tell
 from share_worker import Answer, Prover, Task, end_provers, end_tests, prove, prove_with
 from share_worker import read_answer, replies
@@ -513,8 +513,11 @@ def tolerance_of(words: list[str]) -> Fraction:
     for word, after in zip(words, [*words[1:], ""]):
         option, equals, number = word.partition("=")
         told[option] = number if equals else after
-    if text := told.get("--tolerance"):
-        return Fraction(text.rstrip("%")) / (100 if text.endswith("%") else 1)
+    if "--tolerance" in told:
+        try:
+            return tolerance_from(told["--tolerance"])
+        except argparse.ArgumentTypeError as fault:
+            raise Refused(str(fault)) from fault
     return Fraction(int(told.get("--part", 1)), int(told.get("--of", 20)))
 
 
