@@ -33,7 +33,8 @@ from typing import Any, Optional
 
 from help_texts import TOP
 from machine_pace import allowed
-from share import begin
+from refusal import Refused
+from share import begin, head_of, problem_words
 from share_worker import Prover, end_tests, prove, prove_with
 from tested_program import TESTED, run_tests
 
@@ -409,6 +410,28 @@ class Dask(Shared):
 
 class Words(unittest.TestCase):
     """Tests of the words of the command."""
+
+    def test_a_people_file(self) -> None:
+        """Its path is made whole, as the paths of the other files are."""
+        words = problem_words(["--people", "p.csv", "--tolerance=5%", "--chamber", "2"])
+        path = os.path.abspath("p.csv")
+        self.assertEqual(words, ["--people", path, "--tolerance=5%", "--chamber", "2"])
+
+    def test_a_tolerance(self) -> None:
+        """The head of the certificate has it in lowest terms, unless it is one twentieth."""
+        plain = "county-groups wide certificate 1\norder 37001\n"
+        tenth = "county-groups wide certificate 2\nwindow 1 10\norder 37001\n"
+        for words, head in (
+            ([], plain),
+            (["--tolerance", "5%"], plain),
+            (["--part", "2", "--of", "40"], plain),
+            (["--tolerance=0.1"], tenth),
+            (["--part=1", "--of=10"], tenth),
+        ):
+            with self.subTest(words):
+                self.assertEqual(head_of(words, [b"37001"]), head)
+        with self.assertRaises(Refused):
+            head_of(["--tolerance", "much"], [b"37001"])
 
     def test_no_dask(self) -> None:
         """Without Dask a sentence says what is missing."""
