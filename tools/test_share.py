@@ -421,15 +421,16 @@ class Words(unittest.TestCase):
         """The head of the certificate has it in lowest terms, unless it is one twentieth."""
         plain = "county-groups wide certificate 1\norder 37001\n"
         tenth = "county-groups wide certificate 2\nwindow 1 10\norder 37001\n"
-        for words, head in (
-            ([], plain),
-            (["--tolerance", "5%"], plain),
-            (["--part", "2", "--of", "40"], plain),
-            (["--tolerance=0.1"], tenth),
-            (["--part=1", "--of=10"], tenth),
-        ):
+        heads = {
+            "": plain,
+            "--tolerance 5%": plain,
+            "--part 2 --of 40": plain,
+            "--tolerance=0.1": tenth,
+            "--part=1 --of=10": tenth,
+        }
+        for words, head in heads.items():
             with self.subTest(words):
-                self.assertEqual(head_of(words, [b"37001"]), head)
+                self.assertEqual(head_of(words.split(), [b"37001"]), head)
         with self.assertRaises(Refused):
             head_of(["--tolerance", "much"], [b"37001"])
 
