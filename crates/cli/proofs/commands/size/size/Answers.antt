@@ -10,14 +10,14 @@ use Rattle.cli.proofs.StepLemmas.{stepped}
 use Rattle.cli.proofs.TableLemmas.{bare_listed}
 use Rattle.cli.proofs.commands.size.size.Goals as goal
 
-pub returns-then-words-clause-steps : goal.returns-then-words-clause-steps
-returns-then-words-clause-steps g c =
+pub returns-then-has_names-clause-steps : goal.returns-then-has_names-clause-steps
+returns-then-has_names-clause-steps g c =
     let files = g.H.FileStore.contents c.args.file_store.now in
     let words = c.args.words in
     let before = g.H.FileStore.history c.args.file_store.now in
     let after = g.H.FileStore.history c.load_named_counties.new.file_store in
     let held = c.in_ok-named.named.items in
-    let bare = bare_listed held _ _ _ c.deref-then-words-2.ensures.value c.in_ok-counties.ensures c.deref.ensures.value in
+    let bare = bare_listed held _ _ _ c.deref-then-has_names-2.ensures.value c.in_ok-counties.ensures c.deref.ensures.value in
     let sized = subst (λ (counties : List County). Comes answer_of c.sizes_of.result (sizes_of words (Some (map county_name held)) counties after after)) bare (c.sizes_of.ensures after) in
     subst (λ (reads : Bool). Comes answer_of c.sizes_of.result (sizes_by reads files words before after)) (sym c.if-has_names.true ∙ c.has_names.ensures)
     (stepped g.H.FileStore.contents g.H.FileStore.history answer_of _ (λ f. named_counties_of f words) (λ _ named. sizes_of words (Some named) (without_names named)) _ _ _ _ c.in_ok-named.ensures.steps c.load_named_counties.ensures.same sized)
