@@ -15,7 +15,6 @@ from __future__ import annotations
 
 import json
 import os
-import re
 import subprocess
 import sys
 import tempfile
@@ -217,9 +216,9 @@ class ByJq(unittest.TestCase):
         self.assertEqual(checked, self.solved)
 
     def test_the_groups_with_names(self) -> None:
-        """They are picked as `docs/how-to/plan_desk.md` does."""
-        page = (TOP / "docs" / "how-to" / "plan_desk.md").read_text(encoding="utf-8")
-        (by,) = re.findall(r"\| jq -r '(.*)'\n", page)
+        """The seats, the people and the counties' names of each group are picked by one filter."""
+        names = '[$names[.counties[]]] | join(", ")'
+        by = f'.names as $names | .groups[] | "\\(.seats) \\(.people) \\({names})"'
         lines = self.picked(self.solved, by).splitlines()
         self.assertEqual(lines[:2], ["1 215999 Johnston County", "1 204576 Onslow County"])
         self.assertEqual(lines[7], "6 1190402 Granville County, Wake County")
