@@ -57,7 +57,8 @@ export function readAddress(page, hash) {
   if (view) return withChamber(page, { ...address, view, query: more.join("/") }, second);
   if (head === "county") return withCounty(page, { ...address, query: more.join("/") }, second);
   if (!head) return address;
-  return withOption(page, withChamber(page, address, head), second);
+  const query = more[0] === "close" ? "close" : "";
+  return withOption(page, withChamber(page, { ...address, query }, head), second);
 }
 
 /**

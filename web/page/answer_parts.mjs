@@ -60,8 +60,9 @@ export function deckHtml(page, answer) {
     ? ` ${capital(countedInWords(answer.taken.length, "set"))} of counties `
       + `${answer.taken.length === 1 ? "was" : "were"} taken out beforehand.` : "";
   const enacted = enactedWords(page, answer);
+  const law = otherLawHtml(answer);
   if (answer.number === 1) {
-    return html`${why}${rule}${source}, one grouping does this best.${enacted}${taken}`;
+    return html`${why}${rule}${source}, one grouping does this best.${enacted}${taken} ${law}`;
   }
   const shared = answer.shared.map((id) => answer.groups[id]);
   const seats = shared.reduce((sum, group) => sum + group.least, 0);
@@ -70,7 +71,21 @@ export function deckHtml(page, answer) {
   return html`
     ${why}${rule}${source}, ${numberText(answer.number)} groupings do this equally well. They share
     ${shared.length} of their ${groups} groups, with ${seats} of the ${answer.seatsLeft} seats; in
-    ${numberWord(areas)} ${nounFor(areas, "area")} there is a choice.${enacted}${taken}`;
+    ${numberWord(areas)} ${nounFor(areas, "area")} there is a choice.${enacted}${taken}
+    ${law}`;
+}
+
+/**
+ * Returns which groupings the rule allows, and that other law may allow fewer.
+ * @param {Answer} answer
+ */
+function otherLawHtml(answer) {
+  const words = answer.number === 1
+    ? "Under this rule it alone may be used; other law, such as the Voting Rights Act, may require "
+      + "another."
+    : "Under this rule any of them may be used; other law, such as the Voting Rights Act, may "
+      + "narrow the choice.";
+  return html`<span class="law">${words}</span>`;
 }
 
 /**
@@ -522,7 +537,8 @@ export function publishedWords({ data, census }, answer) {
  */
 export function whyWords(answer) {
   const [one = 0, two = 0] = answer.counts;
-  return `No lawful grouping has more than ${countedInWords(one, "group")} of one county. None `
+  return "A grouping is lawful if it meets the conditions; it may be used only if it is best. "
+    + `No lawful grouping has more than ${countedInWords(one, "group")} of one county. None `
     + `that has ${numberWord(one)} has more than ${numberWord(two)} of two counties. And so on `
     + `down the `
     + "list:";

@@ -1,7 +1,7 @@
 // How close an answer is: which changes of one county's people change it, by the table that was
 // made with the page, or else by how much room the groups have.
 
-import { hashOf, textsFor } from "./page.mjs";
+import { firstOption, hashOf, textsFor } from "./page.mjs";
 import { byPeople, countyName } from "./geography.mjs";
 import { groupName } from "./group_words.mjs";
 import { html } from "./html.mjs";
@@ -52,6 +52,35 @@ export function changeText(change) {
 }
 
 /**
+ * Returns a change in words: "37 more", "84 fewer".
+ * @param {number} change
+ */
+function changeWords(change) {
+  return `${numberText(Math.abs(change))} ${change > 0 ? "more" : "fewer"}`;
+}
+
+/**
+ * Returns names as a list with "or" before the last.
+ * @param {string[]} names
+ */
+function orList(names) {
+  return andList(names).replace(/ and ([^,]*)$/, " or $1");
+}
+
+/**
+ * Returns the names of the counties of a threshold. If they are many, the others stand behind the
+ * first ones, folded.
+ * @param {string[]} names
+ */
+function namesHtml(names) {
+  const [first, rest] = [names.slice(0, MOST_NAMES), names.slice(MOST_NAMES)];
+  if (rest.length < 2) return orList(names);
+  return html`
+    <details><summary>${first.join(", ")} or any of ${rest.length} other counties</summary>
+    ${orList(rest)}</details>`;
+}
+
+/**
  * Returns what becomes of the answer at a threshold.
  * @param {Page} page
  * @param {Answer} answer
@@ -84,18 +113,63 @@ function thresholdRow(page, answer, threshold) {
   const { change, counties } = threshold;
   const ordered = byPeople(geography, counties);
   const names = ordered.map((one) => countyName(geography, one));
-  const more = names.length - MOST_NAMES;
-  const shown = more > 1 ? `${names.slice(0, MOST_NAMES).join(", ")} or ${more} more`
-    : andList(names).replace(/ and ([^,]*)$/, " or $1");
   const code = geography.counties[ordered[0]].geoid;
   const sign = change > 0 ? "+" : "-";
   const path = `whatif/${answer.key}/people=${code}:${sign}${Math.abs(change)}`;
   return html`
     <tr><td class="number"><b>${changeText(change)}</b></td>
-    <td title="${names.join(", ")}">${shown}<br><span class="note">
-    ${becomesWords(page, answer, threshold)}</span></td>
+    <td>${namesHtml(names)}<div class="note">${becomesWords(page, answer, threshold)}</div></td>
     <td class="try"><a class="needs-program" href="${hashOf(page, path)}">Try it
     <span class="unseen">in ${names[0]}</span></a></td></tr>`;
+}
+
+/**
+ * Returns the least change that was found to change the list, and the least one after which the
+ * enacted grouping isn't best, if one is known.
+ * @param {Page} page
+ * @param {{within: number, thresholds: Threshold[]}} table
+ */
+function leadHtml({ census }, { within, thresholds }) {
+  const [first] = thresholds;
+  if (!first) {
+    return html`
+      With ${numberText(within)} people more or fewer in one county the list of best groupings stays
+      as it is.`;
+  }
+  const lead = html`
+    <b>${changeWords(first.change)} people</b> in one county change the list of best groupings.`;
+  const fall = thresholds.find(({ grouping }) => grouping !== "" && grouping !== "best");
+  const enacted = `the grouping enacted in ${census.enactedYear}`;
+  if (!fall || !census.enactedYear) return html`${lead} It is the least such change that was found.`;
+  const then = fall === first ? html`With them ${enacted} is no longer best.`
+    : html`With <b>${changeWords(fall.change)}</b> ${enacted} is no longer best.`;
+  return html`${lead} ${then} These are the least such changes that were found.`;
+}
+
+/**
+ * Returns the least change of a county's own people that was found to change the list of each
+ * chamber, with links to the tables; or nothing if the page has no tables.
+ * @param {Page} page
+ * @param {number} county
+ */
+export function countyCloseHtml(page, county) {
+  const { name, people } = page.geography.counties[county];
+  const parts = page.answers.flatMap((answer) => {
+    const table = textsFor(page, answer.key).close;
+    if (!table) return [];
+    const { within, thresholds } = thresholdsOf(page, table);
+    const least = thresholds.find((one) => one.counties.includes(county));
+    const none = `none, since with ${numberText(within)} more, and with `
+      + `${numberText(Math.min(within, people))} fewer, the list stays as it is`;
+    const path = `${answer.key}/${firstOption(answer)}/close`;
+    return [html`
+      ${answer.name} ${least ? changeWords(least.change) : none} (<a
+      href="${hashOf(page, path)}">How close is it?</a>)`];
+  });
+  return parts.length ? html`
+    <p class="note" id="county-close"><b>How close:</b> the least change of ${name}’s own people that
+    was found to change the list of best groupings: ${parts.map((one, at) => (
+      at ? html`; ${one}` : one))}.</p>` : "";
 }
 
 /**
@@ -108,11 +182,7 @@ export function closenessHtml(page, answer) {
   if (!table) return roomHtml(page, answer);
   const { within, thresholds } = thresholdsOf(page, table);
   const rows = thresholds.map((one) => thresholdRow(page, answer, one));
-  const [first] = thresholds;
-  const lead = first ? html`
-    <b>${numberText(Math.abs(first.change))} ${first.change > 0 ? "more" : "fewer"} people</b> in
-    one county are the least change that was found to change the list of best groupings.`
-    : html`Up to ${numberText(within)} people more or fewer in one county change nothing.`;
+  const lead = leadHtml(page, { within, thresholds });
   const rest = rows.length > MOST_ROWS ? html`
     <details><summary class="note">${rows.length - MOST_ROWS} more</summary>
     <table class="close">${rows.slice(MOST_ROWS)}</table></details>` : "";
@@ -136,14 +206,12 @@ function otherCensusesHtml(page, answer) {
     if (year === census.year || !table) return [];
     const { within, thresholds: [first] } = thresholdsOf(page, table);
     const path = year === (data.year ?? 0) ? `#${answer.key}` : `#${year}/${answer.key}`;
-    const sign = first?.change > 0 ? "more" : "fewer";
-    const least = first ? `${numberText(Math.abs(first.change))} ${sign}`
-      : `none up to ${numberText(within)}`;
+    const least = first ? changeWords(first.change) : `none up to ${numberText(within)}`;
     return [html`<a href="${path}">${year}</a>: ${least}`];
   });
   const parts = told.map((one, at) => (at ? html`; ${one}` : one));
   return told.length ? html`
-    <p class="note years">The least such change by the counts of ${parts}.</p>` : "";
+    <p class="note years">The least change of the list by the counts of ${parts}.</p>` : "";
 }
 
 /**

@@ -1,7 +1,11 @@
 // The first sentences of a county's card: with whom the county is grouped in a chamber, and why.
 
 import { groupsOf } from "./answers.mjs";
-import { byPeople, countyName, peopleOf, peopleWindow, setKey } from "./geography.mjs";
+import { waterPairs } from "./disputed.mjs";
+import {
+  byPeople, countyName, pairOf, peopleOf, peopleWindow, setKey,
+} from "./geography.mjs";
+import { toleranceWords } from "./group_words.mjs";
 import { html } from "./html.mjs";
 import { hashOf } from "./page.mjs";
 import { neighborsOf, suitingSeats } from "./seats.mjs";
@@ -47,6 +51,32 @@ function listed(geography, counties) {
  */
 export function seatsWords({ least, most }) {
   return least === most ? counted(least, "seat") : `${least} to ${counted(most, "seat")}`;
+}
+
+/**
+ * Returns whether a county meets the others of its group over water alone.
+ * @param {Geography} geography
+ * @param {KnownGroup} group
+ * @param {number} county
+ */
+export function isOverWater(geography, { counties }, county) {
+  const water = waterPairs(geography);
+  const near = neighborsOf(geography, county).filter((one) => counties.includes(one));
+  return near.length > 0 && near.every((one) => water.has(pairOf(county, one).join(" ")));
+}
+
+/**
+ * Returns that a county meets the group that is told first over water alone, or nothing.
+ * @param {Geography} geography
+ * @param {KnownGroup[]} groups  those of the county, the one that is told first in front
+ * @param {number} county
+ */
+function waterWords(geography, groups, county) {
+  const [first, ...others] = groups.map((group) => isOverWater(geography, group, county));
+  if (!first) return "";
+  const which = !others.length ? "this group" : others.every(Boolean) ? "these groups"
+    : "the first group";
+  return ` It meets ${which} only over water.`;
 }
 
 /**
@@ -127,18 +157,17 @@ function whenWords({ geography, census }, answer, county, known) {
  * @param {Geography} geography
  * @param {Answer} answer
  * @param {number} county
- * @param {string} people  what its people are called
  */
-function aloneWords(geography, answer, county, people) {
+function aloneWords(geography, answer, county) {
   const own = geography.counties[county].people;
   const [seats] = suitingSeats(geography, answer, own);
-  if (seats) return `${people} suit ${counted(seats, "seat")} alone`;
+  if (seats) return `Its people suit ${counted(seats, "seat")} alone`;
   let under = 0;
   while (peopleWindow(geography.total, answer.seats, under + 1, answer.tolerance)[1] < own) {
     under += 1;
   }
-  if (!under) return `${people} are too few for a seat alone`;
-  return `${people} are too many for ${counted(under, "seat")} alone, too few for ${under + 1}`;
+  if (!under) return "Its people are too few for a seat";
+  return `Its people are too many for ${counted(under, "seat")}, too few for ${under + 1}`;
 }
 
 /**
@@ -158,7 +187,10 @@ function sizeReason(geography, answer, county, group) {
   }
   const pairs = neighborsOf(geography, county).filter((one) => (
     suitingSeats(geography, answer, peopleOf(geography, [county, one])).length));
-  if (!pairs.length) return `${alone}, and no neighbor makes a lawful pair with it`;
+  if (!pairs.length) {
+    const needs = isAlone ? "its group has" : "it needs";
+    return `${alone}, and it makes no lawful pair, so ${needs} at least three counties`;
+  }
   const keys = new Set(groupsWith(answer, county).map((one) => setKey(one.counties)));
   if (pairs.some((one) => keys.has(setKey([county, one])))) {
     return `${alone}, and by the rule both groups are equally good`;
@@ -170,6 +202,26 @@ function sizeReason(geography, answer, county, group) {
 }
 
 /**
+ * Returns why a county stands alone or not, and in a group of this size. Where the first chamber
+ * was told that it needs three counties, and the same holds of a further one, that is told shortly.
+ * @param {Page} page
+ * @param {Answer} answer
+ * @param {number} county
+ * @param {KnownGroup} group
+ */
+function whyWords({ geography, answers: [first] }, answer, county, group) {
+  const people = numberText(geography.counties[county].people);
+  const told = (/** @type {Answer} */ one, /** @type {KnownGroup} */ of) => (
+    `${aloneWords(geography, one, county)}${sizeReason(geography, one, county, of)}`);
+  const own = told(answer, group);
+  if (answer === first) return own.replace("Its people", `Its ${people} people`);
+  const [before] = groupsInOrder(first, county);
+  const isSame = before && own === told(first, before.group);
+  return isSame && own.endsWith("it needs at least three counties")
+    ? "For the same reasons it needs at least three counties" : own;
+}
+
+/**
  * Returns the answer of a chamber for a county in short: with whom it is, and why.
  * @param {Page} page
  * @param {Answer} answer
@@ -177,9 +229,8 @@ function sizeReason(geography, answer, county, group) {
  */
 function shortAnswer(page, answer, county) {
   const { geography, answers } = page;
-  const { name, people } = geography.counties[county];
-  const isFirst = answer === answers[0];
-  const subject = isFirst ? name : "it";
+  const { name } = geography.counties[county];
+  const subject = answer === answers[0] ? name : "it";
   const taken = answer.taken.find((set) => set.counties.includes(county));
   if (taken) {
     return html`
@@ -194,10 +245,9 @@ function shortAnswer(page, answer, county) {
   const where = others.length ? html`with <b>${listed(geography, others)}</b> ${size}`
     : html`<b>alone</b> (${seats})`;
   const when = whenWords(page, answer, county, known);
-  const own = aloneWords(geography, answer, county,
-    isFirst ? `Its ${numberText(people)} people` : "Its people");
-  const why = `${own}${sizeReason(geography, answer, county, group)}`;
-  return html`<p>In the <b>${answer.name}</b> ${subject} is ${where}${when}. ${why}.</p>`;
+  const why = whyWords(page, answer, county, group);
+  const water = waterWords(geography, known.map((one) => one.group), county);
+  return html`<p>In the <b>${answer.name}</b> ${subject} is ${where}${when}.${water} ${why}.</p>`;
 }
 
 /**
@@ -212,5 +262,9 @@ export function shortAnswers(page, county) {
   return html`
     <div class="short">${page.answers.map((answer) => shortAnswer(page, answer, county))}</div>
     <p class="note">By the rule as many groups as possible have one county, then as many as possible
-    two, and so on. <a href="${proof}">It is proved</a> that no lawful grouping does better.</p>`;
+    two, and so on. This counts the groups of the whole state, so one county’s group may be larger
+    than its people need. <a href="${proof}">It is proved</a> that no lawful grouping does better. Lawful
+    means that the counties of each group are connected, and that its people suit a whole number of
+    seats, within ${toleranceWords(first.tolerance)} of the ideal. A lawful grouping may be used
+    only if it is best.</p>`;
 }

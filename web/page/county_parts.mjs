@@ -1,8 +1,12 @@
 // A county's card as HTML: first with whom it stands in each chamber, and why; behind that its
 // people, its neighbors, all its groups with their room, and the question why not with others.
 
-import { groupsWith, optionsHaving, seatsWords, shortAnswers } from "./county_answer.mjs";
-import { byPeople, countyName, peopleOf, setKey } from "./geography.mjs";
+import { countyCloseHtml } from "./closeness.mjs";
+import {
+  groupsWith, isOverWater, optionsHaving, seatsWords, shortAnswers,
+} from "./county_answer.mjs";
+import { waterPairs } from "./disputed.mjs";
+import { byPeople, countyName, pairOf, peopleOf, setKey } from "./geography.mjs";
 import { html } from "./html.mjs";
 import { answerFor, hashOf } from "./page.mjs";
 import { idealWords, neighborsOf, roomOf, suitingSeats } from "./seats.mjs";
@@ -27,6 +31,17 @@ function whenWords(answer, options) {
 }
 
 /**
+ * Returns the name of a neighbor of a county, and whether they meet over water.
+ * @param {import("./geography.mjs").Geography} geography
+ * @param {number} county
+ * @param {number} neighbor
+ */
+function neighborName(geography, county, neighbor) {
+  const isOver = waterPairs(geography).has(pairOf(county, neighbor).join(" "));
+  return `${countyName(geography, neighbor)}${isOver ? " (over water)" : ""}`;
+}
+
+/**
  * Returns the item of a group that has the county.
  * @param {Page} page
  * @param {Answer} answer
@@ -43,11 +58,13 @@ function groupItem(page, answer, group, county) {
   const options = optionsHaving(answer, group);
   const isEnacted = answer.enacted > 0 && options?.includes(answer.enacted);
   const map = hashOf(page, `${answer.key}/${options?.[0] ?? 1}`);
+  const water = isOverWater(geography, group, county)
+    ? html`<b>It meets this group only over water.</b> ` : "";
   return html`
     <li>${others.length ? html`With <b>${names}</b>` : html`<b>Alone</b>`}:
     ${seatsWords(group)}, ${numberText(peopleOf(geography, group.counties))} people,
-    ${room} for ${counted(group.least, "seat")}. <span class="note">${whenWords(answer, options)}.
-    </span>${isEnacted ? html` <span class="tag">${census.enactedYear} plan</span>` : ""}
+    ${room} for ${counted(group.least, "seat")}. ${water}<span class="note">${
+      whenWords(answer, options)}.</span>${isEnacted ? html` <span class="tag">${census.enactedYear} plan</span>` : ""}
     <a class="after" href="${map}">Map</a></li>`;
 }
 
@@ -88,7 +105,7 @@ function pairsHtml({ geography }, answer, county) {
     const ask = used.has(setKey([county, one])) ? " (as above)" : html`
       <button type="button" class="link needs-program" data-chamber="${answer.key}"
       data-with="${one}" aria-label="Why isn’t it grouped with ${name} alone?">why not?</button>`;
-    return html`${at ? ", " : ""}${name} ${ask}`;
+    return html`${at ? ", " : ""}${neighborName(geography, county, one)} ${ask}`;
   });
   const some = lawful.length === 1 ? "one makes a lawful pair"
     : `${numberWord(lawful.length)} make a lawful pair`;
@@ -168,7 +185,7 @@ function moreHtml(page, county) {
   const { name, people } = geography.counties[county];
   const places = geography.counties.map((_, place) => place);
   const rank = byPeople(geography, places).indexOf(county) + 1;
-  const near = neighborsOf(geography, county).map((one) => countyName(geography, one));
+  const near = neighborsOf(geography, county).map((one) => neighborName(geography, county, one));
   const when = census.year ? ` in ${census.year}` : "";
   const rest = near.length ? `It borders ${andList(near)}.` : "It borders no other county.";
   const both = page.answers.length > 1 ? "two-cards" : "";
@@ -191,6 +208,6 @@ export function countyHtml(page, county, chosen, chamber) {
   return html`
     <div class="head"><h2>${countyName(page.geography, county)} County</h2>
     <button type="button" class="btn quiet" id="close-card">Close</button></div>
-    ${[shortAnswers(page, county), moreHtml(page, county),
+    ${[shortAnswers(page, county), countyCloseHtml(page, county), moreHtml(page, county),
     questionHtml(page, county, chosen, chamber)]}`;
 }

@@ -1,7 +1,7 @@
 // Which borders decide: those without which the best groupings are others, by the table that was
 // made with the page.
 
-import { tieKinds } from "./disputed.mjs";
+import { waterPairs } from "./disputed.mjs";
 import { countyName, pairOf } from "./geography.mjs";
 import { html } from "./html.mjs";
 import { firstDifference, sizeWords } from "./other_group.mjs";
@@ -87,13 +87,12 @@ function withoutWords(answer, { kind, best, counts }) {
 function kindHtml(page, answer, borders, kind) {
   const { geography } = page;
   const own = borders.filter((one) => one.kind === kind);
-  const overWater = new Set(tieKinds(geography).filter((one) => one.kind === "water")
-    .map((one) => pairCodes(geography, one.pair)));
+  const overWater = waterPairs(geography);
   const rows = own.map((border) => {
     const codes = pairCodes(geography, border.pair);
     const [one, other] = border.pair.map((place) => countyName(geography, place));
     const path = `whatif/${answer.key}/cut=${codes.replace(" ", "-")}`;
-    const water = overWater.has(codes) ? ", over water" : "";
+    const water = overWater.has(border.pair.join(" ")) ? ", over water" : "";
     return html`
       <li><a class="needs-program" data-cut="${codes}"
       href="${hashOf(page, path)}"><span class="unseen">Leave out </span>${one}–${other}</a>

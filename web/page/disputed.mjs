@@ -19,6 +19,15 @@ export function linkLine(geography, pair, isAdded) {
 }
 
 /**
+ * Returns the pairs of neighbors that meet over water, each as its two places with a blank between.
+ * @param {Geography} geography
+ */
+export function waterPairs(geography) {
+  const pairs = tieKinds(geography).filter((one) => one.kind === "water");
+  return new Set(pairs.map((one) => one.pair.join(" ")));
+}
+
+/**
  * Returns the pairs in dispute: over water, at a point and counted, at a point and not counted.
  * @param {Geography} geography
  * @returns {Disputed[]}

@@ -53,6 +53,7 @@ function route(page, state) {
   const isOption = address.view === "answer" && address.chamber !== "" && !address.county;
   if (isOption && !address.isEmbedded) nameOption(page, state);
   if (!address.option || !isSame) showView(page, state, address);
+  if (isOption && address.query === "close") find("#close").focus();
 }
 
 /**
@@ -169,7 +170,7 @@ function followWindow(page, state) {
     if (state.view !== "answer") return;
     state.isPrinted = true;
     fold.open = true;
-    for (const more of findAll("#county-more:not([open])")) {
+    for (const more of findAll("#county-more:not([open]), #close details:not([open])")) {
       more.dataset.closed = "true";
       more.setAttribute("open", "");
     }
@@ -179,7 +180,10 @@ function followWindow(page, state) {
   });
   addEventListener("afterprint", () => {
     state.isPrinted = false;
-    findAll("#county-more[data-closed]").forEach((more) => more.removeAttribute("open"));
+    for (const more of findAll("details[data-closed]")) {
+      more.removeAttribute("open");
+      delete more.dataset.closed;
+    }
     if (state.view === "answer") paintAnswer(page, state);
   });
 }

@@ -42,6 +42,8 @@ WORDS_BEFORE = r"""(() => {
   }
   return count;
 })()"""
+GROUP_LINES = "[...document.querySelectorAll('#county-more li')].map((one) => one.innerText)"
+OVER_WATER = "It meets this group only over water."
 LINE_OF_MENU = "document.querySelector('#downloads').open"
 
 
@@ -154,23 +156,52 @@ class Questions(Reader):
         told = self.text("#close")
         for words in ("37 more people", "24 best groupings in place of 16", "−84", "+86"):
             self.assertIn(words, told)
+        self.assertIn("With 86 more the grouping enacted in 2023 is no longer best.", told)
+        self.assertIn("Carteret, Pasquotank, Dare or any of 5 other counties", told)
+        self.assertNotIn("Tyrrell", told)
+        self.click("#close details summary")
+        self.wait_words("#close details", "Hyde or Tyrrell")
         self.click("#close tr:nth-child(3) a")
         self.wait_words(RESULT, "The groups of 2023 aren’t lawful here.")
         self.check_quiet()
 
     def test_how_close_by_link_and_keys(self) -> None:
         self.open("#house/7")
-        self.assertIn("164 more people", self.text("#close"))
+        told = self.text("#close")
+        self.assertIn("164 more people", told)
+        self.assertIn("With 209 fewer the grouping enacted in 2023 is no longer best.", told)
+        self.tab_and_press("#close details summary")
+        self.wait_words("#close details", "Washington")
+        self.go("#2010/house/2")
+        self.wait_words("#close", "With them the grouping enacted in 2017 is no longer best.")
+        self.go("#2000/senate/1")
+        self.wait_words("#close", "50 more people")
+        self.assertNotIn("enacted", self.text("#close"))
         self.go("#senate/6")
         self.tab_and_press("#close tr:nth-child(1) a")
         self.wait_words(RESULT, "24 best groupings instead of 16")
+        self.check_quiet()
+
+    def test_how_close_a_county_is(self) -> None:
+        at_it = "location.hash === '{}' && document.activeElement.id === 'close'"
+        self.open("#county/37137")
+        told = self.wait_words("#county-close", "Senate 37 more")
+        self.assertIn("House 164 more", told)
+        self.click("#county-close a")
+        self.wait(at_it.format("#senate/6"))
+        self.wait("document.querySelector('#close').getBoundingClientRect().top < innerHeight")
+        self.go("#county/37147")
+        told = self.wait_words("#county-close", "Senate 86 more")
+        self.assertIn("House none, since with 2,000 more, and with 2,000 fewer", told)
+        self.tab_and_press("#county-close a:last-child")
+        self.wait(at_it.format("#house/7"))
         self.check_quiet()
 
     def test_a_county_by_link_click_and_keys(self) -> None:
         self.open("#county/37137")
         self.check_pamlico()
         self.click("#county-more summary")
-        self.assertIn("Beaufort, Carteret, Craven and Hyde", self.text("#county-more"))
+        self.check_pamlico_over_water()
         self.go("#senate/6")
         self.click("#map [data-county='31']")
         self.click("#told a[href='#county/37063']")
@@ -192,11 +223,23 @@ class Questions(Reader):
         # (the groups of 2023; 12,276 people by the census, of an ideal of 208,787.76)
         with_whom = "Carteret, Halifax, Martin, Warren, Chowan, Washington and Hyde"
         self.assertIn(f"In the Senate Pamlico is with {with_whom} (8 counties, 1 seat)", first)
-        self.assertIn("Its 12,276 people are too few for a seat alone", first)
-        self.assertIn("no neighbor makes a lawful pair with it", first)
+        self.assertIn("It meets these groups only over water.", first)
+        self.assertIn("Its 12,276 people are too few for a seat", first)
+        self.assertIn("it makes no lawful pair, so it needs at least three counties", first)
         with_whom = "Beaufort, Dare, Currituck, Chowan, Perquimans, Washington, Hyde and Tyrrell"
         self.assertIn(f"In the House it is with {with_whom} (9 counties, 2 seats)", second)
+        self.assertIn("For the same reasons it needs at least three counties.", second)
+        self.assertNotIn("over water", second)
+        self.assertIn("Lawful means that", self.text("#county-card"))
         self.assertLessEqual(self.value(WORDS_BEFORE), MOST_WORDS)
+
+    def check_pamlico_over_water(self) -> None:
+        """Wants which neighbors of Pamlico lie over water, and which of its groups."""
+        # (data/nc2020/borders_without_an_edge.txt: the Neuse River, and the Pamlico River)
+        near = "Beaufort, Carteret (over water), Craven and Hyde (over water)"
+        self.assertIn(near, self.text("#county-more"))
+        lines = self.value(GROUP_LINES)
+        self.assertEqual([OVER_WATER in one for one in lines], [True, True, False, False])
 
     def test_why_not_by_link(self) -> None:
         self.open("#county/37147/senate/37013")

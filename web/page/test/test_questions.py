@@ -33,6 +33,14 @@ CARDS = """(async () => {
 })()"""
 
 
+def pairs_of(name: str, reason: str = "") -> set[frozenset[str]]:
+    """Returns the pairs of a file of borders whose fifth field begins with `reason`."""
+    lines = (DATA / name).read_text(encoding="utf-8").splitlines()[1:]
+    rows = [line.split("|") for line in lines]
+    found = {frozenset((row[1], row[3])) for row in rows if row[4].startswith(reason)}
+    return {pair for pair in found if len(pair) == 2}
+
+
 class Counties(InPage):
     """The card of a county."""
 
@@ -44,10 +52,10 @@ class Counties(InPage):
             self.assertIn(words, told)
         self.assertIn("Carteret, Halifax, Martin, Warren, Chowan, Washington and Hyde", told)
         self.assertIn("Pasquotank, Dare and Perquimans replace Halifax, Martin and Warren", told)
-        self.assertNotIn("Beaufort, Carteret, Craven and Hyde", told)
+        self.assertNotIn("Beaufort, Carteret", told)
         self.press_button("#county-more summary")
         told = self.text("#county-more")
-        for words in ("12,276 people in 2020", "Beaufort, Carteret, Craven and Hyde", "2023 plan"):
+        for words in ("12,276 people in 2020", "It borders Beaufort, Carteret", "2023 plan"):
             self.assertIn(words, told)
         self.press_button("#close-card")
         self.wait("document.querySelector('#county-card').hidden")
@@ -83,6 +91,25 @@ class Counties(InPage):
                     self.assertLessEqual(words, MOST_WORDS)
         self.check_quiet()
 
+    def test_groups_that_are_met_over_water(self) -> None:
+        self.open()
+        codes = [f"37{number:03}" for number in range(1, 200, 2)]
+        told: dict[str, tuple[list[list[str]], int]] = {}
+        for at in range(0, 100, 20):
+            told.update(self.cards(codes[at : at + 20]))
+        borders = pairs_of("county_borders.txt")
+        water = pairs_of("borders_without_an_edge.txt", "over water")
+        self.assertEqual(len(water), 13)
+        for at, chamber in enumerate(("senate", "house")):
+            text = (DATA / f"{chamber}2023.grouping").read_text(encoding="ascii")
+            for group in (set(line.split("|")[1:]) for line in text.split()):
+                for code in group:
+                    own = {one for one in borders if code in one and one <= group}
+                    answer = told[code][0][at][1]
+                    with self.subTest(f"{chamber} {code}"):
+                        self.assertEqual("only over water" in answer, bool(own) and own <= water)
+        self.check_quiet()
+
     def test_the_longest_of_2010(self) -> None:
         self.open("#2010/senate/1")
         # (Harnett and Sampson have large groups in both chambers, and others by other options)
@@ -97,9 +124,12 @@ class Counties(InPage):
         self.browser.ask("Emulation.setEmulatedMedia", media="print")
         self.assertIn("12,276 people in 2020", self.text("#county-card"))
         self.assertNotIn("Ask the program", self.text("#county-card"))
+        # (the names of the first line of "How close is it?" are printed in full)
+        self.assertIn("Hyde or Tyrrell", self.text("#close"))
         self.browser.ask("Emulation.setEmulatedMedia", media="")
         self.value("dispatchEvent(new Event('afterprint')); null")
         self.assertFalse(self.value("document.querySelector('#county-more').open"))
+        self.assertNotIn("Hyde or Tyrrell", self.text("#close"))
 
     def test_by_the_finder_and_from_the_map(self) -> None:
         self.open()
