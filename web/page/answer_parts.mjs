@@ -3,7 +3,7 @@
 
 import { choicesOf, groupsOf, movedCounties, optionsWith, seatsOfArea } from "./answers.mjs";
 import { NOTHING, html } from "./html.mjs";
-import { chamberWords, hashOf, textsFor } from "./page.mjs";
+import { chamberWords, closeHash, hashOf, textsFor } from "./page.mjs";
 import { deviationOf, peopleOf, peopleWindow } from "./geography.mjs";
 import {
   choiceWords, differenceItems, groupName, namesOf, optionWords, toleranceWords, windowWords,
@@ -62,7 +62,9 @@ export function deckHtml(page, answer) {
   const enacted = enactedWords(page, answer);
   const law = otherLawHtml(answer);
   if (answer.number === 1) {
-    return html`${why}${rule}${source}, one grouping does this best.${enacted}${taken} ${law}`;
+    return html`
+      ${why}${rule}${source}, one grouping does this best.${enacted}${taken} ${law}
+      ${closeLink(page, answer)}`;
   }
   const shared = answer.shared.map((id) => answer.groups[id]);
   const seats = shared.reduce((sum, group) => sum + group.least, 0);
@@ -72,7 +74,16 @@ export function deckHtml(page, answer) {
     ${why}${rule}${source}, ${numberText(answer.number)} groupings do this equally well. They share
     ${shared.length} of their ${groups} groups, with ${seats} of the ${answer.seatsLeft} seats; in
     ${numberWord(areas)} ${nounFor(areas, "area")} there is a choice.${enacted}${taken}
-    ${law}`;
+    ${law} ${closeLink(page, answer)}`;
+}
+
+/**
+ * Returns the link to how close an answer is.
+ * @param {Page} page
+ * @param {Answer} answer
+ */
+function closeLink(page, answer) {
+  return html`<a class="noprint" href="${closeHash(page, answer)}">How close is it?</a>`;
 }
 
 /**

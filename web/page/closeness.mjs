@@ -1,7 +1,7 @@
 // How close an answer is: which changes of one county's people change it, by the table that was
 // made with the page, or else by how much room the groups have.
 
-import { firstOption, hashOf, textsFor } from "./page.mjs";
+import { closeHash, hashOf, textsFor } from "./page.mjs";
 import { byPeople, countyName } from "./geography.mjs";
 import { groupName } from "./group_words.mjs";
 import { html } from "./html.mjs";
@@ -140,7 +140,9 @@ function leadHtml({ census }, { within, thresholds }) {
     <b>${changeWords(first.change)} people</b> in one county change the list of best groupings.`;
   const fall = thresholds.find(({ grouping }) => grouping !== "" && grouping !== "best");
   const enacted = `the grouping enacted in ${census.enactedYear}`;
-  if (!fall || !census.enactedYear) return html`${lead} It is the least such change that was found.`;
+  if (!fall || !census.enactedYear) {
+    return html`${lead} It is the least such change that was found.`;
+  }
   const then = fall === first ? html`With them ${enacted} is no longer best.`
     : html`With <b>${changeWords(fall.change)}</b> ${enacted} is no longer best.`;
   return html`${lead} ${then} These are the least such changes that were found.`;
@@ -161,14 +163,13 @@ export function countyCloseHtml(page, county) {
     const least = thresholds.find((one) => one.counties.includes(county));
     const none = `none, since with ${numberText(within)} more, and with `
       + `${numberText(Math.min(within, people))} fewer, the list stays as it is`;
-    const path = `${answer.key}/${firstOption(answer)}/close`;
     return [html`
       ${answer.name} ${least ? changeWords(least.change) : none} (<a
-      href="${hashOf(page, path)}">How close is it?</a>)`];
+      href="${closeHash(page, answer)}">How close is it?</a>)`];
   });
   return parts.length ? html`
-    <p class="note" id="county-close"><b>How close:</b> the least change of ${name}’s own people that
-    was found to change the list of best groupings: ${parts.map((one, at) => (
+    <p class="note" id="county-close"><b>How close:</b> the least change of ${name}’s own people
+    that was found to change the list of best groupings: ${parts.map((one, at) => (
       at ? html`; ${one}` : one))}.</p>` : "";
 }
 

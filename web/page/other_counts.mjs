@@ -15,7 +15,8 @@ import { counted, numberText } from "./words.mjs";
  * @typedef {{people: Map<number, number>, note: string}} GivenCounts
  */
 
-const PEOPLE_COLUMN = /^(pop|people|population|popestimate|estimate|total|totalpop|count|p0010001)/;
+const PEOPLE_COLUMN = /^(pop|people|estimate|total|count(?!y)|p0010001)/;
+const NUMBER = /^[\d,\s]{1,15}(\.0+)?$/;
 // Fields of the geographic header: the level of a line, its record, its people.
 const LEVEL = 2;
 const RECORD = 7;
@@ -149,19 +150,39 @@ function countyOfRow(geography, header, row) {
 }
 
 /**
- * Returns the counts of a table: the column of people is the last whose name says so.
+ * Returns the column of people: the last whose name says so, or else the one column of numbers
+ * besides the columns of codes. Throws a sentence if there is none, or if there are several.
+ * @param {Geography} geography
+ * @param {string[]} header
+ * @param {string[][]} body
+ */
+function peopleColumn(geography, header, body) {
+  const plain = header.map((name) => name.toLowerCase().replace(/[^a-z0-9]/g, ""));
+  const named = plain.reduce((last, name, at) => (PEOPLE_COLUMN.test(name) ? at : last), -1);
+  if (named >= 0) return named;
+  const codes = [columnOf(header, COUNTY_COLUMNS), ...["state", "statefp", "county", "countyfp"]
+    .map((name) => columnOf(header, [name]))];
+  if (codes.every((at) => at < 0)) codes.push(0);
+  const rows = body.filter((row) => countyOfRow(geography, header, row) >= 0);
+  const numbers = header.map((_, at) => at).filter((at) => !codes.includes(at) && rows.length
+    && rows.every((row) => NUMBER.test(row[at] ?? "")));
+  if (numbers.length === 1) return numbers[0];
+  const several = numbers.map((at) => `“${header[at]}”`).join(", ");
+  throw new Error(numbers.length
+    ? `The table has several columns of numbers (${several}): name the one of people Population.`
+    : "The table has no column of people: one whose name begins with Population, Estimate, People "
+      + "or Total is wanted.");
+}
+
+/**
+ * Returns the counts of a table.
  * @param {Geography} geography
  * @param {string[][]} rows
  * @returns {GivenCounts}
  */
 function countsOfTable(geography, rows) {
   const [header, ...body] = rows;
-  const plain = header.map((name) => name.toLowerCase().replace(/[^a-z0-9]/g, ""));
-  const column = plain.reduce((last, name, at) => (PEOPLE_COLUMN.test(name) ? at : last), -1);
-  if (column < 0) {
-    throw new Error("The table has no column of people: one whose name begins with Population, "
-      + "Estimate, People or Total is wanted.");
-  }
+  const column = peopleColumn(geography, header, body);
   /** @type {Map<number, number>} */
   const people = new Map();
   let left = 0;

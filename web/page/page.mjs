@@ -110,6 +110,15 @@ export function hashOf({ census, data }, path) {
 }
 
 /**
+ * Returns the address of how close an answer is.
+ * @param {Page} page
+ * @param {Answer} answer
+ */
+export function closeHash(page, answer) {
+  return hashOf(page, `${answer.key}/${firstOption(answer)}/close`);
+}
+
+/**
  * Returns the answer of a chamber.
  * @param {Page} page
  * @param {string} key

@@ -8,7 +8,7 @@ import { whatIfCommands } from "./commands.mjs";
 import { decidingHtml } from "./deciding_borders.mjs";
 import { openHandout } from "./handout.mjs";
 import { changedGeography, countsText, readCounts } from "./other_counts.mjs";
-import { answerFor, chamberWords, hashOf, textsFor } from "./page.mjs";
+import { answerFor, chamberWords, closeHash, firstOption, hashOf, textsFor } from "./page.mjs";
 import { tieKinds } from "./disputed.mjs";
 import {
   bringIntoView, chamberButtons, find, findAll, findInput, saveFile, verdictHtml,
@@ -170,12 +170,25 @@ function paintStale(page, state) {
 }
 
 /**
+ * Returns where the page answers what readers look for here, too.
+ * @param {Page} page
+ * @param {import("./answers.mjs").Answer} answer
+ */
+function elsewhereHtml(page, answer) {
+  const own = hashOf(page, `${answer.key}/${firstOption(answer)}`);
+  return html`
+    How few people change the answer? <a href="${closeHash(page, answer)}">How close is it?</a>
+    May some counties be one group? <a href="${own}">Find one of them</a>, and ask on its card.`;
+}
+
+/**
  * Draws the form.
  * @param {Page} page
  * @param {ViewState} state
  */
 function paintForm(page, state) {
   const answer = answerFor(page, state.chamber);
+  fill(find("#whatif-elsewhere"), elsewhereHtml(page, answer));
   const chambers = find("#whatif-chambers");
   fill(chambers, chamberButtons(page.answers, answer.key));
   chambers.hidden = page.answers.length < 2;

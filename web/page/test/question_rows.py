@@ -283,6 +283,12 @@ class Questions(Reader):
         head = "STATE,COUNTY,CTYNAME,POPESTIMATE2025\n"
         self.give("#people-file", self.write("estimates.csv", head + rows))
         self.wait_words("#people-note", "The column “POPESTIMATE2025” was taken.")
+        by_name = 'County,July 1 2025\n"Pitt County","175,000"\n'
+        self.give("#people-file", self.write("by_name.csv", by_name))
+        self.wait_words("#people-note", "The column “July 1 2025” was taken.")
+        two = "County,2024,2025\nPitt,1,2\n"
+        self.give("#people-file", self.write("two.csv", two.replace("2024", "in 2024")))
+        self.wait_words("#people-note", "name the one of people Population")
         self.check_quiet()
 
     def test_a_plan_by_its_codes(self) -> None:
