@@ -177,8 +177,8 @@ function paintStale(page, state) {
 function elsewhereHtml(page, answer) {
   const own = hashOf(page, `${answer.key}/${firstOption(answer)}`);
   return html`
-    How few people change the answer? <a href="${closeHash(page, answer)}">How close is it?</a>
-    May some counties be one group? <a href="${own}">Find one of them</a>, and ask on its card.`;
+    How few people change the answer? <a href="${closeHash(page, answer)}">How close is it?</a> May
+    some counties be one group? <a href="${own}">Find one of them</a>, and ask on its card.`;
 }
 
 /**
