@@ -78,7 +78,8 @@ export function readCounts(geography, text) {
   const rows = rowsOf(text, separatorOf(text)).map((row) => row.map((field) => field.trim()));
   if (!rows.length) return { people: new Map(), note: "" };
   const isHeader = rows.length > 1 && !rows[0].some((field) => countyOf(geography, field) >= 0)
-    && rows[0].length > 1 && rows[0].every((field) => !/^[+\-\u2212]?[\d,]+$/.test(field));
+    && rows[0].length > 1 && (columnOf(rows[0], COUNTY_COLUMNS) >= 0
+      || rows[0].every((field) => !/^[+\-\u2212]?[\d,]+$/.test(field)));
   return isHeader ? countsOfTable(geography, rows) : countsOfLines(geography, rows);
 }
 
