@@ -11,7 +11,8 @@ moment. Started again with the folder, it goes on where it was.
   --grouping FILE      the grouping that is to be proved best, as `solve --out` stores it
   --events FILE        what was proved before, as `solve --events` stores it
   -- WORDS             --geo and --segment or --people, --chamber, --adjacency and the others that
-                       say what the problem is; a later start may leave out these words and both files
+                       say what the problem is; a later start may leave out these words and
+                       both files
   --jobs N             how many workers there are (without it, as many as processors)
   --steps N            the most steps for one piece (without it 1000000); what is left is split
 

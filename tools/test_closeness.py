@@ -20,7 +20,7 @@ from tested_program import TESTED, run_tests
 # an ideal district has 105.5 people and at most 110 are allowed, so that its pair has one too many.
 # With 10 more it has 110 of 110. With 10 fewer an ideal district has 95, at least 91 are wanted,
 # and the pair has 90. With 9 fewer it has 91 of 91. Then all four are one group of two seats.
-# With a tolerance of a tenth and 22 more, an ideal district has 111 people, at most 122 are allowed,
+# With a tolerance of a tenth and 22 more an ideal district has 111 people, at most 122 are allowed,
 # and the pair has 122. With 23 more it has 123 of 122. With 18 fewer an ideal district has 91, at
 # least 82 are wanted, and the pair has 82. With 19 fewer it has 81 of 82.
 CODES = ["37001", "37003", "37005", "37007"]

@@ -30,7 +30,7 @@ HEADER = ",".join(what_if.HEADER)
 TABLE = [HEADER, ",,,2,0,0 2,nothing"]
 TABLE += ["-,37001,37003,1,2,0 2,best groupings; shared groups; groups"]
 # In a ring of 47, 47, 53 and 53 people, two pairs have 94 and 106 people, and two have 100 each. So
-# by a tenth the table is the same. By a twentieth only the pairs of 100 people are lawful: these are
+# by a tenth the table is the same. By a twentieth only pairs of 100 people are lawful: these are
 # the middle counties and the ends. In the row that the cut makes of the ring they stay.
 UNEVEN = "".join(f"||||{i}|{47 if i < 2 else 53}\n" for i in range(4))
 NARROW = [HEADER, ",,,1,2,0 2,nothing", "-,37001,37003,1,2,0 2,nothing"]

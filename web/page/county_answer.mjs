@@ -263,8 +263,8 @@ export function shortAnswers(page, county) {
     <div class="short">${page.answers.map((answer) => shortAnswer(page, answer, county))}</div>
     <p class="note">By the rule as many groups as possible have one county, then as many as possible
     two, and so on. This counts the groups of the whole state, so one county’s group may be larger
-    than its people need. <a href="${proof}">It is proved</a> that no lawful grouping does better. Lawful
-    means that the counties of each group are connected, and that its people suit a whole number of
-    seats, within ${toleranceWords(first.tolerance)} of the ideal. A lawful grouping may be used
-    only if it is best.</p>`;
+    than its people need. <a href="${proof}">It is proved</a> that no lawful grouping does better.
+    Lawful means that the counties of each group are connected, and that its people suit a whole
+    number of seats, within ${toleranceWords(first.tolerance)} of the ideal. A lawful grouping may
+    be used only if it is best.</p>`;
 }

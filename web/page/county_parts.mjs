@@ -60,11 +60,12 @@ function groupItem(page, answer, group, county) {
   const map = hashOf(page, `${answer.key}/${options?.[0] ?? 1}`);
   const water = isOverWater(geography, group, county)
     ? html`<b>It meets this group only over water.</b> ` : "";
+  const tag = isEnacted ? html` <span class="tag">${census.enactedYear} plan</span>` : "";
   return html`
     <li>${others.length ? html`With <b>${names}</b>` : html`<b>Alone</b>`}:
     ${seatsWords(group)}, ${numberText(peopleOf(geography, group.counties))} people,
     ${room} for ${counted(group.least, "seat")}. ${water}<span class="note">${
-      whenWords(answer, options)}.</span>${isEnacted ? html` <span class="tag">${census.enactedYear} plan</span>` : ""}
+      whenWords(answer, options)}.</span>${tag}
     <a class="after" href="${map}">Map</a></li>`;
 }
 

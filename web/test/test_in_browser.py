@@ -168,10 +168,11 @@ class PageCases(InPage):
         self.check_quiet()
 
     def needs_a_machine(self, path: Path) -> bool:
-        """Returns whether a case needs what a page hasn't: cuts, and paths of a machine."""
+        """Returns whether a case needs what a page hasn't: cuts, paths, and files of its input."""
         words = path.with_suffix(".words")
         named = words.read_bytes() if words.exists() else b""
-        return path.with_suffix(".cuts").exists() or b"/" in named
+        is_from_input = b"-" in named.split()
+        return path.with_suffix(".cuts").exists() or is_from_input or b"/" in named
 
 
 class Selected(InPage):
