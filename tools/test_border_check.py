@@ -20,6 +20,7 @@ import border_check  # noqa: E402
 DATA = os.path.join(TOP, "data", "nc2020")
 BORDERS = os.path.join(DATA, "county_borders.txt")
 OUTLINES = os.path.join(DATA, "county_outlines.geojson")
+FEWER = "has fewer than four fields"
 PIPES = "take the adjacency file of 2023 or later, with pipes."
 NO_GEOJSON = (
     "aren't GeoJSON with a list of features: export the counties as GeoJSON, by a GIS or by "
@@ -219,7 +220,7 @@ class Refusals(Checked):
         no_pair = "The file adjacency.txt has no pair of counties of the outlines board.geojson: "
         no_pair += PIPES
         for text, sentence in {
-            f"{edge}|5\nA|10001|B\n": f"Line 2 of adjacency.txt has fewer than four fields: {PIPES}",
+            f"{edge}|5\nA|10001|B\n": f"Line 2 of adjacency.txt {FEWER}: {PIPES}",
             f"{edge}|5\nA|10001|B|1003|5\n": no_code,
             f"{HEADER}\n{HEADER}\n": no_code,
             f"{edge}|long\n": no_length,
